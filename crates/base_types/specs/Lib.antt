@@ -1,0 +1,7 @@
+-- Definitions that every crate cites.
+--     Causes     when an object of the outside may answer a fault
+--     Told       contents that an object may tell
+--     Members    membership, by cases on the list
+pub mod Causes
+pub mod Told
+pub mod Members
