@@ -1,0 +1,90 @@
+-- Canonical paths.
+use Rattle.std.specs.Prelude.{◌≡◌, ◌⊎◌, ℕ, ◌≤◌, List, [], ◌∷◌, ◌++◌, length, reverse, filter, nat_lt, nat_le, nat_eq, ◌==◌, Bool, true, false, not, ◌&&◌, ◌||◌, if◌then◌else◌, Option, Some, None}
+use Rattle.std.specs.List.{slice_split, AllByRecursion, list_all}
+use lib.Pointwise.{pointwise}
+use Rattle.base_types.specs.Members.{Member}
+
+-- bytes of a file, a name or a text
+abbrev pub Text : Type 0
+Text = List ℕ
+
+-- a path is its names, the innermost first: the root has none, and the parent is the tail
+abbrev pub Path : Type 0
+Path = List Text
+
+abbrev pub slash : ℕ
+slash = 47
+
+abbrev pub dot : ℕ
+dot = 46
+
+-- the spelling: `/` for the root, else each name after a `/`
+abbrev pub spelled_below : Path → Text
+spelled_below [] = []
+spelled_below (name ∷ parent) = spelled_below parent ++ (slash ∷ name)
+
+abbrev pub spelled : Path → Text
+spelled [] = slash ∷ []
+spelled (name ∷ parent) = spelled_below (name ∷ parent)
+
+-- the path that a text spells: the parts between its slashes, the last first, without empty ones
+abbrev pub names_of : Text → Path
+names_of text = reverse (filter (λ part. nat_lt 0 (length part)) (slice_split (λ b. b == slash) text))
+
+-- a name has 1 to 255 bytes, no `/`, no byte 0, and is neither `.` nor `..`
+pub record IsName (name : Text) : Type 0 where
+  pub some : 1 ≤ length name
+  pub short : length name ≤ 255
+  pub no_slash : Member slash name → ⊥
+  pub no_zero : Member 0 name → ⊥
+  pub no_dot : name ≡ dot ∷ [] → ⊥
+  pub no_dots : name ≡ dot ∷ dot ∷ [] → ⊥
+
+-- names, and a spelling of at most 4,096 bytes
+pub record IsCanonical (path : Path) : Type 0 where
+  pub names : AllByRecursion IsName path
+  pub short : length (spelled path) ≤ 4096
+
+-- a text is the spelling of a canonical path
+abbrev pub IsSpelling : Text → Type 0
+IsSpelling text = IsCanonical (names_of text) × (spelled (names_of text) ≡ text)
+
+-- a byte may stand in a name
+abbrev pub is_name_byte : ℕ → Bool
+is_name_byte b = not (b == slash) && not (b == 0)
+
+abbrev pub is_dots : Text → Bool
+is_dots name = pointwise nat_eq name (dot ∷ []) || pointwise nat_eq name (dot ∷ dot ∷ [])
+
+-- the test of a name
+abbrev pub is_name : Text → Bool
+is_name name = nat_lt 0 (length name) && (nat_le (length name) 255 && (list_all is_name_byte name && not (is_dots name)))
+
+-- the test of a canonical path
+abbrev pub is_canonical : Path → Bool
+is_canonical path = list_all is_name path && nat_le (length (spelled path)) 4096
+
+-- the canonical path that a text spells, if it spells one
+unfoldable pub path_of : Text → Option Path
+path_of text =
+    if list_all is_name (names_of text) && (nat_le (length text) 4096 && pointwise nat_eq (spelled (names_of text)) text)
+    then Some (names_of text) else None
+
+-- the directory that holds a path; the root holds itself
+abbrev pub parent : Path → Path
+parent [] = []
+parent (name ∷ path) = path
+
+-- the spelling of a path's parent, empty where the parent is the root; the root has none
+abbrev pub parent_spelling : Path → Option Text
+parent_spelling [] = None
+parent_spelling (name ∷ dir) = Some (spelled_below dir)
+
+-- the path of a name in a directory, where that is a canonical path
+abbrev pub child_of : Path → Text → Option Path
+child_of dir name = if is_canonical (name ∷ dir) then Some (name ∷ dir) else None
+
+-- a path, or one that it is below
+abbrev pub IsAtOrAbove : Path → Path → Type 0
+IsAtOrAbove path [] = path ≡ []
+IsAtOrAbove path (name ∷ below) = (path ≡ name ∷ below) ⊎ IsAtOrAbove path below
