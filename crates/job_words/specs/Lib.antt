@@ -1,0 +1,2 @@
+-- The reading of compile words.
+pub mod Words
