@@ -1,0 +1,100 @@
+-- What an analysis sends, and why it is refused. So far a job's files are its source and the files of the source's
+-- include lines, whatever conditionals say of them.
+use Rattle.std.specs.Prelude.{◌≡◌, ◌⊎◌, ◌<◌, ℕ, Bool, true, false, not, ◌||◌, List, [], ◌∷◌, length, Option, None, Some}
+use Rattle.std.specs.List.{list_any, filter_map}
+use Rattle.base_types.specs.Members.{Member}
+use Rattle.tree_model.specs.Paths.{Text, Path, parent, IsAtOrAbove}
+use Rattle.tree_model.specs.Entries.{Entries, Increasing}
+use Rattle.tree_model.specs.Trees.{FileTree, entry_at}
+use Rattle.tree_model.specs.Walk.{locate}
+use Rattle.tree_model.specs.declared.walk.Located.{Located}
+use Rattle.tree_model.specs.declared.entry.Entry.{Entry}
+use Rattle.job_words.specs.declared.job.Job.{Job}
+use Rattle.job_frames.specs.Request.{request_bytes, most}
+use Rattle.daemon_cpp.specs.Simple.{Piece, Run, Include, pieces_of, is_simple, is_flat}
+use Rattle.daemon_cpp.specs.Prep.{Source, world_of, absolute}
+use Rattle.closure_fixpoint.specs.declared.job_analysis.Refusal.{Refusal}
+use Rattle.closure_fixpoint.specs.declared.job_analysis.Refusal.TheVariants as refusal
+use Rattle.closure_fixpoint.specs.declared.job_analysis.Analysed.{Analysed}
+use Rattle.closure_fixpoint.specs.declared.job_analysis.Analysed.TheVariants as analysed
+
+-- ---- the searches ----
+
+-- the name that an include asks for
+abbrev pub name_asked : Piece → Option Text
+name_asked (Run tokens) = None
+name_asked (Include at name) = Some name
+
+-- the names that a body's include lines ask for, in order
+abbrev pub names_asked : Text → List Text
+names_asked body = filter_map name_asked (pieces_of body)
+
+-- the bytes of a located file
+abbrev pub body_found : FileTree → Located → Text
+body_found tree located = (world_of tree).body located.real
+
+-- the files that a located file's include lines ask for, where they are found
+abbrev pub targets_of : FileTree → Located → List Located
+targets_of tree located = filter_map (λ name. locate tree (parent located.place) name) (names_asked (body_found tree located))
+
+-- the job's source, where it is found
+abbrev pub source_of : FileTree → Job → Option Located
+source_of tree job = (world_of tree).find (Source (absolute job.cwd job.source))
+
+-- the files found: the source, and those that it asks for
+abbrev pub found_from : FileTree → Option Located → List Located
+found_from tree None = []
+found_from tree (Some located) = located ∷ targets_of tree located
+
+abbrev pub found_files : FileTree → Job → List Located
+found_files tree job = found_from tree (source_of tree job)
+
+-- ---- the nodes, and the entries that are sent ----
+
+-- a node of the job: one walked by a search that found its file, or above one, and not the root
+pub record IsNodeOf (tree : FileTree) (job : Job) (path : Path) : Type 0 where
+  pub located : Located
+  pub found : Member located (found_files tree job)
+  pub met : Path
+  pub walked : Member met located.walked
+  pub above : IsAtOrAbove path met
+  pub below_root : path ≡ [] → ⊥
+
+-- just the nodes of the job with what the tree has there, in order of their paths' bytes
+pub record AreEntriesOf (tree : FileTree) (job : Job) (entries : Entries) : Type 0 where
+  pub increasing : Increasing entries
+  pub nodes : (path : Path) (entry : Entry) → Member (path, entry) entries → IsNodeOf tree job path
+  pub same : (path : Path) (entry : Entry) → Member (path, entry) entries → entry_at tree path ≡ Some entry
+  pub whole : (path : Path) → IsNodeOf tree job path → (entry : Entry) × Member (path, entry) entries
+
+-- the request of the job: that of its entries
+abbrev pub IsRequestOf : FileTree → Job → List ℕ → Type 0
+IsRequestOf tree job sent = (entries : Entries) × AreEntriesOf tree job entries × (sent ≡ request_bytes job entries)
+
+-- ---- refusals ----
+
+-- the source isn't simple, or a file that it asks for isn't flat: preprocessing them isn't built
+abbrev pub is_unbuilt : FileTree → Option Located → Bool
+is_unbuilt tree None = false
+is_unbuilt tree (Some located) = not (is_simple (body_found tree located)) || list_any (λ other. not (is_flat (body_found tree other))) (targets_of tree located)
+
+-- when a refusal holds of a job. `Request`: there are more than 100,000 entries, or their request has more than
+-- 268,435,456 bytes. The refusals of macros, of many visits and of large files hold of no job so far.
+abbrev pub Holds : Refusal → FileTree → Job → ℕ → Type 0
+Holds refusal.Budget tree job budget = ⊥
+Holds refusal.Long tree job budget = ⊥
+Holds refusal.Presumed tree job budget = ⊥
+Holds refusal.Visits tree job budget = ⊥
+Holds refusal.Large tree job budget = ⊥
+Holds refusal.Request tree job budget =
+    (entries : Entries) × AreEntriesOf tree job entries × ((100000 < length entries) ⊎ (most < length (request_bytes job entries)))
+Holds refusal.NoSource tree job budget = source_of tree job ≡ None
+Holds refusal.Unbuilt tree job budget = is_unbuilt tree (source_of tree job) ≡ true
+
+abbrev pub NothingHolds : FileTree → Job → ℕ → Type 0
+NothingHolds tree job budget = (refusal : Refusal) → Holds refusal tree job budget → ⊥
+
+-- what an analysis answers: the job's request, where nothing is refused, or a refusal that holds
+abbrev pub AnalysisHolds : FileTree → Job → ℕ → Analysed → Type 0
+AnalysisHolds tree job budget (analysed.Request sent) = IsRequestOf tree job sent × NothingHolds tree job budget
+AnalysisHolds tree job budget (analysed.Refused refusal) = Holds refusal tree job budget

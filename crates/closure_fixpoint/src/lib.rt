@@ -1,0 +1,7 @@
+//! The analysis of a job: which files and directories preprocessing it may need, found without preprocessing it, and
+//! the request that carries just these.
+#![tactic(auto)]
+
+mod job_analysis;
+
+pub use job_analysis::{Analysed, Refusal, analyse};

@@ -1,0 +1,33 @@
+-- What a daemon preprocesses over, the tree of the entries that it was sent, is enough.
+use Rattle.std.specs.Prelude.{◌≡◌, List, [], IsTrue}
+use Rattle.base_types.specs.Members.{Member}
+use Rattle.tree_model.specs.Paths.{Path}
+use Rattle.tree_model.specs.Entries.{Entries, makes_tree}
+use Rattle.tree_model.specs.Trees.{FileTree, IsTree, Sub, tree_of}
+use Rattle.tree_model.specs.declared.walk.Located.{Located}
+use Rattle.job_words.specs.declared.job.Job.{Job}
+use Rattle.daemon_cpp.specs.Prep.{prep, world_of}
+use Rattle.closure_fixpoint.specs.declared.job_analysis.Refusal.TheVariants.{NoSource, Unbuilt}
+use Rattle.closure_fixpoint.specs.Analysis.{AreEntriesOf, IsNodeOf, Holds}
+
+-- the entries of a job make a tree, each of whose nodes is one of the whole tree
+abbrev pub EntriesMakeTree : Type 0
+EntriesMakeTree = (tree : FileTree) (job : Job) (entries : Entries) → IsTree tree → AreEntriesOf tree job entries
+    → IsTrue (makes_tree entries) × Sub (tree_of entries) tree
+
+-- over the tree of its entries a job that isn't refused has the same outcome, the same searches and the same opened
+-- files as over the whole tree
+abbrev pub MirrorIsEnough : Type 0
+MirrorIsEnough = (tree : FileTree) (job : Job) (entries : Entries) → IsTree tree → AreEntriesOf tree job entries
+    → (Holds NoSource tree job 0 → ⊥) → (Holds Unbuilt tree job 0 → ⊥)
+    → prep (world_of (tree_of entries)) job ≡ prep (world_of tree) job
+
+-- each node but the root that is walked by a search that succeeds in preprocessing is a node of the job
+abbrev pub TouchesNodesAlone : Type 0
+TouchesNodesAlone = (tree : FileTree) (job : Job) → (Holds Unbuilt tree job 0 → ⊥)
+    → (located : Located) → Member located (prep (world_of tree) job).touched
+    → (path : Path) → Member path located.walked → (path ≡ [] → ⊥) → IsNodeOf tree job path
+
+-- entries of a job are its only ones
+abbrev pub EntriesAreOne : Type 0
+EntriesAreOne = (tree : FileTree) (job : Job) (entries other : Entries) → IsTree tree → AreEntriesOf tree job entries → AreEntriesOf tree job other → entries ≡ other

@@ -1,0 +1,83 @@
+-- What the words of the top call and the compile list ask for.
+use Rattle.std.specs.Prelude.{◌≡◌, ℕ, ◌-◌, ◌≤◌, List, [], ◌∷◌, ◌++◌, length, Bool, true, false, ◌&&◌, ◌||◌, not, if◌then◌else◌, nat_le, ◌==◌, bytes_eq, codes, Option, None, Some, Result, Ok, Err}
+use Rattle.std.specs.List.{list_any, list_all, before_first, after_first}
+use Rattle.std.specs.Option.{option_map}
+use Rattle.tree_model.specs.Paths.{Text}
+use Rattle.io_edges.specs.declared.wire.Host.{Host}
+use Rattle.job_words.specs.declared.job.Job.{Job}
+use Rattle.job_words.specs.Words.{job_of}
+
+-- ---- words ----
+
+-- what the words ask for: the order of the clients' steps, the hosts, the number of clients, and the budget of an analysis
+pub record Settings : Type 0 where
+  pub order : List ℕ
+  pub hosts : List Host
+  pub clients : ℕ
+  pub budget : ℕ
+
+-- a letter, a digit, `.` or `-`
+abbrev pub is_host_byte : ℕ → Bool
+is_host_byte b = (nat_le 97 b && nat_le b 122) || ((nat_le 65 b && nat_le b 90) || ((nat_le 48 b && nat_le b 57) || (nat_le 45 b && nat_le b 46)))
+
+-- 1 to 255 such bytes
+unfoldable pub is_host_name : Text → Bool
+is_host_name name = nat_le 1 (length name) && (nat_le (length name) 255 && list_all is_host_byte name)
+
+-- a host by its name: distcc's port, and two slots at a time on the own machine, else four
+abbrev pub host_of : Text → Host
+host_of name = record { name = name; port = 3632; limit = if bytes_eq name (codes "localhost") then 2 else 4 }
+
+abbrev pub settings_with : Text → Settings
+settings_with name = record { order = []; hosts = host_of name ∷ []; clients = 1; budget = 4096 }
+
+-- The words `order - --hosts HOST -j 1`; none where they are anything else.
+unfoldable pub settings_of : List Text → Option Settings
+settings_of [] = None
+settings_of (a ∷ []) = None
+settings_of (a ∷ b ∷ []) = None
+settings_of (a ∷ b ∷ c ∷ []) = None
+settings_of (a ∷ b ∷ c ∷ d ∷ []) = None
+settings_of (a ∷ b ∷ c ∷ d ∷ e ∷ []) = None
+settings_of (a ∷ b ∷ c ∷ name ∷ e ∷ f ∷ []) =
+    if (bytes_eq a (codes "order") && bytes_eq b (codes "-")) && ((bytes_eq c (codes "--hosts") && is_host_name name) && (bytes_eq e (codes "-j") && bytes_eq f (codes "1")))
+    then Some (settings_with name) else None
+settings_of (a ∷ b ∷ c ∷ d ∷ e ∷ f ∷ g ∷ words) = None
+
+-- ---- the list ----
+
+-- why a list is refused
+pub data ListWhy : Type 0 where
+  NotBuilt : ListWhy
+
+-- the line at which a list is refused, 0 for the list as a whole, and why
+pub record ListRefusal : Type 0 where
+  pub line : ℕ
+  pub why : ListWhy
+
+abbrev pub not_built : ListRefusal
+not_built = record { line = 0; why = NotBuilt }
+
+-- a byte that no word of a list may have: a blank, a `\`, or an end of a line
+abbrev pub ends_word : ℕ → Bool
+ends_word b = (b == 32) || ((b == 9) || ((b == 92) || ((b == 10) || (b == 13))))
+
+-- the job of a line of two words, a working directory and a source
+abbrev pub job_of_words : Text → Text → Option Job
+job_of_words cwd source = if list_any ends_word cwd then None else job_of cwd (source ∷ [])
+
+-- all but a line feed at the end, where it is the only one
+abbrev pub line_of : Text → Option Text
+line_of bytes = if bytes_eq (after_first (λ b. b == 10) bytes) [] && list_any (λ b. b == 10) bytes then Some (before_first (λ b. b == 10) bytes) else None
+
+abbrev pub job_of_line : Option Text → Option Job
+job_of_line None = None
+job_of_line (Some line) = job_of_words (before_first (λ b. b == 32) line) (after_first (λ b. b == 32) line)
+
+abbrev pub listed : Option Job → Result (List Job) ListRefusal
+listed None = Err not_built
+listed (Some job) = Ok (job ∷ [])
+
+-- The jobs of a list: one line `CWD SOURCE` and a line feed; anything else isn't built.
+unfoldable pub jobs_of : Text → Result (List Job) ListRefusal
+jobs_of bytes = listed (job_of_line (line_of bytes))

@@ -1,0 +1,132 @@
+-- The text of a report, and how a run of pump may end.
+use Rattle.std.specs.Prelude.{◌≡◌, ℕ, ◌-◌, ◌+◌, List, [], ◌∷◌, ◌++◌, length, codes, Bool, true, false, not}
+use Rattle.std.specs.List.{flat_map, count_by}
+use Rattle.std.specs.Fmt.{decimal}
+use Rattle.build_clients.specs.declared.record.Done.{Done}
+use Rattle.closure_fixpoint.specs.declared.job_analysis.Refusal.{Refusal}
+use Rattle.closure_fixpoint.specs.declared.job_analysis.Refusal.TheVariants as refusal
+use Rattle.build_clients.specs.declared.record.Way.{Way}
+use Rattle.build_clients.specs.declared.record.Way.TheVariants.{Remote, Local, Broken}
+use Rattle.build_clients.specs.declared.record.Cause.{Cause}
+use Rattle.build_clients.specs.declared.record.Cause.TheVariants as cause
+use Rattle.build_clients.specs.declared.record.JobOutcome.{JobOutcome}
+use Rattle.build_clients.specs.declared.record.JobOutcome.TheVariants as end
+use Rattle.build_clients.specs.Record.{Deeds}
+use Rattle.pump_run.specs.Asked.{ListWhy, NotBuilt}
+
+-- a job of the run: what is recorded of it, and what it did at its client's end
+pub record Work : Type 0 where
+  pub done : Done
+  pub deeds : Deeds
+
+-- how a run may end: refused before its jobs, or with its jobs run
+pub data Ending : Type 0 where
+  Usage : Ending
+  ListRefused : ℕ → ListWhy → Ending
+  ListFault : Ending
+  SpawnFault : Ending
+  NoMemory : Ending
+  Ran : List Work → Ending
+
+abbrev pub refusal_text : Refusal → List ℕ
+refusal_text refusal.Budget = codes "A1"
+refusal_text refusal.Long = codes "A2"
+refusal_text refusal.Presumed = codes "A3"
+refusal_text refusal.Visits = codes "A4"
+refusal_text refusal.Large = codes "A5"
+refusal_text refusal.Request = codes "A6"
+refusal_text refusal.NoSource = codes "A7"
+refusal_text refusal.Unbuilt = codes "A8"
+
+abbrev pub way_text : Way → List ℕ
+way_text Remote = codes "remote"
+way_text (Local (cause.Analysis refused)) = codes "local " ++ refusal_text refused
+way_text (Local cause.Link) = codes "local link"
+way_text (Local cause.Peer) = codes "local peer"
+way_text (Local cause.DaemonMemory) = codes "local daemon-memory"
+way_text (Local cause.Memory) = codes "local memory"
+way_text Broken = codes "broken"
+
+abbrev pub outcome_text : JobOutcome → List ℕ
+outcome_text (end.Text n) = codes "text " ++ decimal n
+outcome_text (end.Diag words) = codes "diag"
+outcome_text end.TreeFault = codes "tree-fault"
+outcome_text end.OutFault = codes "out-fault"
+outcome_text end.Memory = codes "memory"
+
+-- after the line of a diagnostic its bytes
+abbrev pub after_text : JobOutcome → List ℕ
+after_text (end.Diag words) = words ++ 10 ∷ []
+after_text (end.Text n) = []
+after_text end.TreeFault = []
+after_text end.OutFault = []
+after_text end.Memory = []
+
+abbrev pub job_text : Work → List ℕ
+job_text w = codes "job " ++ decimal w.done.job ++ codes " " ++ outcome_text w.done.outcome ++ codes " " ++ way_text w.done.way ++ 10 ∷ [] ++ after_text w.done.outcome
+
+abbrev pub is_remote : Way → Bool
+is_remote Remote = true
+is_remote (Local cause) = false
+is_remote Broken = false
+
+abbrev pub is_broken : Way → Bool
+is_broken Remote = false
+is_broken (Local cause) = false
+is_broken Broken = true
+
+abbrev pub is_local : Way → Bool
+is_local Remote = false
+is_local (Local cause) = true
+is_local Broken = false
+
+abbrev pub counted : (Way → Bool) → List Work → List ℕ
+counted test works = decimal (count_by (λ (w : Work). test w.done.way) works)
+
+-- the report of the jobs (the memo adds its line of totals behind it)
+abbrev pub jobs_text : List Work → List ℕ
+jobs_text works =
+    flat_map job_text works ++ codes "jobs " ++ decimal (length works)
+    ++ codes " remote " ++ counted is_remote works ++ codes " local " ++ counted is_local works
+    ++ codes " broken " ++ counted is_broken works ++ 10 ∷ []
+
+abbrev pub why_text : ListWhy → List ℕ
+why_text NotBuilt = codes "not built"
+
+-- the whole text of the report
+abbrev pub report_text : Ending → List ℕ
+report_text Usage = codes "pump: usage" ++ 10 ∷ []
+report_text (ListRefused line why) = codes "pump: list " ++ decimal line ++ codes ": " ++ why_text why ++ 10 ∷ []
+report_text ListFault = codes "pump: list read fault" ++ 10 ∷ []
+report_text SpawnFault = codes "pump: spawn fault" ++ 10 ∷ []
+report_text NoMemory = codes "pump: memory" ++ 10 ∷ []
+report_text (Ran works) = jobs_text works
+
+-- some job's outcome
+abbrev pub is_memory : JobOutcome → Bool
+is_memory (end.Text n) = false
+is_memory (end.Diag words) = false
+is_memory end.TreeFault = false
+is_memory end.OutFault = false
+is_memory end.Memory = true
+
+abbrev pub is_out_fault : JobOutcome → Bool
+is_out_fault (end.Text n) = false
+is_out_fault (end.Diag words) = false
+is_out_fault end.TreeFault = false
+is_out_fault end.OutFault = true
+is_out_fault end.Memory = false
+
+abbrev pub is_tree_fault : JobOutcome → Bool
+is_tree_fault (end.Text n) = false
+is_tree_fault (end.Diag words) = false
+is_tree_fault end.TreeFault = true
+is_tree_fault end.OutFault = false
+is_tree_fault end.Memory = false
+
+abbrev pub is_diag : JobOutcome → Bool
+is_diag (end.Text n) = false
+is_diag (end.Diag words) = true
+is_diag end.TreeFault = false
+is_diag end.OutFault = false
+is_diag end.Memory = false
