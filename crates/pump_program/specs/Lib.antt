@@ -1,0 +1,2 @@
+-- Words of the program's parts.
+pub mod Untold

@@ -1,0 +1,72 @@
+//! The program: a compile list on standard input, the report on standard output, the texts below the folder `out`.
+#![tactic(auto)]
+
+mod folder;
+
+use daemon_serve::{MemWire, ServePeer};
+use folder::Folder;
+use io_edges::{FolderOuts, MemSpawner, StdSink, StdSource};
+use pump_run::{End, pump};
+use std::alloc::{AllocError, Global};
+use std::env;
+use std::io;
+use std::process::ExitCode;
+
+// As many ends as there may be clients.
+const ENDS: usize = 64;
+
+const HELP: &str = "usage: pump_program order - --hosts HOST -j 1 < LIST
+
+LIST has one line, CWD SOURCE: a working directory, as a canonical path, and a
+C source in it. The source is preprocessed as `cc -E` would, by a daemon that
+gets just the files that it may include. The text is written below the folder
+`out`, under the source's name with `.i`, and a report to standard output.
+
+status: 0 a text, 1 a diagnostic, 2 wrong words, 3 a wrong list, 4 a failed
+read, write or start, 5 out of memory, 6 a failed read of the tree";
+
+type HostEnd = End<Folder<HostRuntime>, MemWire<ServePeer>, FolderOuts<HostRuntime>>;
+
+fn main(rt: HostRuntime) -> io::Result<ExitCode> {
+    let arguments = env::args(&rt)?.collect(rt.alloc())?;
+    let words = words_of(rt.alloc(), &arguments)?;
+    match words.as_slice() {
+        ["--help"] => {
+            println!(rt; "{HELP}")?;
+            Ok(ExitCode::SUCCESS)
+        }
+        ["--version"] => {
+            println!(rt; "pump_program 0.1.0")?;
+            Ok(ExitCode::SUCCESS)
+        }
+        _ => run(&rt, words.as_slice()),
+    }
+}
+
+// The words behind the program's own name.
+fn words_of<'a>(alloc: Global, arguments: &'a Vec<String>) -> Result<Vec<&'a str>, AllocError> {
+    arguments.iter().skip(1).map(|word| word.as_str()).collect(alloc)
+}
+
+fn run(rt: &HostRuntime, words: &[&str]) -> io::Result<ExitCode> {
+    let alloc = rt.alloc();
+    let mut ends = ends_of(rt)?;
+    let mut list = StdSource::new(rt);
+    let mut report = StdSink::new(rt.clone()?);
+    let mut spawner = MemSpawner::new(alloc, Vec::new(alloc));
+    let status = pump(rt, alloc, words, &mut list, &mut ends, &mut spawner, &mut report);
+    Ok(ExitCode::from(status))
+}
+
+fn ends_of(rt: &HostRuntime) -> io::Result<Vec<HostEnd>> {
+    let alloc = rt.alloc();
+    let mut ends = Vec::new(alloc);
+    for _ in 0..ENDS {
+        ends.push(End {
+            tree: Folder::new(rt.clone()?),
+            wire: MemWire::new(alloc, ServePeer, Vec::new(alloc), Vec::new(alloc)),
+            outs: FolderOuts::new(rt.clone()?, alloc, "out")?,
+        })?;
+    }
+    Ok(ends)
+}
