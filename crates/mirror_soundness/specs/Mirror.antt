@@ -27,7 +27,3 @@ abbrev pub TouchesNodesAlone : Type 0
 TouchesNodesAlone = (tree : FileTree) (job : Job) → (Holds Unbuilt tree job 0 → ⊥)
     → (located : Located) → Member located (prep (world_of tree) job).touched
     → (path : Path) → Member path located.walked → (path ≡ [] → ⊥) → IsNodeOf tree job path
-
--- entries of a job are its only ones
-abbrev pub EntriesAreOne : Type 0
-EntriesAreOne = (tree : FileTree) (job : Job) (entries other : Entries) → IsTree tree → AreEntriesOf tree job entries → AreEntriesOf tree job other → entries ≡ other

@@ -2,12 +2,11 @@
 //! preprocessing over the whole tree gives.
 #![tactic(auto)]
 
-ghost use Rattle.mirror_soundness.specs.Mirror.{EntriesMakeTree, MirrorIsEnough, TouchesNodesAlone, EntriesAreOne};
+ghost use Rattle.mirror_soundness.specs.Mirror.{EntriesMakeTree, MirrorIsEnough, TouchesNodesAlone};
 
 /// A law, which takes no work.
 pub fn mirror_is_enough()
     ensures tree { EntriesMakeTree }
-    ensures one { EntriesAreOne }
     ensures touched { TouchesNodesAlone }
     ensures enough { MirrorIsEnough }
 {

@@ -1,2 +1,3 @@
 -- Words of the program's parts.
 pub mod Untold
+pub mod Read

@@ -7,5 +7,5 @@ IsNothing None = Unit {0}
 IsNothing (Some x) = ⊥
 
 -- nothing told is no tree
-pub nothing_is_some : {A : Type 0} (x : A) → None {A = A} ≡ Some x → ⊥
+pub nothing_is_some : {A : Type 0} (x : A) → ◌≡◌ {A = Option A} None (Some x) → ⊥
 nothing_is_some {A} x e = let P : Option A → Type 0 = IsNothing in subst P e tt

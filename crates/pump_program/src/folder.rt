@@ -2,6 +2,7 @@
 ghost use Rattle.std.specs.Prelude.{◌≡◌, ◌≤◌, None, length, IfOk};
 ghost use Rattle.tree_model.specs.Trees.{IsNode, IsBody};
 ghost use Rattle.pump_program.specs.Untold.{nothing_is_some};
+ghost use Rattle.pump_program.specs.Read.{IsSmall};
 
 use base_types::Bytes;
 use std::fs::{self, Files};
@@ -103,7 +104,9 @@ fn is_absent(kind: ErrorKind) -> bool {
     )
 }
 
-fn body_at<R: Files + AllocGlobal>(rt: &R, path: &[u8]) -> io::Result<Body> {
+fn body_at<R: Files + AllocGlobal>(rt: &R, path: &[u8]) -> io::Result<Body>
+    ensures { IfOk result IsSmall }
+{
     let Ok(text) = str::from_utf8(path) else {
         return Ok(Body::Absent);
     };

@@ -1,0 +1,5 @@
+pub mod MadeTree
+pub mod SameSearches
+pub mod SamePrep
+pub mod Enough
+pub mod Touches

@@ -1,0 +1,122 @@
+-- The entries of a job make a tree, which is a part of the whole tree.
+use Rattle.std.proofs.Common.{◌≡◌, ◌⊎◌, ◌∷◌, [], List, ℕ, Bool, true, false, ◌&&◌, ◌||◌, nat_eq, rules, arith, eq-eqb, Option, Some, None, IsSome, IsTrue, inl, inr, refl, sym, ap, subst, ◌∙◌}
+use Rattle.std.specs.List.{list_all, list_any}
+use lib.Pointwise.{pointwise}
+use Rattle.base_types.specs.Members.{Member}
+use Rattle.tree_model.specs.Paths.{Text, Path, spelled, is_canonical, IsCanonical, IsAtOrAbove}
+use Rattle.tree_model.specs.Entries.{Entries, Increasing, has_parent, is_dir_at, is_dir, links_fit, entry_fits, is_link_text, makes_tree}
+use Rattle.tree_model.specs.Trees.{FileTree, IsTree, Sub, tree_of, entry_at}
+use Rattle.tree_model.specs.Laws.{ListsMakeTrees, EntriesAreNodes, NodesAreEntries, TestsDecide, ParentsAnywhere}
+use Rattle.tree_model.specs.declared.entry.Entry.{Entry}
+use Rattle.tree_model.specs.declared.entry.Entry.TheVariants.{Dir, File, Link}
+use Rattle.job_words.specs.declared.job.Job.{Job}
+use Rattle.closure_fixpoint.specs.Analysis.{AreEntriesOf, IsNodeOf}
+
+-- a test that each member passes
+pub all_of_members : {X : Type 0} (test : X → Bool) (xs : List X) → ((x : X) → Member x xs → test x ≡ true) → list_all test xs ≡ true
+all_of_members test [] each = refl
+all_of_members test (x ∷ xs) each = both (test x) (list_all test xs) (each x (inl refl)) (all_of_members test xs (λ y m. each y (inr m)))
+  where
+    both : (a b : Bool) → a ≡ true → b ≡ true → (a && b) ≡ true
+    both true b ea eb = eb
+    both false b ea eb = cc
+
+-- a test that some member passes
+pub any_of_member : {X : Type 0} (test : X → Bool) (xs : List X) (x : X) → Member x xs → test x ≡ true → list_any test xs ≡ true
+any_of_member test [] x m e = elim m [ ]
+any_of_member test (y ∷ ys) x (inl same) e = first (test y) (list_any test ys) (ap test same ∙ e)
+  where
+    first : (a b : Bool) → a ≡ true → (a || b) ≡ true
+    first true b ea = refl
+    first false b ea = cc
+any_of_member test (y ∷ ys) x (inr m) e = later (test y) (list_any test ys) (any_of_member test ys x m e)
+  where
+    later : (a b : Bool) → b ≡ true → (a || b) ≡ true
+    later true b eb = refl
+    later false b eb = eb
+
+-- a path is at or above itself
+pub at_itself : (path : Path) → IsAtOrAbove path path
+at_itself [] = refl
+at_itself (name ∷ path) = inl refl
+
+-- what is above a path at or above another is so too
+pub parent_above : (name : Text) (up met : Path) → IsAtOrAbove (name ∷ up) met → IsAtOrAbove up met
+parent_above name up [] above = cc
+parent_above name up (other ∷ below) (inl same) =
+    let tails : up ≡ below = cc in inr (subst (λ (p : Path). IsAtOrAbove up p) tails (at_itself up))
+parent_above name up (other ∷ below) (inr above) = inr (parent_above name up below above)
+
+-- the parent of a node that isn't below the root alone is a node
+pub parent_is_node : (tree : FileTree) (job : Job) (name outer : Text) (up : Path) → IsNodeOf tree job (name ∷ outer ∷ up) → IsNodeOf tree job (outer ∷ up)
+parent_is_node tree job name outer up node = record {
+  located = node.located;
+  found = node.found;
+  met = node.met;
+  walked = node.walked;
+  above = parent_above name (outer ∷ up) node.met node.above;
+  below_root = λ e. cc;
+}
+
+same_byte : (b : ℕ) → nat_eq b b ≡ true
+same_byte b = eq-eqb b b refl
+
+same_text : (text : Text) → pointwise nat_eq text text ≡ true
+same_text [] = refl
+same_text (b ∷ text) = both (nat_eq b b) (pointwise nat_eq text text) (same_byte b) (same_text text)
+  where
+    both : (a c : Bool) → a ≡ true → c ≡ true → (a && c) ≡ true
+    both true c ea ec = ec
+    both false c ea ec = cc
+
+both_true : (a b : Bool) → a ≡ true → b ≡ true → (a && b) ≡ true
+both_true true b ea eb = eb
+both_true false b ea eb = cc
+
+true_is : (b : Bool) → IsTrue b → b ≡ true
+true_is b t = t
+
+module _ (tests : TestsDecide) (tree : FileTree) (job : Job) (entries : Entries) (whole : IsTree tree) (are : AreEntriesOf tree job entries) where
+  there : (path : Path) (entry : Entry) → Member (path, entry) entries → IsSome (entry_at tree path)
+  there path entry m = let P : Option Entry → Type 0 = IsSome in subst P (sym (are.same path entry m)) refl
+
+  canonical_each : (e : Path × Entry) → Member e entries → is_canonical e.0 ≡ true
+  canonical_each (path, entry) m = true_is (is_canonical path) ((tests path).1 (whole.canonical path (there path entry m)))
+
+  fits_each : (path : Path) (entry : Entry) → Member (path, entry) entries → entry_fits entry ≡ true
+  fits_each path Dir m = refl
+  fits_each path (File body) m = refl
+  fits_each path (Link text) m = true_is (is_link_text text) (whole.links path text (are.same path (Link text) m))
+
+  -- what stands at the parent of a node is a directory, and an entry
+  dir_entry : (name outer : Text) (up : Path) (entry : Entry) → Member (name ∷ outer ∷ up, entry) entries → Member (outer ∷ up, Dir) entries
+  dir_entry name outer up entry m =
+      let node : IsNodeOf tree job (outer ∷ up) = parent_is_node tree job name outer up (are.nodes (name ∷ outer ∷ up) entry m) in
+      let found = are.whole (outer ∷ up) node in
+      let is_dir_there : entry_at tree (outer ∷ up) ≡ Some Dir = whole.parent name (outer ∷ up) (there (name ∷ outer ∷ up) entry m) in
+      let same : found.0 ≡ Dir = some_same (found.0) Dir (sym (are.same (outer ∷ up) found.0 found.1) ∙ is_dir_there) in
+      subst (λ (e : Entry). Member (outer ∷ up, e) entries) same found.1
+    where
+      some_same : (a b : Entry) → Some a ≡ Some b → a ≡ b
+      some_same a b e = cc
+
+  parent_each : (path : Path) (entry : Entry) → Member (path, entry) entries → has_parent entries path ≡ true
+  parent_each [] entry m = absurd ((are.nodes [] entry m).below_root refl)
+  parent_each (name ∷ []) entry m = refl
+  parent_each (name ∷ outer ∷ up) entry m =
+      any_of_member (is_dir_at (spelled (outer ∷ up))) entries (outer ∷ up, Dir) (dir_entry name outer up entry m)
+      (both_true (pointwise nat_eq (spelled (outer ∷ up)) (spelled (outer ∷ up))) true (same_text (spelled (outer ∷ up))) refl)
+
+  pub makes_tree_of : ParentsAnywhere → IsTrue (makes_tree entries)
+  makes_tree_of made =
+      made entries are.increasing
+      (all_of_members (λ (e : Path × Entry). has_parent entries e.0) entries (λ e m. parent_each e.0 e.1 m))
+      (all_of_members (λ (e : Path × Entry). is_canonical e.0) entries canonical_each)
+      (all_of_members (λ (e : Path × Entry). entry_fits e.1) entries (λ e m. fits_each e.0 e.1 m))
+
+  pub part_of_whole : NodesAreEntries → Sub (tree_of entries) tree
+  part_of_whole nodes path entry e = by_case (nodes entries path entry e)
+    where
+      by_case : ((path ≡ []) × (entry ≡ Dir)) ⊎ Member (path, entry) entries → entry_at tree path ≡ Some entry
+      by_case (inl (at_root, is_dir_here)) = ap (entry_at tree) at_root ∙ whole.root ∙ ap Some (sym is_dir_here)
+      by_case (inr m) = are.same path entry m
