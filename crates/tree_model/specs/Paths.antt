@@ -1,5 +1,5 @@
 -- Canonical paths.
-use Rattle.std.specs.Prelude.{◌≡◌, ◌⊎◌, ℕ, ◌≤◌, List, [], ◌∷◌, ◌++◌, length, reverse, filter, nat_lt, nat_le, nat_eq, ◌==◌, Bool, true, false, not, ◌&&◌, ◌||◌, if◌then◌else◌, Option, Some, None}
+use Rattle.std.specs.Prelude.{◌≡◌, ◌⊎◌, ℕ, ◌≤◌, List, [], ◌∷◌, ◌++◌, length, reverse, filter, nat_lt, nat_le, nat_eq, ◌==◌, Bool, not, ◌&&◌, ◌||◌, if◌then◌else◌, Option, Some, None}
 use Rattle.std.specs.List.{slice_split, AllByRecursion, list_all}
 use lib.Pointwise.{pointwise}
 use Rattle.base_types.specs.Members.{Member}
@@ -64,11 +64,13 @@ is_name name = nat_lt 0 (length name) && (nat_le (length name) 255 && (list_all 
 abbrev pub is_canonical : Path → Bool
 is_canonical path = list_all is_name path && nat_le (length (spelled path)) 4096
 
+-- the test of a text that spells a canonical path: its names are names, and spelled again they are the text
+abbrev pub is_spelling : Text → Bool
+is_spelling text = list_all is_name (names_of text) && (nat_le (length text) 4096 && pointwise nat_eq (spelled (names_of text)) text)
+
 -- the canonical path that a text spells, if it spells one
 unfoldable pub path_of : Text → Option Path
-path_of text =
-    if list_all is_name (names_of text) && (nat_le (length text) 4096 && pointwise nat_eq (spelled (names_of text)) text)
-    then Some (names_of text) else None
+path_of text = if is_spelling text then Some (names_of text) else None
 
 -- the directory that holds a path; the root holds itself
 abbrev pub parent : Path → Path

@@ -5,11 +5,14 @@ use Rattle.std.specs.Ordering.{nat_cmp}
 use Rattle.std.specs.declared.cmp.Ordering.{Ordering}
 use Rattle.std.specs.Cmp.Lexicographic.{slice_cmp}
 use Rattle.std.specs.FinMap.{FinMap, get, insert, from_entries, code}
-use Rattle.std.specs.Coded.{Coded, Coded-set, Π_prop, →_prop, code_by, coded⊎, coded_list, coded_ℕ}
+use Rattle.std.specs.Coded.{Coded, Coded-set, Π_prop, →_prop, code_by, coded⊎, coded_list, coded_option, coded_ℕ}
 use base.Stored.{coded_unit}
-use Rattle.std.proofs.Common.{inl, inr}
+use Rattle.std.proofs.Common.{inl, inr, ap, subst}
 use lib.Pointwise.{pointwise}
-use Rattle.tree_model.specs.Paths.{Text, Path, IsCanonical, spelled}
+use Rattle.std.specs.List.{AllByRecursion}
+use Rattle.std.specs.Option.{unwrap_or}
+use Rattle.std.proofs.Props.{props}
+use Rattle.tree_model.specs.Paths.{Text, Path, IsName, IsCanonical, spelled}
 use Rattle.tree_model.specs.Entries.{Entries, IsLinkText}
 use Rattle.tree_model.specs.declared.entry.Entry.{Entry}
 use Rattle.tree_model.specs.declared.entry.Entry.TheVariants.{Dir, File, Link}
@@ -117,3 +120,17 @@ tree_code = code (coded_list (coded_list coded_ℕ)) entry_code
 
 pub NamesOnly-prop : (named : Option FileTree) (found : FileTree) → IsProp (NamesOnly named found)
 NamesOnly-prop named found = Π_prop (λ tree. →_prop (Coded-set tree_code found tree))
+
+names_prop : (path : Path) → IsProp (AllByRecursion IsName path)
+names_prop [] = hlevel props
+names_prop (name ∷ path) = hlevel (props, names_prop path)
+
+pub IsTree-prop : (tree : FileTree) → IsProp (IsTree tree)
+IsTree-prop tree = hlevel (props, Coded-set (coded_option entry_code), names_prop)
+
+-- two names of one tree
+pub same_told : (one other : FileTree) → Some one ≡ Some other → one ≡ other
+same_told one other e = ap (λ o. unwrap_or o one) e
+
+pub told_whole : (told tree : FileTree) → IsTree told → Some told ≡ Some tree → IsTree tree
+told_whole told tree h e = subst IsTree (same_told told tree e) h

@@ -2,16 +2,27 @@
 //! POSIX pathname resolution, and a tree in memory.
 #![tactic(auto)]
 
+mod calls;
 mod entry;
+mod frame;
+mod laws;
 mod mem_tree;
 mod order;
 mod path;
 mod tree;
 mod walk;
 
+pub use calls::Counted;
 pub use entry::{Entry, Node};
+pub use frame::{frame_law, looked_law, walked_law};
+pub use laws::{
+    entries_of_trees, lists_make_trees, looked_up_by_bytes, spellings_are_apart, tests_decide,
+};
 pub use mem_tree::{MemTree, MirrorError};
-pub use order::judge_path;
+pub use order::{entry_spelled, judge_path};
 pub use path::CanonPath;
 pub use tree::{Frozen, Tree, TreeError, Unnamed};
 pub use walk::{Located, locate};
+
+#[cfg(test)]
+mod tests;

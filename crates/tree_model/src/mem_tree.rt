@@ -1,10 +1,18 @@
 // A tree in memory, with a list of the numbers of the calls that fail.
-ghost use Rattle.std.specs.Prelude.{◌≡◌, ◌≤◌, ◌<◌, ◌^◌, ◌+◌, ◌-◌, ◌⊎◌, ℕ, length, None, Some, IfOk, IfErr, IfSome, OnOk, IsErrOf, Err, IsTrue, List, true, false};
+ghost use Rattle.std.specs.Prelude.{◌≡◌, None, Some, IfOk, IfErr, IfSome, OnOk, IsErrOf, Err, IsTrue};
+ghost use Rattle.std.specs.Option.{option_map};
 ghost use Rattle.std.proofs.Common.{ap};
+ghost use Rattle.base_types.specs.Causes.{HasCause, raised};
+ghost use Rattle.tree_model.specs.Calls.{FailsAsListed};
 ghost use Rattle.tree_model.specs.Entries.{links_fit, makes_tree, mirror_error};
-ghost use Rattle.tree_model.specs.Trees.{FileTree, IsTree, tree_of, node_at, body_at, IsNode, IsBody, IsTooLarge, NamesOnly, NamesOnly-prop};
+ghost use Rattle.tree_model.specs.Trees as trees;
+ghost use Rattle.tree_model.specs.Trees.{tree_of, node_at, body_at, IsNode, IsBody, IsTooLarge, IsTree, IsTree-prop, NamesOnly, NamesOnly-prop, told_whole};
+ghost use Rattle.tree_model.specs.declared.entry.Entry.TheVariants.{Dir};
 
-use crate::{CanonPath, Entry, Frozen};
+use crate::calls::{Calls, Counted};
+use crate::order::{entry_spelled, have_parents, increase};
+use crate::{CanonPath, Entry, Frozen, Node, Tree, TreeError};
+use base_types::Bytes;
 use std::alloc::Global;
 use std::marker::PhantomData;
 
@@ -16,16 +24,160 @@ pub enum MirrorError {
     Parent,
 }
 
+/// The greatest length of a file's body that is read.
+const BODY_LIMIT: usize = 16_777_216;
+
 /// A tree in memory. The calls of `Tree` are counted from 1, and those whose number is in `fails` answer a fault.
 #[derive(Drop)]
 pub struct MemTree<F: Frozen> {
     alloc: Global,
     entries: Vec<(CanonPath, Entry)>,
-    fails: Vec<u64>,
-    calls: u64,
-    faults: u64,
+    calls: Calls,
     reads: u64,
     of: PhantomData<F>,
-    ghost is_tree: { IsTrue (makes_tree entries.items) },
+    ghost made: { IsTrue (makes_tree entries.items) },
+    ghost is_tree: { IsTree (tree_of entries.items) } by { IsTree-prop (tree_of entries.items) },
     ghost names_this: { NamesOnly F.named (tree_of entries.items) } by { NamesOnly-prop F.named (tree_of entries.items) },
+}
+
+impl<F: Frozen> MemTree<F> {
+    /// The tree of these entries and the root, at which no call was made; or the first of the two reasons why they
+    /// make none. It takes no memory, and keeps the allocator for its answers.
+    pub fn new(
+        alloc: Global,
+        entries: Vec<(CanonPath, Entry)>,
+        fails: Vec<u64>,
+    ) -> Result<MemTree<F>, MirrorError>
+        requires names { NamesOnly F.named (tree_of entries.items) }
+        requires links { IsTrue (links_fit entries.items) }
+        ensures told { IfOk result (λ tree. ⟦<MemTree<F> as Tree>⟧.told tree ≡ Some (tree_of entries.items)) }
+        ensures faults { IfOk result (λ tree. ⟦<MemTree<F> as Tree>⟧.faults tree ≡ 0) }
+        ensures reads { IfOk result (λ tree. ⟦<MemTree<F> as Tree>⟧.reads tree ≡ 0) }
+        ensures calls { IfOk result (λ tree. ⟦<MemTree<F> as Counted>⟧.calls tree ≡ 0) }
+        ensures fails { IfOk result (λ tree. ⟦<MemTree<F> as Counted>⟧.fails tree ≡ fails.items) }
+        ensures ok { OnOk result (mirror_error entries.items ≡ None) }
+        ensures error { IfErr result (λ e. mirror_error entries.items ≡ Some e) }
+    {
+        if !increase(entries.as_slice()) {
+            return Err(MirrorError::Order);
+        }
+        if !have_parents(entries.as_slice()) {
+            return Err(MirrorError::Parent);
+        }
+        Ok(MemTree {
+            alloc,
+            entries,
+            calls: Calls::new(fails),
+            reads: 0,
+            of: PhantomData,
+        })
+    }
+
+    /// How many calls of `read` there were.
+    pub fn reads(&self) -> u64
+        ensures { result ≡ ⟦<MemTree<F> as Tree>⟧.reads self.now }
+    {
+        self.reads
+    }
+}
+
+// What the tree of the entries has at a path.
+fn entry_at<'a>(
+    root: &'a Entry,
+    entries: &'a [(CanonPath, Entry)],
+    path: &CanonPath,
+) -> Option<&'a Entry>
+    requires root { root.now ≡ Dir }
+    requires made { IsTrue (makes_tree entries.now) }
+    ensures { option_map (λ entry. entry.now) result ≡ trees.entry_at (tree_of entries.now) path.now }
+{
+    if path.is_root() {
+        return Some(root);
+    }
+    entry_spelled(entries, path.bytes())
+}
+
+// A copy.
+fn copied(alloc: Global, bytes: &Bytes) -> Result<Bytes, TreeError>
+    ensures ok { IfOk result (λ copy. copy ≡ bytes.now) }
+    ensures err { (e : _) → result ≡ Err e → e ≡ TreeError.Memory }
+{
+    match Bytes::copy_of(alloc, bytes.as_slice()) {
+        Ok(copy) => Ok(copy),
+        Err(_) => Err(TreeError::Memory),
+    }
+}
+
+impl<F: Frozen> Counted for MemTree<F> {
+    ghost calls = { λ m. m.calls.made };
+
+    ghost fails = { λ m. m.calls.fails.items };
+}
+
+impl<F: Frozen> Tree for MemTree<F> {
+    type Of = F;
+
+    ghost told = { λ m. Some (tree_of m.entries.items) };
+
+    ghost faults = { λ m. m.calls.faults };
+
+    ghost reads = { λ m. m.reads };
+
+    ghost tells = { λ m tree named. ap Some (m.names_this tree named) };
+
+    ghost whole = { λ m tree told. told_whole (tree_of m.entries.items) tree m.is_tree told };
+
+    fn node(&mut self, path: &CanonPath) -> Result<Option<Node>, TreeError>
+        ensures same { ⟦<MemTree<F> as Tree>⟧.told self.new ≡ ⟦<MemTree<F> as Tree>⟧.told self.old }
+        ensures answer { IfSome (⟦<MemTree<F> as Tree>⟧.told self.old) (λ tree. IfOk result (λ got. got ≡ node_at tree path.now)) }
+        ensures form { IfOk result IsNode }
+        ensures never_large { IsErrOf result TreeError.Large → ⊥ }
+        ensures cause { HasCause TreeError.Fault (⟦<MemTree<F> as Tree>⟧.faults self.old) (⟦<MemTree<F> as Tree>⟧.faults self.new) result }
+        ensures no_read { ⟦<MemTree<F> as Tree>⟧.reads self.new ≡ ⟦<MemTree<F> as Tree>⟧.reads self.old }
+        ensures listed { FailsAsListed TreeError.Fault (⟦<MemTree<F> as Counted>⟧.fails self.old) (⟦<MemTree<F> as Counted>⟧.calls self.old) (⟦<MemTree<F> as Counted>⟧.calls self.new) result }
+        ensures same_list { ⟦<MemTree<F> as Counted>⟧.fails self.new ≡ ⟦<MemTree<F> as Counted>⟧.fails self.old }
+    {
+        if self.calls.next_fails() {
+            return Err(TreeError::Fault);
+        }
+        let root = Entry::Dir;
+        match entry_at(&root, &self.entries, path) {
+            None => Ok(None),
+            Some(entry) => match entry {
+                Entry::Dir => Ok(Some(Node::Dir)),
+                Entry::File(_) => Ok(Some(Node::File)),
+                Entry::Link(text) => Ok(Some(Node::Link(copied(self.alloc, text)?))),
+            },
+        }
+    }
+
+    fn read(&mut self, path: &CanonPath) -> Result<Option<Bytes>, TreeError>
+        ensures same { ⟦<MemTree<F> as Tree>⟧.told self.new ≡ ⟦<MemTree<F> as Tree>⟧.told self.old }
+        ensures answer { IfSome (⟦<MemTree<F> as Tree>⟧.told self.old) (λ tree. IfOk result (λ got. got ≡ body_at tree path.now)) }
+        ensures form { IfOk result IsBody }
+        ensures large { IfSome (⟦<MemTree<F> as Tree>⟧.told self.old) (λ tree. IsErrOf result TreeError.Large → IsTooLarge tree path.now) }
+        ensures cause { HasCause TreeError.Fault (⟦<MemTree<F> as Tree>⟧.faults self.old) (⟦<MemTree<F> as Tree>⟧.faults self.new) result }
+        ensures one_read { ⟦<MemTree<F> as Tree>⟧.reads self.new ≡ raised (⟦<MemTree<F> as Tree>⟧.reads self.old) }
+        ensures listed { FailsAsListed TreeError.Fault (⟦<MemTree<F> as Counted>⟧.fails self.old) (⟦<MemTree<F> as Counted>⟧.calls self.old) (⟦<MemTree<F> as Counted>⟧.calls self.new) result }
+        ensures same_list { ⟦<MemTree<F> as Counted>⟧.fails self.new ≡ ⟦<MemTree<F> as Counted>⟧.fails self.old }
+    {
+        self.reads = self.reads.saturating_add(1);
+        if self.calls.next_fails() {
+            return Err(TreeError::Fault);
+        }
+        let root = Entry::Dir;
+        match entry_at(&root, &self.entries, path) {
+            None => Ok(None),
+            Some(entry) => match entry {
+                Entry::Dir => Ok(None),
+                Entry::File(body) => {
+                    if body.len() > BODY_LIMIT {
+                        return Err(TreeError::Large);
+                    }
+                    Ok(Some(copied(self.alloc, body)?))
+                }
+                Entry::Link(_) => Ok(None),
+            },
+        }
+    }
 }

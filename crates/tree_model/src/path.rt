@@ -1,10 +1,14 @@
 // Canonical paths.
-ghost use Rattle.std.specs.Prelude.{◌≡◌, ◌↔◌, [], IfOk, IsTrue};
+ghost use Rattle.std.specs.Prelude.{◌≡◌, ◌↔◌, ◌==◌, ℕ, List, [], ◌∷◌, ◌++◌, ◌+◌, ◌<◌, length, IfOk, IsTrue};
+ghost use Rattle.std.specs.List.{list_all, slice_split};
 ghost use Rattle.std.specs.Option.{option_map};
+ghost use Rattle.std.specs.Ordering.{nat_cmp};
+ghost use Rattle.std.specs.Cmp.Lexicographic.{slice_cmp};
 ghost use Rattle.tree_model.specs.Paths as paths;
-ghost use Rattle.tree_model.specs.Paths.{spelled, path_of, parent_spelling, child_of, IsCanonical};
+ghost use Rattle.tree_model.specs.Paths.{slash, spelled, spelled_below, path_of, parent_spelling, child_of, IsCanonical};
 
 use std::alloc::{AllocError, Global};
+use std::cmp::Ordering;
 use std::marker::Model;
 
 /// A canonical path: `/`, or components each after a `/`, at most 4,096 bytes; a component has 1 to 255 bytes, no
@@ -25,27 +29,128 @@ impl Model for CanonPath {
     ghost invariant = { λ p. IsSpelling p.bytes.items };
 }
 
+/// The greatest length of a path's spelling.
+const PATH_LIMIT: usize = 4096;
+
+/// The greatest length of a component.
+const NAME_LIMIT: usize = 255;
+
+// A byte may stand in a name.
+fn is_name_byte(b: u8) -> bool
+    ensures { result ≡ paths.is_name_byte b }
+{
+    b != b'/' && b != 0
+}
+
+// All bytes may stand in a name.
+fn are_name_bytes(text: &[u8]) -> bool
+    ensures { result ≡ list_all paths.is_name_byte text.now }
+{
+    for b in text {
+        if !is_name_byte(*b) {
+            return false;
+        }
+    }
+    true
+}
+
+// A text is `.` or `..`.
+fn is_dots(text: &[u8]) -> bool
+    ensures { result ≡ paths.is_dots text.now }
+{
+    text == b".".as_slice() || text == b"..".as_slice()
+}
+
+// A text is a name.
+fn is_name(text: &[u8]) -> bool
+    ensures { result ≡ paths.is_name text.now }
+{
+    0 < text.len() && text.len() <= NAME_LIMIT && are_name_bytes(text) && !is_dots(text)
+}
+
+// The parts of a text between its slashes are names.
+fn are_names(text: &[u8]) -> bool
+    ensures { result ≡ list_all paths.is_name (slice_split (λ b. b == slash) text.now) }
+{
+    let mut start = 0usize;
+    for (i, b) in text.iter().enumerate() {
+        if *b == b'/' {
+            if !is_name(&text[start..i]) {
+                return false;
+            }
+            start = i + 1;
+        }
+    }
+    is_name(&text[start..])
+}
+
+// A text spells a canonical path.
+fn is_spelling(text: &[u8]) -> bool
+    ensures { result ≡ paths.is_spelling text.now }
+{
+    if text.len() > PATH_LIMIT {
+        return false;
+    }
+    let [first, names @ ..] = text else {
+        return false;
+    };
+    *first == b'/' && (names.is_empty() || are_names(names))
+}
+
+// A stem, and then a name after a slash.
+fn below(alloc: Global, stem: &[u8], name: &[u8]) -> Result<Vec<u8>, AllocError>
+    requires { length stem.now + length name.now < 4096 }
+    ensures { IfOk result (λ text. text.items ≡ stem.now ++ slash ∷ name.now) }
+{
+    let mut text = Vec::with_capacity(alloc, stem.len() + 1 + name.len())?;
+    text.extend_from_slice(stem)?;
+    text.push(b'/')?;
+    text.extend_from_slice(name)?;
+    Ok(text)
+}
+
+// What stands before the last slash.
+fn before_last(text: &[u8]) -> &[u8]
+    ensures { (above name : List ℕ) → IsTrue (list_all paths.is_name_byte name) → text.now ≡ above ++ slash ∷ name → result.now ≡ above }
+{
+    let mut end = text.len();
+    while 0 < end {
+        end -= 1;
+        if text[end] == b'/' {
+            return &text[..end];
+        }
+    }
+    text
+}
+
 impl CanonPath {
     /// The root, `/`.
     pub fn root(alloc: Global) -> Result<CanonPath, AllocError>
         ensures { IfOk result (λ path. path ≡ []) }
     {
-        Err(AllocError)
+        let bytes = b"/".as_slice().to_vec(alloc)?;
+        Ok(CanonPath { bytes })
     }
 
     /// The path that a text spells, or None exactly where it spells no canonical path.
     pub fn read(alloc: Global, text: &[u8]) -> Result<Option<CanonPath>, AllocError>
         ensures { IfOk result (λ path. path ≡ path_of text.now) }
     {
-        Err(AllocError)
+        if !is_spelling(text) {
+            return Ok(None);
+        }
+        let bytes = text.to_vec(alloc)?;
+        Ok(Some(CanonPath { bytes }))
     }
 
     /// As `read`, keeping the text itself, with no copy.
     pub fn of(text: Vec<u8>) -> Result<Option<CanonPath>, AllocError>
         ensures { IfOk result (λ path. path ≡ path_of text.items) }
     {
-        drop(text);
-        Err(AllocError)
+        if !is_spelling(text.as_slice()) {
+            return Ok(None);
+        }
+        Ok(Some(CanonPath { bytes: text }))
     }
 
     /// The spelling.
@@ -56,32 +161,55 @@ impl CanonPath {
         self.bytes.as_slice()
     }
 
+    // The spelling, empty at the root.
+    fn stem(&self) -> &[u8]
+        ensures value { result.now ≡ spelled_below self.now }
+        ensures canonical { IsCanonical self.now }
+    {
+        if self.is_root() { &[] } else { self.bytes() }
+    }
+
     /// The spelling of the parent, empty where that is the root, or None at the root.
     pub fn parent_bytes(&self) -> Option<&[u8]>
-        ensures { option_map (λ t. t.now) result ≡ parent_spelling self.now }
+        ensures value { option_map (λ t. t.now) result ≡ parent_spelling self.now }
+        ensures canonical { IsCanonical self.now }
     {
-        None
+        if self.is_root() {
+            return None;
+        }
+        Some(before_last(self.bytes()))
     }
 
     /// The directory that holds the path; the root holds itself.
     pub fn parent(&self, alloc: Global) -> Result<CanonPath, AllocError>
         ensures { IfOk result (λ path. path ≡ paths.parent self.now) }
     {
-        Err(AllocError)
+        let above = before_last(self.bytes());
+        if above.is_empty() {
+            return CanonPath::root(alloc);
+        }
+        let bytes = above.to_vec(alloc)?;
+        Ok(CanonPath { bytes })
     }
 
     /// The path of a name in this directory, or None exactly where the name is none or the path would be too long.
     pub fn child(&self, alloc: Global, name: &[u8]) -> Result<Option<CanonPath>, AllocError>
         ensures { IfOk result (λ path. path ≡ child_of self.now name.now) }
     {
-        Err(AllocError)
+        let stem = self.stem();
+        if !is_name(name) || stem.len() + name.len() >= PATH_LIMIT {
+            return Ok(None);
+        }
+        let bytes = below(alloc, stem, name)?;
+        Ok(Some(CanonPath { bytes }))
     }
 
     /// A copy.
     pub fn copy(&self, alloc: Global) -> Result<CanonPath, AllocError>
         ensures { IfOk result (λ path. path ≡ self.now) }
     {
-        Err(AllocError)
+        let bytes = self.bytes.as_slice().to_vec(alloc)?;
+        Ok(CanonPath { bytes })
     }
 
     /// Whether this is the root.
@@ -89,5 +217,19 @@ impl CanonPath {
         ensures { IsTrue result ↔ (self.now ≡ []) }
     {
         self.bytes.len() == 1
+    }
+
+    /// Whether both are the same path.
+    pub fn spells_same(&self, other: &CanonPath) -> bool
+        ensures { IsTrue result ↔ (self.now ≡ other.now) }
+    {
+        self.bytes() == other.bytes()
+    }
+
+    /// The order of the spellings, byte by byte, for sorting.
+    pub fn compare(&self, other: &CanonPath) -> Ordering
+        ensures { result ≡ slice_cmp nat_cmp (spelled self.now) (spelled other.now) }
+    {
+        self.bytes().cmp(other.bytes())
     }
 }

@@ -1,9 +1,11 @@
 // The trait of an object that shows a tree of files.
 ghost use Rattle.std.specs.Prelude.{◌≡◌, ◌≤◌, ℕ, length, IfOk, IfSome, IsErrOf, Option, None, Some};
 ghost use Rattle.base_types.specs.Causes.{HasCause, raised};
+ghost use Rattle.tree_model.specs.declared.tree.TreeError.TheVariants.{Memory};
 
 use crate::{CanonPath, Node};
 use base_types::Bytes;
+use std::alloc::{AllocError, AllocFailed};
 use std::marker::Brand;
 
 /// Why a call of `Tree` has no answer. `Fault`: the outside failed, and the count of faults rose in this call.
@@ -13,6 +15,22 @@ pub enum TreeError {
     Fault,
     Large,
     Memory,
+}
+
+impl From<AllocError> for TreeError {
+    ghost from_gives = { λ _ e. e ≡ Memory };
+
+    fn from(_error: AllocError) -> TreeError {
+        TreeError::Memory
+    }
+}
+
+impl<X: Drop> From<AllocFailed<X>> for TreeError {
+    ghost from_gives = { λ _ e. e ≡ Memory };
+
+    fn from(_error: AllocFailed<X>) -> TreeError {
+        TreeError::Memory
+    }
 }
 
 /// A type without use of its values that names one tree, or nothing.

@@ -1,11 +1,17 @@
 // Walks: the file that a text locates.
-ghost use Rattle.std.specs.Prelude.{◌≡◌, IfOk, IfSome, IsErrOf};
+ghost use Rattle.std.specs.Prelude.{◌≡◌, ◌≤◌, ℕ, [], ◌∷◌, ◌++◌, Some, IfOk, IfSome, IsErrOf, ◌==◌};
+ghost use Rattle.std.specs.List.{position};
+ghost use Rattle.std.specs.Option.{option_map, ForSome};
 ghost use Rattle.base_types.specs.Causes.{HasCause};
+ghost use Rattle.tree_model.specs.Paths.{slash};
+ghost use Rattle.tree_model.specs.Trees.{FileTree, entry_at};
 ghost use Rattle.tree_model.specs.Walk as walks;
+ghost use Rattle.tree_model.specs.Walk.{Look, components, but_last, last_of, component_of, entered, located_in, walk, ended, is_absolute};
+ghost use Rattle.tree_model.specs.Steps.{GoesOn, components_left, asked, onward, followed, end_of};
 
-use crate::{CanonPath, Tree, TreeError};
-use base_types::List;
-use std::alloc::Global;
+use crate::{CanonPath, Node, Tree, TreeError};
+use base_types::{Bytes, List};
+use std::alloc::{AllocError, Global};
 
 /// How a text located a file.
 #[derive(Drop)]
@@ -17,6 +23,285 @@ pub struct Located {
     /// The nodes walked, in order: the starting directory, the root where the text begins with `/`, and each
     /// node met, links and the targets of `..` included.
     pub walked: List<CanonPath>,
+}
+
+// The greatest length of a text that locates a file.
+const TEXT_LIMIT: usize = 4096;
+
+// The greatest number of links that are walked for a text.
+const LINK_LIMIT: u32 = 40;
+
+// What a component asks for: to stay, to go up, or to go down to a name.
+#[derive(Clone, Copy)]
+enum Move {
+    Stay,
+    Up,
+    Down,
+}
+
+// Where a walk stands before it follows a link.
+#[derive(Drop)]
+enum Step {
+    Nowhere,
+    Dir(CanonPath),
+    File(CanonPath),
+    // A link: the directory from which its text is walked, and the text.
+    Link(CanonPath, Bytes),
+}
+
+// How a walk ends: without success, at a directory with so many links left, or at a file.
+#[derive(Drop)]
+enum Stop {
+    Nowhere,
+    Dir(CanonPath, u32),
+    File(CanonPath),
+}
+
+fn move_of(name: &[u8]) -> Move
+    ensures { asked result name.now ≡ component_of name.now }
+{
+    match name {
+        [] | [b'.'] => Move::Stay,
+        [b'.', b'.'] => Move::Up,
+        _ => Move::Down,
+    }
+}
+
+fn first_slash(text: &[u8]) -> Option<usize>
+    ensures { result ≡ position (λ b. b == slash) text.now }
+{
+    text.iter().position(|b| *b == b'/')
+}
+
+// The first component of a text, and what stands behind its `/`.
+fn cut_component(text: &[u8]) -> (&[u8], Option<&[u8]>)
+    ensures { components text.now ≡ result.0.now ∷ components_left (option_map (λ t. t.now) result.1) }
+{
+    match first_slash(text) {
+        Some(i) => (&text[..i], Some(&text[i + 1..])),
+        None => (text, None),
+    }
+}
+
+// What stands before the last `/` of a text, if it has one, and the last component.
+fn cut_last(text: &[u8]) -> (Option<&[u8]>, &[u8])
+    ensures head { components_left (option_map (λ t. t.now) result.0) ≡ but_last (components text.now) }
+    ensures name { result.1.now ≡ last_of (components text.now) }
+    ensures one { components result.1.now ≡ result.1.now ∷ [] }
+{
+    let mut at = text.len();
+    while at > 0 {
+        if text[at - 1] == b'/' {
+            return (Some(&text[..at - 1]), &text[at..]);
+        }
+        at -= 1;
+    }
+    (None, text)
+}
+
+fn begins_at_root(text: &[u8]) -> bool
+    ensures { result ≡ is_absolute text.now }
+{
+    match text {
+        [first, ..] => *first == b'/',
+        [] => false,
+    }
+}
+
+// Where the walk of a text begins.
+fn start(alloc: Global, dir: CanonPath, text: &[u8]) -> Result<CanonPath, AllocError>
+    ensures { IfOk result (λ path. path ≡ walks.start dir text.now) }
+{
+    if begins_at_root(text) {
+        CanonPath::root(alloc)
+    } else {
+        Ok(dir)
+    }
+}
+
+// The nodes at which a walk stands before its first component.
+fn first_nodes(alloc: Global, dir: &CanonPath, text: &[u8]) -> Result<List<CanonPath>, AllocError>
+    ensures { IfOk result (λ nodes. nodes ≡ walks.first_nodes dir.now text.now) }
+{
+    let mut nodes = List::new(alloc);
+    nodes.push(dir.copy(alloc)?)?;
+    if begins_at_root(text) {
+        nodes.push(CanonPath::root(alloc)?)?;
+    }
+    Ok(nodes)
+}
+
+// A link's text with what is left behind the link.
+fn in_place(link: Bytes, rest: Option<&[u8]>) -> Result<Bytes, AllocError>
+    ensures { IfOk result (λ text. components text ≡ components link ++ components_left (option_map (λ t. t.now) rest.entry)) }
+{
+    let Some(behind) = rest else {
+        return Ok(link);
+    };
+    let mut text = link;
+    text.extend(b"/")?;
+    text.extend(behind)?;
+    Ok(text)
+}
+
+// A file ends a walk, without success where a component is left.
+fn file_step(path: CanonPath, rest: Option<&[u8]>) -> Step
+    ensures { (look : Look) (links : ℕ) → onward look links [] result ≡ onward look links (components_left (option_map (λ t. t.now) rest.entry)) (Step.File path) }
+{
+    match rest {
+        None => Step::File(path),
+        Some(_) => Step::Nowhere,
+    }
+}
+
+// Goes down to a name.
+fn go_down<T: Tree>(
+    alloc: Global,
+    tree: &mut T,
+    dir: CanonPath,
+    name: &[u8],
+    walked: &mut List<CanonPath>,
+) -> Result<Step, TreeError>
+    ensures same { T.told tree.new ≡ T.told tree.old }
+    ensures step { IfOk result (λ step. ForSome (T.told tree.old) (λ told. (links : ℕ) (rest : _) → GoesOn walked.old (entered (λ next. walk (entry_at told) links next rest) (followed (entry_at told) links) rest dir (name.now ∷ dir) (entry_at told (name.now ∷ dir))) walked.new (onward (entry_at told) links rest step))) }
+    ensures cause { HasCause TreeError.Fault (T.faults tree.old) (T.faults tree.new) result }
+    ensures never_large { IsErrOf result TreeError.Large → ⊥ }
+    ensures no_read { T.reads tree.new ≡ T.reads tree.old }
+{
+    let Some(path) = dir.child(alloc, name)? else {
+        return Ok(Step::Nowhere);
+    };
+    match tree.node(&path)? {
+        None => Ok(Step::Nowhere),
+        Some(Node::Dir) => {
+            walked.push(path.copy(alloc)?)?;
+            Ok(Step::Dir(path))
+        }
+        Some(Node::File) => {
+            walked.push(path.copy(alloc)?)?;
+            Ok(Step::File(path))
+        }
+        Some(Node::Link(text)) => {
+            walked.push(path)?;
+            Ok(Step::Link(start(alloc, dir, text.as_slice())?, text))
+        }
+    }
+}
+
+// Takes one component.
+fn take_step<T: Tree>(
+    alloc: Global,
+    tree: &mut T,
+    dir: CanonPath,
+    name: &[u8],
+    walked: &mut List<CanonPath>,
+) -> Result<Step, TreeError>
+    ensures same { T.told tree.new ≡ T.told tree.old }
+    ensures step { IfOk result (λ step. ForSome (T.told tree.old) (λ told. (links : ℕ) (rest : _) → GoesOn walked.old (walk (entry_at told) links dir (name.now ∷ rest)) walked.new (onward (entry_at told) links rest step))) }
+    ensures cause { HasCause TreeError.Fault (T.faults tree.old) (T.faults tree.new) result }
+    ensures never_large { IsErrOf result TreeError.Large → ⊥ }
+    ensures no_read { T.reads tree.new ≡ T.reads tree.old }
+{
+    match move_of(name) {
+        Move::Stay => Ok(Step::Dir(dir)),
+        Move::Up => {
+            let up = dir.parent(alloc)?;
+            walked.push(up.copy(alloc)?)?;
+            Ok(Step::Dir(up))
+        }
+        Move::Down => go_down(alloc, tree, dir, name, walked),
+    }
+}
+
+// Takes the components left, up to the first link.
+fn until_link<T: Tree>(
+    alloc: Global,
+    tree: &mut T,
+    dir: CanonPath,
+    rest: Option<&[u8]>,
+    walked: &mut List<CanonPath>,
+) -> Result<Step, TreeError>
+    ensures same { T.told tree.new ≡ T.told tree.old }
+    ensures step { IfOk result (λ step. ForSome (T.told tree.old) (λ told. (links : ℕ) → GoesOn walked.old (walk (entry_at told) links dir (components_left (option_map (λ t. t.now) rest.entry))) walked.new (onward (entry_at told) links [] step))) }
+    ensures cause { HasCause TreeError.Fault (T.faults tree.old) (T.faults tree.new) result }
+    ensures never_large { IsErrOf result TreeError.Large → ⊥ }
+    ensures no_read { T.reads tree.new ≡ T.reads tree.old }
+{
+    let mut dir = dir;
+    let mut rest = rest;
+    while let Some(text) = rest {
+        let (name, behind) = cut_component(text);
+        rest = behind;
+        match take_step(alloc, tree, dir, name, walked)? {
+            Step::Nowhere => return Ok(Step::Nowhere),
+            Step::Dir(next) => dir = next,
+            Step::File(path) => return Ok(file_step(path, rest)),
+            Step::Link(from, link) => return Ok(Step::Link(from, in_place(link, rest)?)),
+        }
+    }
+    Ok(Step::Dir(dir))
+}
+
+// Walks the components left, with at most so many links.
+fn walk_on<T: Tree>(
+    alloc: Global,
+    tree: &mut T,
+    dir: CanonPath,
+    links: u32,
+    rest: Option<&[u8]>,
+    walked: &mut List<CanonPath>,
+) -> Result<Stop, TreeError>
+    ensures same { T.told tree.new ≡ T.told tree.old }
+    ensures stop { IfOk result (λ stop. ForSome (T.told tree.old) (λ told. GoesOn walked.old (walk (entry_at told) links dir (components_left (option_map (λ t. t.now) rest.entry))) walked.new (ended (end_of stop)))) }
+    ensures cause { HasCause TreeError.Fault (T.faults tree.old) (T.faults tree.new) result }
+    ensures never_large { IsErrOf result TreeError.Large → ⊥ }
+    ensures no_read { T.reads tree.new ≡ T.reads tree.old }
+{
+    let mut links = links;
+    let mut step = until_link(alloc, tree, dir, rest, walked)?;
+    loop {
+        match step {
+            Step::Nowhere => return Ok(Stop::Nowhere),
+            Step::Dir(path) => return Ok(Stop::Dir(path, links)),
+            Step::File(path) => return Ok(Stop::File(path)),
+            Step::Link(from, text) => {
+                if links == 0 {
+                    return Ok(Stop::Nowhere);
+                }
+                links -= 1;
+                step = until_link(alloc, tree, from, Some(text.as_slice()), walked)?;
+            }
+        }
+    }
+}
+
+// The file that a last component leads to from the directory in which it is looked up, after the nodes walked before.
+fn locate_last<T: Tree>(
+    alloc: Global,
+    tree: &mut T,
+    dir: CanonPath,
+    links: u32,
+    name: &[u8],
+    mut walked: List<CanonPath>,
+) -> Result<Option<Located>, TreeError>
+    requires { components name.now ≡ name.now ∷ [] }
+    ensures same { T.told tree.new ≡ T.told tree.old }
+    ensures found { IfOk result (λ found. ForSome (T.told tree.old) (λ told. found ≡ located_in dir name.now walked (walk (entry_at told) links dir (name.now ∷ [])))) }
+    ensures cause { HasCause TreeError.Fault (T.faults tree.old) (T.faults tree.new) result }
+    ensures never_large { IsErrOf result TreeError.Large → ⊥ }
+    ensures no_read { T.reads tree.new ≡ T.reads tree.old }
+{
+    let Some(place) = dir.child(alloc, name)? else {
+        return Ok(None);
+    };
+    match walk_on(alloc, tree, dir, links, Some(name), &mut walked)? {
+        Stop::File(real) => Ok(Some(Located {
+            place,
+            real,
+            walked,
+        })),
+        _ => Ok(None),
+    }
 }
 
 /// The file that a text locates from a directory, or None exactly where it locates none: as POSIX pathname
@@ -33,5 +318,14 @@ pub fn locate<T: Tree>(
     ensures never_large { IsErrOf result TreeError.Large → ⊥ }
     ensures no_read { T.reads tree.new ≡ T.reads tree.old }
 {
-    Err(TreeError::Memory)
+    let (head, name) = cut_last(text);
+    if text.len() > TEXT_LIMIT || name.is_empty() {
+        return Ok(None);
+    }
+    let mut walked = first_nodes(alloc, dir, text)?;
+    let begin = start(alloc, dir.copy(alloc)?, text)?;
+    match walk_on(alloc, tree, begin, LINK_LIMIT, head, &mut walked)? {
+        Stop::Dir(last, links) => locate_last(alloc, tree, last, links, name, walked),
+        _ => Ok(None),
+    }
 }

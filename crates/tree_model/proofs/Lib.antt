@@ -1,0 +1,25 @@
+-- Lemmas.
+--     PathLemmas     canonical paths and their spellings
+--     OrderLemmas    entries whose paths increase
+--     TreeLemmas     the tree of a list of entries
+--     Listed         searching a list of numbers
+--     MemberLemmas   membership in lists
+--     FrameParts     walks in a part of a tree
+--     FrameLooked    walks over lookups that agree at the paths looked up
+--     WalkLemmas     the file reached was walked; more links do no harm
+--     WalkNodes      walks in a tree stand at nodes
+--     CutLemmas      components of texts that are cut at a `/`
+--     StepLemmas     each step of a program goes on as the walk does
+--     WalkExamples   worked walks
+pub mod PathLemmas
+pub mod OrderLemmas
+pub mod TreeLemmas
+pub mod Listed
+pub mod MemberLemmas
+pub mod FrameParts
+pub mod FrameLooked
+pub mod WalkLemmas
+pub mod WalkNodes
+pub mod CutLemmas
+pub mod StepLemmas
+mod WalkExamples

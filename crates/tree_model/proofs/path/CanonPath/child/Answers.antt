@@ -1,0 +1,16 @@
+use Rattle.std.proofs.Common.{length, arith, sym, ◌∙◌, ap, List, ℕ, ◌∷◌, ◌++◌}
+use Rattle.tree_model.specs.Paths.{IsCanonical, slash}
+use Rattle.tree_model.proofs.PathLemmas.{child-canonical, child_some, spelling_of}
+use Rattle.tree_model.proofs.path.CanonPath.child.Goals as goal
+
+pub invariant_of-result : goal.invariant_of-result
+invariant_of-result c =
+    let canonical : IsCanonical (c.args.name.now ∷ c.args.self.now) =
+    child-canonical c.args.self.now c.args.name.now c.stem-stem.ensures.canonical (sym c.if-not-is_name.ensures) (omega (arith, ap (λ (t : List ℕ). length t) c.stem-stem.ensures.value)) in
+    spelling_of (c.args.name.now ∷ c.args.self.now) c.in_ok-bytes.bytes.items canonical (c.in_ok-bytes.ensures ∙ ap (λ (t : List ℕ). t ++ slash ∷ c.args.name.now) c.stem-stem.ensures.value)
+
+pub returns : goal.returns
+returns c =
+    let canonical : IsCanonical (c.args.name.now ∷ c.args.self.now) =
+    child-canonical c.args.self.now c.args.name.now c.stem-stem.ensures.canonical (sym c.if-not-is_name.ensures) (omega (arith, ap (λ (t : List ℕ). length t) c.stem-stem.ensures.value)) in
+    child_some c.args.self.now c.args.name.now c.in_ok-bytes.bytes.items canonical (c.in_ok-bytes.ensures ∙ ap (λ (t : List ℕ). t ++ slash ∷ c.args.name.now) c.stem-stem.ensures.value)

@@ -1,0 +1,47 @@
+use Rattle.std.proofs.Common.{rules, ◌≡◌, ◌∙◌, ◌<◌, ◌⊎◌, length, ap, sym, subst, inl, inr}
+use Rattle.std.specs.Option.{option_map}
+use Rattle.std.proofs.lemmas.Bool.{eqb-true, eqb-false}
+use Rattle.std.proofs.lemmas.Result.{IfOk-weaker}
+use Rattle.tree_model.specs.Trees.{FileTree, entry_at}
+use Rattle.tree_model.specs.Walk.{components, last_of, first_nodes, walk, start, ended}
+use Rattle.tree_model.specs.Steps.{GoesOn, components_left, end_of}
+use Rattle.tree_model.proofs.StepLemmas.{if_each, refused, from_dir, from_elsewhere, begun}
+use Rattle.tree_model.proofs.walk.locate.Goals as goal
+use Rattle.tree_model.proofs.walk.locate.Goals.{then-text-gt-TEXT_LIMIT-via-then-text-gt-TEXT_LIMIT, then-text-gt-TEXT_LIMIT-via-else-text-gt-TEXT_LIMIT+then-is_empty}
+
+pub returns-then-text-gt-TEXT_LIMIT-clause-found : goal.returns-then-text-gt-TEXT_LIMIT-clause-found
+returns-then-text-gt-TEXT_LIMIT-clause-found g c =
+    let why : (4096 < length c.args.text.now) ⊎ (length (last_of (components c.args.text.now)) ≡ 0) = elim c.then-text-gt-TEXT_LIMIT.branch [
+      | then-text-gt-TEXT_LIMIT-via-then-text-gt-TEXT_LIMIT w ↦ inl w.if-text-gt-TEXT_LIMIT.true
+      | then-text-gt-TEXT_LIMIT-via-else-text-gt-TEXT_LIMIT+then-is_empty w ↦ inr (sym (ap length c.cut_last.ensures.name) ∙ eqb-true (length c.cut_last.result.1.now) 0 (sym w.if-is_empty.ensures))
+    ] in
+    if_each (g.T.Tree.told c.args.tree.now) _ (λ told is. refused (entry_at told) c.args.dir.now c.args.text.now why)
+
+pub returns-in-Dir-clause-found : goal.returns-in-Dir-clause-found
+returns-in-Dir-clause-found g c =
+    let head = components_left (option_map (λ t. t.now) c.cut_last.result.0) in
+    IfOk-weaker c.locate_last.result _ _
+    (λ found h. if_each (g.T.Tree.told c.args.tree.now) _ (λ told is.
+    h told (c.in_ok-last.ensures.same ∙ is)
+    ∙ from_dir (entry_at told) c.args.dir.now c.args.text.now head c.cut_last.result.1.now c.walk_on.new.walked c.in-Dir.last c.in-Dir.links
+    c.if-text-gt-TEXT_LIMIT.false
+    (λ z. eqb-false (length c.cut_last.result.1.now) 0 (sym c.if-is_empty.ensures) (ap length c.cut_last.ensures.name ∙ z))
+    c.cut_last.ensures.head c.cut_last.ensures.name
+    (subst (λ s. GoesOn (first_nodes c.args.dir.now c.args.text.now) (walk (entry_at told) 40 (start c.args.dir.now c.args.text.now) head) c.walk_on.new.walked (ended (end_of s))) c.in-Dir.is
+    (begun (entry_at told) c.args.dir.now c.args.text.now head c.in_ok-walked.walked c.walk_on.new.walked c.in_ok-begin.begin c.in_ok-copy.field-0 (ended (end_of c.in_ok-last.field-0))
+    c.in_ok-walked.ensures c.in_ok-copy.ensures c.in_ok-begin.ensures (c.in_ok-last.ensures.stop told is)))))
+    c.locate_last.ensures.found
+
+pub returns-in_default : goal.returns-in_default
+returns-in_default g c =
+    let head = components_left (option_map (λ t. t.now) c.cut_last.result.0) in
+    record {
+      same = search rules;
+      found = if_each (g.T.Tree.told c.args.tree.now) _ (λ told is.
+          from_elsewhere (entry_at told) c.args.dir.now c.args.text.now head c.walk_on.new.walked c.in_ok-last.field-0 c.cut_last.ensures.head c.in_default.not-Dir
+          (begun (entry_at told) c.args.dir.now c.args.text.now head c.in_ok-walked.walked c.walk_on.new.walked c.in_ok-begin.begin c.in_ok-copy.field-0 (ended (end_of c.in_ok-last.field-0))
+          c.in_ok-walked.ensures c.in_ok-copy.ensures c.in_ok-begin.ensures (c.in_ok-last.ensures.stop told is)));
+      cause = search rules;
+      never_large = search rules;
+      no_read = search rules;
+    }

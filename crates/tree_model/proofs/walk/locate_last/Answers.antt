@@ -1,0 +1,9 @@
+use Rattle.std.proofs.Common.{◌≡◌, ◌∙◌, sym}
+use Rattle.tree_model.specs.Trees.{entry_at}
+use Rattle.tree_model.proofs.StepLemmas.{not_located, none_else, located_file, located_nothing}
+use Rattle.tree_model.proofs.walk.locate_last.Goals as goal
+
+pub returns-in_default-clause-found : goal.returns-in_default-clause-found
+returns-in_default-clause-found g c told is =
+    not_located told (g.met.T.Tree.whole c.args.tree.now told is) c.args.links c.args.dir c.args.name.now c.args.walked
+    (none_else c.in_ok-place.field-0 c.in_default.not-Some ∙ c.in_ok-place.ensures)

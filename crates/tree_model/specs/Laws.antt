@@ -1,0 +1,41 @@
+-- Laws of paths and trees.
+use Rattle.std.specs.Prelude.{◌≡◌, ◌⊎◌, ◌↔◌, [], Some, IsTrue}
+use Rattle.base_types.specs.Members.{Member}
+use Rattle.std.specs.FinMap.{get, from_entries}
+use Rattle.tree_model.specs.Paths.{Path, spelled, names_of, is_canonical, IsCanonical}
+use Rattle.tree_model.specs.Entries.{Entries, makes_tree}
+use Rattle.tree_model.specs.Trees.{IsTree, tree_of, entry_at, by_bytes, path_cmp}
+use Rattle.tree_model.specs.declared.entry.Entry.{Entry}
+use Rattle.tree_model.specs.declared.entry.Entry.TheVariants.{Dir}
+
+-- the tree of a list that makes a tree is one
+abbrev pub ListsMakeTrees : Type 0
+ListsMakeTrees = (es : Entries) → IsTrue (makes_tree es) → IsTree (tree_of es)
+
+-- each entry of such a list is a node of its tree
+abbrev pub EntriesAreNodes : Type 0
+EntriesAreNodes = (es : Entries) → IsTrue (makes_tree es) → (path : Path) (entry : Entry) → Member (path, entry) es → entry_at (tree_of es) path ≡ Some entry
+
+-- each node of a list's tree is the root or an entry
+abbrev pub NodesAreEntries : Type 0
+NodesAreEntries = (es : Entries) (path : Path) (entry : Entry) → entry_at (tree_of es) path ≡ Some entry → ((path ≡ []) × (entry ≡ Dir)) ⊎ Member (path, entry) es
+
+-- the paths of all entries are canonical
+abbrev pub AreCanonical : Entries → Type 0
+AreCanonical es = (path : Path) (entry : Entry) → Member (path, entry) es → IsCanonical path
+
+-- looking a canonical path up by its spelling's bytes is looking it up by its names
+abbrev pub LookedUpByBytes : Type 0
+LookedUpByBytes = (es : Entries) (path : Path) → AreCanonical es → IsCanonical path → get (from_entries {R = path_cmp} es) path ≡ by_bytes (spelled path) es
+
+-- canonical paths with one spelling are one
+abbrev pub SpellingsAreApart : Type 0
+SpellingsAreApart = (a b : Path) → IsCanonical a → IsCanonical b → spelled a ≡ spelled b → a ≡ b
+
+-- the names of a canonical path's spelling are the path
+abbrev pub NamesAreBack : Type 0
+NamesAreBack = (path : Path) → IsCanonical path → names_of (spelled path) ≡ path
+
+-- the test of a canonical path passes exactly those
+abbrev pub TestsDecide : Type 0
+TestsDecide = (path : Path) → IsTrue (is_canonical path) ↔ IsCanonical path

@@ -1,0 +1,29 @@
+// Laws of paths and trees, each the contract of a function that does nothing.
+ghost use Rattle.tree_model.specs.Laws.{ListsMakeTrees, EntriesAreNodes, NodesAreEntries, LookedUpByBytes, SpellingsAreApart, NamesAreBack, TestsDecide};
+
+/// A list of entries that passes the test makes a tree.
+pub fn lists_make_trees()
+    ensures { ListsMakeTrees }
+{}
+
+/// The nodes of such a tree are its entries, and the root.
+pub fn entries_of_trees()
+    ensures entries { EntriesAreNodes }
+    ensures nodes { NodesAreEntries }
+{}
+
+/// Looking a path up by its bytes is looking it up by its names.
+pub fn looked_up_by_bytes()
+    ensures { LookedUpByBytes }
+{}
+
+/// No two canonical paths have one spelling, and each is read back from its own.
+pub fn spellings_are_apart()
+    ensures apart { SpellingsAreApart }
+    ensures back { NamesAreBack }
+{}
+
+/// The test of a canonical path decides whether it is one.
+pub fn tests_decide()
+    ensures { TestsDecide }
+{}
