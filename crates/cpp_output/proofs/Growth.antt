@@ -1,6 +1,6 @@
 -- A text that grows event by event, and its length.
-use Rattle.std.proofs.Common.{◌≡◌, ℕ, ◌≤◌, List, [], ◌∷◌, ◌++◌, length, refl, append_assoc, length-append, arith, sym, ◌∙◌, ap}
-use Rattle.cpp_output.specs.Layout.{Event, written, line_after, last_after, fresh, text_from}
+use Rattle.std.proofs.Common.{◌≡◌, ◌≤◌, List, [], ◌∷◌, ◌++◌, length, refl, append_assoc, length-append, arith, ◌∙◌}
+use Rattle.cpp_output.specs.Layout.{Event, written, line_after, last_after, text_from}
 use Rattle.cpp_output.specs.Laid.{Laid, after_event, after_events, finished}
 
 -- what has grown, with the text of the events to come, is the same at each step

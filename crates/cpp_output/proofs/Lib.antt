@@ -1,1 +1,3 @@
+mod Blocks
 mod Growth
+mod Lines

@@ -1,5 +1,8 @@
 // What stands last on an output line, and the space behind it.
-ghost use Rattle.std.specs.Prelude.{◌≡◌};
+ghost use Rattle.std.specs.Prelude.{◌≡◌, if◌then◌else◌, ◌∷◌, []};
+ghost use Rattle.cpp_output.specs.Layout.{is_tight, last_of, gap, token_seen};
+
+use pp_tokens::TokenRef;
 
 /// What stands last on an output line: nothing, one of the spellings `( ) [ ] { } , ;`, or another token.
 #[derive(Clone, Copy, Debug, PartialEq, Eq, Drop)]
@@ -7,4 +10,37 @@ pub enum Last {
     Nothing,
     Tight,
     Loose,
+}
+
+fn has_tight_spelling(text: &[u8]) -> bool
+    ensures { result ≡ is_tight text.now }
+{
+    match text {
+        [byte] => b"()[]{},;".contains(byte),
+        _ => false,
+    }
+}
+
+impl Last {
+    pub fn of_spelling(text: &[u8]) -> Last
+        ensures { result ≡ last_of text.now }
+    {
+        if has_tight_spelling(text) {
+            Last::Tight
+        } else {
+            Last::Loose
+        }
+    }
+
+    // Whether a space stands between what is last on its line and the next token there.
+    #[tactic(auto, unfolding(crate::specs::Layout::gap))]
+    pub fn wants_space(self, next: &TokenRef<'_>) -> bool
+        ensures { gap self (token_seen next.now) ≡ (if result then 32 ∷ [] else []) }
+    {
+        match self {
+            Last::Nothing => false,
+            Last::Tight => next.space,
+            Last::Loose => next.space || !has_tight_spelling(next.text),
+        }
+    }
 }

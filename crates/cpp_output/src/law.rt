@@ -7,5 +7,4 @@ ghost use Rattle.cpp_output.specs.Laid.{begun, after_events, finished};
 /// list of all of them has.
 pub fn layout_law()
     ensures { (name : List ℕ) → (es : List Event) → finished (after_events (begun name) es) ≡ laid_out name es }
-{
-}
+{}

@@ -1,7 +1,8 @@
 // The layout of preprocessed output: a text that grows token by token.
-ghost use Rattle.std.specs.Prelude.{◌≡◌, ◌<◌, ◌≤◌, ◌++◌, List, [], length, map, IfOk, OnOk, IsErrOf};
-ghost use Rattle.cpp_output.specs.Layout.{Event, enter, back, mark, put, pragma, token_seen, text_limit};
+ghost use Rattle.std.specs.Prelude.{◌≡◌, ◌<◌, ◌≤◌, ◌++◌, List, [], length, map, max, IfOk, OnOk, IsErrOf};
+ghost use Rattle.cpp_output.specs.Layout.{Event, enter, back, mark, put, pragma, token_seen, text_limit, marker, fresh, newlines, last_at, last_of, gap, on_line};
 ghost use Rattle.cpp_output.specs.Laid.{begun, after_event, after_events, finished};
+ghost use Rattle.cpp_output.specs.declared.layout.LayError.TheVariants.{Memory};
 
 use crate::last::Last;
 use crate::text::Text;
@@ -19,6 +20,14 @@ pub enum LayError {
     Memory,
 }
 
+impl From<AllocError> for LayError {
+    ghost from_gives = { λ _ e. e ≡ Memory };
+
+    fn from(_error: AllocError) -> LayError {
+        LayError::Memory
+    }
+}
+
 /// A preprocessed output in the making. Its text so far ends in the output line that stands for one physical line
 /// of the present file.
 #[derive(Drop)]
@@ -29,56 +38,84 @@ pub struct Layout {
 }
 
 impl Model for Layout {
+    ghost use Rattle.std.specs.Prelude.{length, ◌≤◌};
+    ghost use Rattle.cpp_output.specs.Layout.{text_limit};
     ghost use Rattle.cpp_output.specs.Laid.{Laid};
 
     ghost Value = { Laid };
 
     ghost view = { λ l. record { text = l.text; at = l.at; last = l.last } };
+
+    ghost invariant = { λ l. length l.text ≤ text_limit };
+}
+
+// A token whose spelling is lent.
+fn lent(token: &Token) -> TokenRef<'_>
+    ensures { token_seen result ≡ token.now }
+{
+    TokenRef {
+        kind: token.kind,
+        text: token.text.as_slice(),
+        line: token.line,
+        space: token.space,
+    }
 }
 
 impl Layout {
     /// The output of the source that is shown under a name: its first marker. A name goes into a marker as it is,
     /// so the caller escapes it.
+    #[tactic(auto, unfolding(crate::specs::Laid::begun))]
     pub fn begin(alloc: Global, name: &[u8]) -> Result<Layout, LayError>
         ensures ok { IfOk result (λ layout. (layout ≡ begun name.now) × (length layout.text ≤ text_limit)) }
         ensures full { IsErrOf result LayError.Full → text_limit < length (begun name.now).text }
     {
-        Err(LayError::Memory)
+        let mut text = Text::new(alloc);
+        text.append_marker(1, name, b"")?;
+        Ok(Layout {
+            text,
+            at: 1,
+            last: Last::Nothing,
+        })
     }
 
     /// A file is entered under a name (ISO C 6.10.2).
+    #[tactic(auto, unfolding(crate::specs::Laid::after_event, crate::specs::Layout::written, crate::specs::Layout::line_after, crate::specs::Layout::last_after))]
     pub fn enter(&mut self, name: &[u8]) -> Result<(), LayError>
         ensures ok { OnOk result ((self.new ≡ after_event self.old (enter name.now)) × (length self.new.text ≤ text_limit)) }
         ensures full { IsErrOf result LayError.Full → text_limit < length (after_event self.old (enter name.now)).text }
     {
-        Err(LayError::Memory)
+        self.announce(1, name, b" 1", 1)
     }
 
     /// Back to a file under a name, from the directive on its physical line `at` (0 where no directive led away, as
     /// after a file that is forced before the source). The marker shows the presumed line `shown`, and the output
     /// line behind it stands for the physical line `at + 1`.
+    #[tactic(auto, unfolding(crate::specs::Laid::after_event, crate::specs::Layout::written, crate::specs::Layout::line_after, crate::specs::Layout::last_after))]
     pub fn back(&mut self, name: &[u8], shown: i64, at: u32) -> Result<(), LayError>
         ensures ok { OnOk result ((self.new ≡ after_event self.old (back name.now shown at)) × (length self.new.text ≤ text_limit)) }
         ensures full { IsErrOf result LayError.Full → text_limit < length (after_event self.old (back name.now shown at)).text }
     {
-        Err(LayError::Memory)
+        self.announce(shown, name, b" 2", u64::from(at) + 1)
     }
 
     /// A marker in the same file, behind the directive on its physical line `at` that changed the presumed name or
     /// line (ISO C 6.10.4). The output line behind it stands for the physical line `at + 1`.
+    #[tactic(auto, unfolding(crate::specs::Laid::after_event, crate::specs::Layout::written, crate::specs::Layout::line_after, crate::specs::Layout::last_after))]
     pub fn mark(&mut self, name: &[u8], shown: i64, at: u32) -> Result<(), LayError>
         ensures ok { OnOk result ((self.new ≡ after_event self.old (mark name.now shown at)) × (length self.new.text ≤ text_limit)) }
         ensures full { IsErrOf result LayError.Full → text_limit < length (after_event self.old (mark name.now shown at)).text }
     {
-        Err(LayError::Memory)
+        self.announce(shown, name, b"", u64::from(at) + 1)
     }
 
     /// A token of text: on the present output line, or on a later one where its line is later.
+    #[tactic(auto, unfolding(crate::specs::Laid::after_event, crate::specs::Layout::written, crate::specs::Layout::line_after, crate::specs::Layout::last_after))]
     pub fn put(&mut self, token: &TokenRef<'_>) -> Result<(), LayError>
         ensures ok { OnOk result ((self.new ≡ after_event self.old (put (token_seen token.now))) × (length self.new.text ≤ text_limit)) }
         ensures full { IsErrOf result LayError.Full → text_limit < length (after_event self.old (put (token_seen token.now))).text }
     {
-        Err(LayError::Memory)
+        self.come_to(token.line.into())?;
+        self.append_token(token)
     }
 
     /// Tokens of text, one after another.
@@ -86,23 +123,101 @@ impl Layout {
         ensures ok { OnOk result ((self.new ≡ after_events self.old (map put tokens.now)) × (length self.new.text ≤ text_limit)) }
         ensures full { IsErrOf result LayError.Full → text_limit < length (after_events self.old (map put tokens.now)).text }
     {
-        Err(LayError::Memory)
+        // With no tokens, the limit is kept since it was kept before.
+        let _ = &self.text;
+        for token in tokens {
+            self.put(&lent(token))?;
+        }
+        Ok(())
     }
 
     /// A pragma on the physical line `at`, with the tokens behind the word `pragma` (ISO C 6.10.6), on one output
     /// line, whatever their own lines are.
+    #[tactic(auto, unfolding(crate::specs::Laid::after_event, crate::specs::Layout::written, crate::specs::Layout::line_after, crate::specs::Layout::last_after))]
     pub fn pragma(&mut self, at: u32, tokens: &[Token]) -> Result<(), LayError>
         ensures ok { OnOk result ((self.new ≡ after_event self.old (pragma at tokens.now)) × (length self.new.text ≤ text_limit)) }
         ensures full { IsErrOf result LayError.Full → text_limit < length (after_event self.old (pragma at tokens.now)).text }
     {
-        Err(LayError::Memory)
+        self.come_to(at.into())?;
+        self.text.append(b"#pragma")?;
+        self.last = Last::Loose;
+        self.append_line(tokens)?;
+        self.text.append(b"\n")?;
+        self.at = u64::from(at) + 1;
+        self.last = Last::Nothing;
+        Ok(())
     }
 
     /// The whole text, with its last line ended.
-    pub fn finish(self) -> Result<Bytes, LayError>
+    pub fn finish(mut self) -> Result<Bytes, LayError>
         ensures ok { IfOk result (λ text. (text ≡ finished self) × (length text ≤ text_limit)) }
         ensures full { IsErrOf result LayError.Full → text_limit < length (finished self) }
     {
-        Err(LayError::Memory)
+        self.end_line()?;
+        Ok(self.text.into_bytes())
+    }
+
+    // A fresh line: a newline where the present output line isn't empty.
+    fn end_line(&mut self) -> Result<(), LayError>
+        ensures ok { OnOk result (self.new ≡ record { text = self.old.text ++ fresh self.old.last; at = self.old.at; last = Last.Nothing }) }
+        ensures within { length self.new.text ≤ text_limit }
+        ensures full { IsErrOf result LayError.Full → text_limit < length (self.old.text ++ fresh self.old.last) }
+    {
+        if self.last != Last::Nothing {
+            self.text.append(b"\n")?;
+            self.last = Last::Nothing;
+        }
+        Ok(())
+    }
+
+    // A marker on a line of its own, behind which the output stands for a physical line.
+    fn announce(&mut self, shown: i64, name: &[u8], flag: &[u8], at: u64) -> Result<(), LayError>
+        ensures ok { OnOk result (self.new ≡ record { text = self.old.text ++ (fresh self.old.last ++ marker shown name.now flag.now); at = at; last = Last.Nothing }) }
+        ensures within { length self.new.text ≤ text_limit }
+        ensures full { IsErrOf result LayError.Full → text_limit < length (self.old.text ++ (fresh self.old.last ++ marker shown name.now flag.now)) }
+    {
+        self.end_line()?;
+        self.text.append_marker(shown, name, flag)?;
+        self.at = at;
+        Ok(())
+    }
+
+    // On to the output line of a physical line, where that is a later one.
+    fn come_to(&mut self, line: u64) -> Result<(), LayError>
+        ensures ok { OnOk result (self.new ≡ record { text = self.old.text ++ newlines self.old.at line; at = max self.old.at line; last = last_at self.old.at self.old.last line }) }
+        ensures within { length self.new.text ≤ text_limit }
+        ensures full { IsErrOf result LayError.Full → text_limit < length (self.old.text ++ newlines self.old.at line) }
+    {
+        if self.at < line {
+            self.text.append_newlines(line - self.at)?;
+            self.at = line;
+            self.last = Last::Nothing;
+        }
+        Ok(())
+    }
+
+    // A token on the present output line.
+    fn append_token(&mut self, token: &TokenRef<'_>) -> Result<(), LayError>
+        ensures ok { OnOk result (self.new ≡ record { text = self.old.text ++ (gap self.old.last (token_seen token.now) ++ token.now.text.now); at = self.old.at; last = last_of token.now.text.now }) }
+        ensures within { length self.new.text ≤ text_limit }
+        ensures full { IsErrOf result LayError.Full → text_limit < length (self.old.text ++ (gap self.old.last (token_seen token.now) ++ token.now.text.now)) }
+    {
+        if self.last.wants_space(token) {
+            self.text.append(b" ")?;
+        }
+        self.text.append(token.text)?;
+        self.last = Last::of_spelling(token.text);
+        Ok(())
+    }
+
+    // Tokens on the present output line, whatever their own lines are.
+    fn append_line(&mut self, tokens: &[Token]) -> Result<(), LayError>
+        ensures ok { OnOk result (self.new.text ≡ self.old.text ++ on_line self.old.last tokens.now) }
+        ensures full { IsErrOf result LayError.Full → text_limit < length (self.old.text ++ on_line self.old.last tokens.now) }
+    {
+        for token in tokens {
+            self.append_token(&lent(token))?;
+        }
+        Ok(())
     }
 }

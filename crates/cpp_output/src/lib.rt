@@ -5,6 +5,8 @@
 mod last;
 mod law;
 mod layout;
+#[cfg(test)]
+mod tests;
 mod text;
 
 pub use last::Last;

@@ -1,12 +1,16 @@
 // The bytes of an output, which never pass its limit.
-ghost use Rattle.std.specs.Prelude.{◌≡◌, ℕ, ◌<◌, ◌≤◌, ◌++◌, List, [], length, OnOk, IsErrOf};
+ghost use Rattle.std.specs.Prelude.{◌≡◌, ℕ, ◌<◌, ◌≤◌, ◌++◌, List, [], length, replicate, OnOk, IsErrOf};
+ghost use Rattle.cpp_output.specs.Layout.{marker, text_limit};
 
 use crate::layout::LayError;
-use std::alloc::{AllocError, Global};
+use base_types::Bytes;
+use itoa::Buffer;
+use std::alloc::Global;
 use std::marker::Model;
 
-// The longest output, in bytes.
 const TEXT_LIMIT: usize = 67_108_864;
+
+const NEWLINES: [u8; 64] = [b'\n'; 64];
 
 #[derive(Drop)]
 pub struct Text {
@@ -15,10 +19,68 @@ pub struct Text {
 
 impl Model for Text {
     ghost use Rattle.std.specs.Prelude.{ℕ, List, length, ◌≤◌};
+    ghost use Rattle.cpp_output.specs.Layout.{text_limit};
 
     ghost Value = { List ℕ };
 
     ghost view = { λ t. t.bytes.items };
 
-    ghost invariant = { λ t. length t.bytes.items ≤ 67108864 };
+    ghost invariant = { λ t. length t.bytes.items ≤ text_limit };
+}
+
+impl Text {
+    pub fn new(alloc: Global) -> Text
+        ensures { result ≡ [] }
+    {
+        Text {
+            bytes: Vec::new(alloc),
+        }
+    }
+
+    pub fn append(&mut self, more: &[u8]) -> Result<(), LayError>
+        ensures ok { OnOk result (self.new ≡ self.old ++ more.now) }
+        ensures within { length self.new ≤ text_limit }
+        ensures full { IsErrOf result LayError.Full → text_limit < length (self.old ++ more.now) }
+    {
+        if more.len() > TEXT_LIMIT - self.bytes.len() {
+            return Err(LayError::Full);
+        }
+        self.bytes.extend_from_slice(more)?;
+        Ok(())
+    }
+
+    pub fn append_newlines(&mut self, count: u64) -> Result<(), LayError>
+        ensures ok { OnOk result (self.new ≡ self.old ++ replicate count 10) }
+        ensures within { length self.new ≤ text_limit }
+        ensures full { IsErrOf result LayError.Full → text_limit < length (self.old ++ replicate count 10) }
+    {
+        for _block in 0..count / 64 {
+            self.append(&NEWLINES)?;
+        }
+        self.append(&NEWLINES[..(count % 64) as usize])
+    }
+
+    // `# LINE "NAME"`, a flag, and a newline.
+    #[tactic(auto, unfolding(crate::specs::Layout::marker))]
+    pub fn append_marker(&mut self, line: i64, name: &[u8], flag: &[u8]) -> Result<(), LayError>
+        ensures ok { OnOk result (self.new ≡ self.old ++ marker line name.now flag.now) }
+        ensures within { length self.new ≤ text_limit }
+        ensures full { IsErrOf result LayError.Full → text_limit < length (self.old ++ marker line name.now flag.now) }
+    {
+        let mut number = Buffer::new();
+        self.append(b"# ")?;
+        self.append(number.format(line).as_bytes())?;
+        self.append(b" \"")?;
+        self.append(name)?;
+        self.append(b"\"")?;
+        self.append(flag)?;
+        self.append(b"\n")
+    }
+
+    pub fn into_bytes(self) -> Bytes
+        ensures value { result ≡ self }
+        ensures within { length result ≤ text_limit }
+    {
+        Bytes::of(self.bytes)
+    }
 }

@@ -7,7 +7,7 @@ use Rattle.tree_model.specs.Entries.{Entries, makes_tree}
 use Rattle.tree_model.specs.Trees.{FileTree, IsTree, Sub, tree_of, entry_at}
 use Rattle.tree_model.specs.Walk.{locate}
 use Rattle.tree_model.specs.Frame.{IsLocatedInPart, IsLocatedInNoPart, HoldsOfLocated}
-use Rattle.tree_model.specs.Laws.{ListsMakeTrees, EntriesAreNodes, NodesAreEntries, TestsDecide, ParentsAnywhere}
+use Rattle.tree_model.specs.Laws.{ListsMakeTrees, EntriesAreNodes, NodesAreEntries, TestsDecide, ParentsMakeTrees}
 use Rattle.tree_model.specs.declared.entry.Entry.TheVariants.{Dir}
 use Rattle.tree_model.specs.declared.walk.Located.{Located}
 use Rattle.job_words.specs.declared.job.Job.{Job}
@@ -135,7 +135,7 @@ from_source lists nodes found_in_part none_in_part holds tree job entries whole 
     ∙ same_run lists nodes found_in_part none_in_part holds tree job entries whole are makes sub source e built_there depth_limit (absolute job.cwd job.source)
     ∙ ap (run_job (world_of tree) (absolute job.cwd job.source)) (sym e)
 
-pub is_enough : ListsMakeTrees → EntriesAreNodes → NodesAreEntries → TestsDecide → ParentsAnywhere → IsLocatedInPart → IsLocatedInNoPart → HoldsOfLocated → MirrorIsEnough
+pub is_enough : ListsMakeTrees → EntriesAreNodes → NodesAreEntries → TestsDecide → ParentsMakeTrees → IsLocatedInPart → IsLocatedInNoPart → HoldsOfLocated → MirrorIsEnough
 is_enough lists nodes nodes_back tests made found_in_part none_in_part holds tree job entries whole are there built =
     from_source lists nodes found_in_part none_in_part holds tree job entries whole are (makes_tree_of tests tree job entries whole are made) (part_of_whole tests tree job entries whole are nodes_back)
     there built (source_of tree job) refl

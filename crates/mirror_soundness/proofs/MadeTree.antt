@@ -6,7 +6,7 @@ use Rattle.base_types.specs.Members.{Member}
 use Rattle.tree_model.specs.Paths.{Text, Path, spelled, is_canonical, IsCanonical, IsAtOrAbove}
 use Rattle.tree_model.specs.Entries.{Entries, Increasing, has_parent, is_dir_at, is_dir, links_fit, entry_fits, is_link_text, makes_tree}
 use Rattle.tree_model.specs.Trees.{FileTree, IsTree, Sub, tree_of, entry_at}
-use Rattle.tree_model.specs.Laws.{ListsMakeTrees, EntriesAreNodes, NodesAreEntries, TestsDecide, ParentsAnywhere}
+use Rattle.tree_model.specs.Laws.{ListsMakeTrees, EntriesAreNodes, NodesAreEntries, TestsDecide, ParentsMakeTrees}
 use Rattle.tree_model.specs.declared.entry.Entry.{Entry}
 use Rattle.tree_model.specs.declared.entry.Entry.TheVariants.{Dir, File, Link}
 use Rattle.job_words.specs.declared.job.Job.{Job}
@@ -107,7 +107,7 @@ module _ (tests : TestsDecide) (tree : FileTree) (job : Job) (entries : Entries)
       any_of_member (is_dir_at (spelled (outer ∷ up))) entries (outer ∷ up, Dir) (dir_entry name outer up entry m)
       (both_true (pointwise nat_eq (spelled (outer ∷ up)) (spelled (outer ∷ up))) true (same_text (spelled (outer ∷ up))) refl)
 
-  pub makes_tree_of : ParentsAnywhere → IsTrue (makes_tree entries)
+  pub makes_tree_of : ParentsMakeTrees → IsTrue (makes_tree entries)
   makes_tree_of made =
       made entries are.increasing
       (all_of_members (λ (e : Path × Entry). has_parent entries e.0) entries (λ e m. parent_each e.0 e.1 m))

@@ -1,7 +1,15 @@
 //! Preprocessing tokens: translation phases 1 to 3 of ISO C (5.1.1.2, 6.4).
 #![tactic(auto)]
 
+mod due;
+mod law;
+mod lexer;
+mod part;
+mod plain;
 mod token;
 
 pub use base_types::{Bytes, List};
+pub use law::one_reading;
+pub use lexer::{Lexed, lex};
+pub use plain::{is_plain, is_simple_name};
 pub use token::{Kind, Token, TokenRef};

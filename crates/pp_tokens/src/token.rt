@@ -1,5 +1,9 @@
 // A preprocessing token, owned or borrowed.
+ghost use Rattle.std.specs.Prelude.{◌≡◌, IfOk};
+ghost use Rattle.pp_tokens.specs.Tokens.{token_seen};
+
 use base_types::Bytes;
+use std::alloc::{AllocError, Global};
 
 /// The kind of a preprocessing token (ISO C 6.4). `Header` is read in the places of 6.4.7 alone; `Other` is a
 /// byte that is in no other kind, a quote without its partner among them.
@@ -31,4 +35,19 @@ pub struct TokenRef<'a> {
     pub text: &'a [u8],
     pub line: u32,
     pub space: bool,
+}
+
+impl<'a> TokenRef<'a> {
+    /// A token that owns a copy of the spelling.
+    pub fn to_token(&self, alloc: Global) -> Result<Token, AllocError>
+        ensures { IfOk result (λ t. t ≡ token_seen self.now) }
+    {
+        let text = Bytes::copy_of(alloc, self.text)?;
+        Ok(Token {
+            kind: self.kind,
+            text,
+            line: self.line,
+            space: self.space,
+        })
+    }
 }

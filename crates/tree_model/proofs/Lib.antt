@@ -2,6 +2,7 @@
 --     PathLemmas     canonical paths and their spellings
 --     OrderLemmas    entries whose paths increase
 --     TreeLemmas     the tree of a list of entries
+--     JudgeLemmas    judging each path behind those before it
 --     Listed         searching a list of numbers
 --     MemberLemmas   membership in lists
 --     FrameParts     walks in a part of a tree
@@ -14,6 +15,7 @@
 pub mod PathLemmas
 pub mod OrderLemmas
 pub mod TreeLemmas
+pub mod JudgeLemmas
 pub mod Listed
 pub mod MemberLemmas
 pub mod FrameParts

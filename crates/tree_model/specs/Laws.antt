@@ -1,9 +1,10 @@
 -- Laws of paths and trees.
-use Rattle.std.specs.Prelude.{◌≡◌, ◌⊎◌, ◌↔◌, [], Some, IsTrue}
+use Rattle.std.specs.Prelude.{◌≡◌, ◌⊎◌, ◌↔◌, [], ◌∷◌, ◌++◌, Some, Ok, IsTrue, true}
 use Rattle.base_types.specs.Members.{Member}
 use Rattle.std.specs.FinMap.{get, from_entries}
-use Rattle.tree_model.specs.Paths.{Path, spelled, names_of, is_canonical, IsCanonical}
-use Rattle.tree_model.specs.Entries.{Entries, makes_tree}
+use Rattle.tree_model.specs.Paths.{Text, Path, spelled, names_of, is_canonical, IsCanonical}
+use Rattle.tree_model.specs.Entries.{Entries, Increasing, entry_fits, has_parent, is_increasing, judged_path, links_fit, makes_tree}
+use Rattle.std.specs.List.{list_all}
 use Rattle.tree_model.specs.Trees.{IsTree, tree_of, entry_at, by_bytes, path_cmp}
 use Rattle.tree_model.specs.declared.entry.Entry.{Entry}
 use Rattle.tree_model.specs.declared.entry.Entry.TheVariants.{Dir}
@@ -39,3 +40,25 @@ NamesAreBack = (path : Path) → IsCanonical path → names_of (spelled path) �
 -- the test of a canonical path passes exactly those
 abbrev pub TestsDecide : Type 0
 TestsDecide = (path : Path) → IsTrue (is_canonical path) ↔ IsCanonical path
+
+-- a text judged well spells the path
+abbrev pub JudgedAreSpelled : Type 0
+JudgedAreSpelled = (es : Entries) (text : Text) (path : Path) → judged_path es text ≡ Ok path → (spelled path ≡ text) × IsCanonical path
+
+-- behind a list that increases, a path judged well makes a longer one that does
+abbrev pub JudgedIncrease : Type 0
+JudgedIncrease = (es : Entries) (text : Text) (path : Path) (entry : Entry) → Increasing es → judged_path es text ≡ Ok path → Increasing (es ++ (path, entry) ∷ [])
+
+-- behind a list that makes a tree, a path judged well makes a longer one that does
+abbrev pub JudgedMakeTrees : Type 0
+JudgedMakeTrees = (es : Entries) (text : Text) (path : Path) (entry : Entry) → IsTrue (makes_tree es) → judged_path es text ≡ Ok path → IsTrue (entry_fits entry) → IsTrue (makes_tree (es ++ (path, entry) ∷ []))
+
+-- each path of a list that makes a tree is judged well behind those before it
+abbrev pub EntriesAreJudged : Type 0
+EntriesAreJudged = (before after : Entries) (path : Path) (entry : Entry) → IsTrue (makes_tree (before ++ (path, entry) ∷ after)) → judged_path before (spelled path) ≡ Ok path
+
+-- a list makes a tree where its paths increase and are canonical, its links have texts that they may have, and each
+-- path's parent is the root or a directory anywhere in it
+abbrev pub ParentsMakeTrees : Type 0
+ParentsMakeTrees = (es : Entries) → IsTrue (is_increasing es) → list_all (λ e. has_parent es e.0) es ≡ true
+    → list_all (λ e. is_canonical e.0) es ≡ true → links_fit es ≡ true → IsTrue (makes_tree es)

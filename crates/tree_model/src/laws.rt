@@ -1,9 +1,14 @@
 // Laws of paths and trees, each the contract of a function that does nothing.
-ghost use Rattle.tree_model.specs.Laws.{ListsMakeTrees, EntriesAreNodes, NodesAreEntries, LookedUpByBytes, SpellingsAreApart, NamesAreBack, TestsDecide};
+ghost use Rattle.tree_model.specs.Laws.{ListsMakeTrees, EntriesAreNodes, NodesAreEntries, LookedUpByBytes, SpellingsAreApart, NamesAreBack, TestsDecide, JudgedAreSpelled, JudgedIncrease, JudgedMakeTrees, EntriesAreJudged, ParentsMakeTrees};
 
 /// A list of entries that passes the test makes a tree.
 pub fn lists_make_trees()
     ensures { ListsMakeTrees }
+{}
+
+/// A list whose paths have their parents anywhere in it makes a tree.
+pub fn parents_make_trees()
+    ensures { ParentsMakeTrees }
 {}
 
 /// The nodes of such a tree are its entries, and the root.
@@ -26,4 +31,12 @@ pub fn spellings_are_apart()
 /// The test of a canonical path decides whether it is one.
 pub fn tests_decide()
     ensures { TestsDecide }
+{}
+
+/// Lists make trees where each path is judged well behind those before it: one entry more, and back.
+pub fn judging_makes_trees()
+    ensures spelled { JudgedAreSpelled }
+    ensures increase { JudgedIncrease }
+    ensures made { JudgedMakeTrees }
+    ensures judged { EntriesAreJudged }
 {}

@@ -1,5 +1,5 @@
 -- The law at the output that has just begun.
-use Rattle.cpp_output.specs.Layout.{laid_out, marker}
+use Rattle.cpp_output.specs.Layout.{laid_out}
 use Rattle.cpp_output.specs.Laid.{begun}
 use Rattle.cpp_output.proofs.Growth.{finished-after}
 use Rattle.cpp_output.proofs.law.layout_law.Goals as goal

@@ -1,0 +1,11 @@
+-- What is laid out, with the tokens that are left, is the same at each turn, and the text is within its limit.
+use Rattle.std.proofs.Common.{◌≡◌, ◌≤◌, length, map, drop}
+use Rattle.cpp_output.specs.Layout.{put, text_limit}
+use Rattle.cpp_output.specs.Laid.{after_events}
+use Rattle.cpp_output.proofs.layout.Layout.run.Given as goal
+
+abbrev pub invariant-loop-token : goal.invariant-loop-token
+invariant-loop-token l = record {
+  same : after_events l.self (map put (drop l.token-index l.tokens)) ≡ after_events l.initial.self (map put l.tokens);
+  within : length l.self.text ≤ text_limit;
+}

@@ -1,0 +1,4 @@
+pub mod LastMember
+pub mod Outcome
+pub mod Paired
+pub mod Standing

@@ -1,0 +1,76 @@
+-- What a wire in memory keeps.
+use Rattle.std.specs.Prelude.{◌≡◌, ℕ, ◌+◌, ◌-◌, ◌^◌, ◌≤◌, min, List, [], ◌∷◌, take, length, true, false, Result, IsErrOf}
+use Rattle.std.specs.List.{AllByRecursion}
+use Rattle.base_types.specs.Members.{Member}
+use Rattle.io_edges.specs.declared.wire.Exchange.{Exchange}
+use Rattle.io_edges.specs.declared.wire.LinkFault.{LinkFault}
+use Rattle.io_edges.specs.declared.wire.LinkFault.TheVariants.{Down}
+use Rattle.io_edges.specs.declared.wire.LinkState.{LinkState}
+use Rattle.io_edges.specs.declared.wire.LinkState.TheVariants.{Closed, Sending, Taking}
+use Rattle.io_edges.specs.Talk.{IsAnswered}
+
+-- how many dials there were, the number of the last one from 0, and how many calls its exchange had; and the
+-- pairs of an exchange and a call, from 1, that fail
+pub record Calls : Type 0 where
+  pub dials : ℕ
+  pub exchange : ℕ
+  pub made : ℕ
+  pub failing : List (ℕ × ℕ)
+
+abbrev pub calls_of : ℕ → ℕ → ℕ → List (ℕ × ℕ) → Calls
+calls_of dials exchange made failing = record { dials = dials; exchange = exchange; made = made; failing = failing }
+
+-- a count that goes up by one, and stands still at its last value
+abbrev pub counted : ℕ → ℕ
+counted count = min (count + 1) (2 ^ 32 - 1)
+
+-- a dial is the first call of a new exchange, and each other call one more
+abbrev pub dial_made : Calls → Calls
+dial_made calls = record calls { dials = counted calls.dials; exchange = calls.dials; made = 1 }
+
+abbrev pub call_made : Calls → Calls
+call_made calls = record calls { made = counted calls.made }
+
+-- the call that was made last is one that fails
+abbrev pub IsDue : Calls → Type 0
+IsDue calls = Member (calls.exchange, calls.made) calls.failing
+
+-- a call answers that the link is down exactly where it is due, with the counts after it
+pub record FailsAsListed {T : Type 0} (calls : Calls) (result : Result T LinkFault) : Type 0 where
+  pub only_listed : IsErrOf result Down → IsDue calls
+  pub each_listed : IsDue calls → IsErrOf result Down
+
+-- what contracts see of a wire in memory
+pub record Line : Type 0 where
+  pub talk : List Exchange
+  pub state : LinkState
+  pub faults : ℕ
+  pub calls : Calls
+
+-- the last member is so, and there is one
+abbrev pub AtLast : (Exchange → Type 0) → List Exchange → Type 0
+AtLast P [] = ⊥
+AtLast P (e ∷ []) = P e
+AtLast P (e ∷ next ∷ rest) = AtLast P (next ∷ rest)
+
+-- an exchange that is being sent has received nothing
+abbrev pub IsFresh : Exchange → Type 0
+IsFresh e = (e.received ≡ []) × (e.ended ≡ false)
+
+-- an exchange that is being taken has received the front of the answer, and all of it at the end
+pub record IsTaken (peer : List ℕ → List ℕ → Type 0) (answer : List ℕ) (given : ℕ) (e : Exchange) : Type 0 where
+  pub from : peer e.sent answer
+  pub front : e.received ≡ take given answer
+  pub within : given ≤ length answer
+  pub whole : e.ended ≡ true → given ≡ length answer
+
+-- the last exchange, by the wire's state
+abbrev pub LastHolds : (List ℕ → List ℕ → Type 0) → List Exchange → List ℕ → ℕ → LinkState → Type 0
+LastHolds peer talk answer given Closed = Unit {0}
+LastHolds peer talk answer given Sending = AtLast IsFresh talk
+LastHolds peer talk answer given Taking = AtLast (IsTaken peer answer given) talk
+
+-- what a wire in memory keeps: each exchange was answered, and the last one stands as the wire's state says
+pub record WireHolds (peer : List ℕ → List ℕ → Type 0) (talk : List Exchange) (answer : List ℕ) (given : ℕ) (state : LinkState) : Type 0 where
+  pub each : AllByRecursion (IsAnswered peer) talk
+  pub last : LastHolds peer talk answer given state

@@ -1,0 +1,91 @@
+// What no clause says: the lengths of the pieces, the order of the answers, and that each call succeeds.
+ghost use Rattle.std.specs.Prelude.{◌≡◌, true};
+
+use crate::*;
+use base_types::Bytes;
+use io_edges::{Host, LinkState, Wire};
+use std::alloc::{AllocError, Global};
+use std::test::Fail;
+
+fn a_host(alloc: Global) -> Result<Host, AllocError> {
+    Ok(Host {
+        name: Bytes::copy_of(alloc, b"build.example")?,
+        port: 3632,
+        limit: 4,
+    })
+}
+
+fn a_peer(alloc: Global, answers: &[&str]) -> Result<Scripted, Fail> {
+    let mut list = Vec::new(alloc);
+    for answer in answers {
+        list.push(Bytes::copy_of(alloc, answer.as_bytes())?)?;
+    }
+    Ok(Scripted::new(list))
+}
+
+// Whether the wire came to take the answer to a request.
+fn is_asked<W: Wire>(wire: &mut W, host: &Host, request: &[u8]) -> bool
+    requires { W.state wire.old ≡ LinkState.Closed }
+    ensures { result ≡ true → W.state wire.new ≡ LinkState.Taking }
+{
+    wire.dial(host).is_ok() && wire.send(request).is_ok() && wire.finish().is_ok()
+}
+
+// Whether the next piece of the answer is this one.
+fn gives<W: Wire>(wire: &mut W, piece: &[u8]) -> bool
+    requires { W.state wire.old ≡ LinkState.Taking }
+    ensures { W.state wire.new ≡ LinkState.Taking }
+{
+    let mut room = [0; 8];
+    match wire.take(&mut room) {
+        Ok(n) => &room[..n] == piece,
+        Err(_) => false,
+    }
+}
+
+#[test]
+fn an_answer_comes_in_pieces(rt: HostRuntime) -> Result<(), Fail> {
+    let alloc = rt.alloc();
+    let host = a_host(alloc)?;
+    let peer = a_peer(alloc, &["abcdefgh"])?;
+    let mut wire = MemWire::new(alloc, peer, vec![in alloc; 2, 3]?, Vec::new(alloc));
+    assert!(rt; is_asked(&mut wire, &host, b"one"));
+    assert!(rt; gives(&mut wire, b"ab") && gives(&mut wire, b"cde") && gives(&mut wire, b"fg"));
+    assert!(rt; gives(&mut wire, b"h") && gives(&mut wire, b""));
+    let exchanges = wire.exchanges();
+    assert_eq!(rt; exchanges.len(), 1);
+    assert_eq!(rt; exchanges[0].sent.as_slice(), b"one".as_slice());
+    assert_eq!(rt; exchanges[0].received.as_slice(), b"abcdefgh".as_slice());
+    Ok(())
+}
+
+#[test]
+fn answers_come_in_turn_and_then_empty(rt: HostRuntime) -> Result<(), Fail> {
+    let alloc = rt.alloc();
+    let host = a_host(alloc)?;
+    let peer = a_peer(alloc, &["first", "second"])?;
+    let mut wire = MemWire::new(alloc, peer, Vec::new(alloc), Vec::new(alloc));
+    assert!(rt; is_asked(&mut wire, &host, b"a") && gives(&mut wire, b"first"));
+    wire.close();
+    assert!(rt; is_asked(&mut wire, &host, b"b") && gives(&mut wire, b"second"));
+    wire.close();
+    assert!(rt; is_asked(&mut wire, &host, b"c") && gives(&mut wire, b""));
+    Ok(())
+}
+
+#[test]
+fn calls_fail_where_listed(rt: HostRuntime) -> Result<(), Fail> {
+    let alloc = rt.alloc();
+    let host = a_host(alloc)?;
+    let peer = a_peer(alloc, &["answer"])?;
+    let failing = vec![in alloc; (0, 1), (1, 2), (2, 4)]?;
+    let mut wire = MemWire::new(alloc, peer, Vec::new(alloc), failing);
+    assert!(rt; !is_asked(&mut wire, &host, b"the dial fails"));
+    wire.close();
+    assert!(rt; !is_asked(&mut wire, &host, b"the piece fails"));
+    wire.close();
+    assert!(rt; is_asked(&mut wire, &host, b"the first take fails"));
+    assert!(rt; !gives(&mut wire, b"answer"));
+    assert_eq!(rt; wire.exchanges().len(), 2);
+    Ok(())
+}

@@ -1,0 +1,15 @@
+mod FieldLemmas
+mod DigitLemmas
+mod StageLemmas
+mod RunLemmas
+mod ReaderLemmas
+mod SpellingLemmas
+mod SpelledLemmas
+mod PathLemmas
+mod TreeLemmas
+mod WriterLemmas
+mod ReplySpelling
+mod ReplySpelled
+mod ReplyEnds
+mod ReplyReading
+pub mod DaemonLemmas

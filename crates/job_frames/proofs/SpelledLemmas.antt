@@ -1,0 +1,422 @@
+-- What a request was read from is its spelling.
+use Rattle.std.proofs.Common.{◌≡◌, ℕ, zero, suc, ◌+◌, ◌-◌, ◌≤◌, List, [], ◌∷◌, ◌++◌, length, drop, take, refl, sym, ◌∙◌, ap, subst, arith, Option, Some, None, cond, true, false, Bool, append_assoc, length-append}
+use Rattle.std.specs.Prelude.{◌==◌, nat_le, nat_lt, ◌&&◌, codes, Result, Ok, Err}
+use Rattle.std.specs.List.{list_any, flat_map}
+use Rattle.std.proofs.lemmas.Bool.{leb-true, ltb-false, eqb-true}
+use Rattle.std.proofs.lemmas.List.{append-nil, take-append-drop}
+use Rattle.std.proofs.Common.{length-take}
+use Rattle.tree_model.specs.Paths.{Path, spelled}
+use Rattle.tree_model.specs.declared.entry.Entry.{Entry}
+use Rattle.tree_model.specs.declared.entry.Entry.TheVariants.{Dir, File, Link}
+use Rattle.tree_model.specs.declared.mem_tree.MirrorError.{MirrorError}
+use Rattle.job_words.specs.declared.job.Job.{Job}
+use Rattle.job_words.specs.Words.{job_of, JobsKeepWords}
+use Rattle.job_frames.specs.Fields.{Step, short, refused, taken, ◌>>=◌, token_at, number_at, judged, body_at, token, field, within, only, fits, bare, room_behind}
+use Rattle.tree_model.specs.Entries.{Entries, judged_path}
+use Rattle.job_frames.specs.Request.{node_bytes, entry_bytes, image_bytes}
+use Rattle.job_frames.specs.Request.{Got, Onward, most, node_then, dir_then, made_then, link_then, target_then, file_then, file_body_then, judged_then, path_then, name_then, entries_from, image_from, with_job, word_body_then, word_then, words_from, count_from, place_body_from, place_from, request_from, request_at, request_bytes, IsNode, MayFollow, AreWords, IsRequest}
+use Rattle.job_frames.proofs.DigitLemmas.{number_spelled}
+use Rattle.job_frames.proofs.StageLemmas.{path_spelled, judged_good}
+use Rattle.job_frames.proofs.SpellingLemmas.{token_length, field_length}
+
+pub record TokenRead {A : Type 0} (letters : List ℕ) (judge : ℕ → Option ℕ) (bytes : List ℕ) (next : ℕ → List ℕ → Step A) (got : A) (rest : List ℕ) : Type 0 where
+  pub n : ℕ
+  pub r : List ℕ
+  pub is : bytes ≡ token letters n ++ r
+  pub passes : judge n ≡ None
+  pub then : next n r ≡ taken got rest
+
+pub token_read : {A : Type 0} (letters : List ℕ) (judge : ℕ → Option ℕ) (bytes : List ℕ) (next : ℕ → List ℕ → Step A) (got : A) (rest : List ℕ)
+    → (token_at letters judge bytes >>= next) ≡ taken got rest → TokenRead letters judge bytes next got rest
+token_read {A} letters judge bytes next got rest h = by_number (number_at letters bytes) refl h
+  where
+    by_judge : (n : ℕ) (r : List ℕ) (o : Option ℕ) → number_at letters bytes ≡ taken n r → judge n ≡ o → (judged o n r >>= next) ≡ taken got rest → TokenRead letters judge bytes next got rest
+    by_judge n r None e j g = record { n = n; r = r; is = (number_spelled letters bytes r n e).0; passes = j; then = g }
+    by_judge n r (Some why) e j g = absurd (cc)
+
+    by_number : (s : Step ℕ) → number_at letters bytes ≡ s → ((s >>= λ m r. judged (judge m) m r) >>= next) ≡ taken got rest → TokenRead letters judge bytes next got rest
+    by_number short e g = absurd (cc)
+    by_number (refused why) e g = absurd (cc)
+    by_number (taken n r) e g = by_judge n r (judge n) e refl g
+
+pub record BodyRead {A : Type 0} (n : ℕ) (bytes : List ℕ) (next : List ℕ → List ℕ → Step A) (got : A) (rest : List ℕ) : Type 0 where
+  pub body : List ℕ
+  pub r : List ℕ
+  pub is : bytes ≡ body ++ r
+  pub long : length body ≡ n
+  pub then : next body r ≡ taken got rest
+
+pub body_read : {A : Type 0} (n : ℕ) (bytes : List ℕ) (next : List ℕ → List ℕ → Step A) (got : A) (rest : List ℕ) → (body_at n bytes >>= next) ≡ taken got rest → BodyRead n bytes next got rest
+unfolding body_at
+body_read {A} n bytes next got rest h = by_size (nat_lt (length bytes) n) refl h
+  where
+    by_size : (t : Bool) → nat_lt (length bytes) n ≡ t → (cond t short (taken (take n bytes) (drop n bytes)) >>= next) ≡ taken got rest → BodyRead n bytes next got rest
+    by_size true e g = absurd (cc)
+    by_size false e g =
+        let enough : n ≤ length bytes = ltb-false (length bytes) n e in
+        record { body = take n bytes; r = drop n bytes; is = sym (take-append-drop n bytes); long = omega (arith, length-take n bytes, enough); then = g }
+
+record InLimits (room low high n : ℕ) : Type 0 where
+  low_is : low ≤ n
+  high_is : n ≤ high
+  fits_is : 12 + n ≤ room
+
+fits_passes : (room low high n : ℕ) → fits room low high n ≡ None → InLimits room low high n
+fits_passes room low high n h = by_tests (nat_le low n) (nat_le n high) (nat_le (12 + n) room) refl refl refl h
+  where
+    by_tests : (a b c : Bool) → nat_le low n ≡ a → nat_le n high ≡ b → nat_le (12 + n) room ≡ c → cond {A = Option ℕ} (a && (b && c)) None (Some 5) ≡ None → InLimits room low high n
+    by_tests true true true e f g h = record { low_is = leb-true low n e; high_is = leb-true n high f; fits_is = leb-true (12 + n) room g }
+    by_tests true true false e f g h = absurd (cc)
+    by_tests true false c e f g h = absurd (cc)
+    by_tests false b c e f g h = absurd (cc)
+
+bare_passes : (room : ℕ) (o : Option ℕ) → bare room o ≡ None → (o ≡ None) × (12 ≤ room)
+bare_passes room (Some why) h = absurd (cc)
+bare_passes room None h = by_test (nat_le 12 room) refl h
+  where
+    by_test : (t : Bool) → nat_le 12 room ≡ t → cond {A = Option ℕ} t None (Some 5) ≡ None → (◌≡◌ {A = Option ℕ} None None) × (12 ≤ room)
+    by_test true e h = (refl, leb-true 12 room e)
+    by_test false e h = absurd (cc)
+
+within_passes : (high n : ℕ) → within 0 high n ≡ None → n ≤ high
+within_passes high n h = by_tests (nat_le 0 n) (nat_le n high) refl h
+  where
+    by_tests : (a b : Bool) → nat_le n high ≡ b → cond {A = Option ℕ} (a && b) None (Some 5) ≡ None → n ≤ high
+    by_tests true true e h = leb-true n high e
+    by_tests true false e h = absurd (cc)
+    by_tests false b e h = absurd (cc)
+
+pub only_passes : (wanted why n : ℕ) → only wanted why n ≡ None → n ≡ wanted
+only_passes wanted why n h = by_test (n == wanted) refl h
+  where
+    by_test : (t : Bool) → (n == wanted) ≡ t → cond {A = Option ℕ} t None (Some why) ≡ None → n ≡ wanted
+    by_test true e h = eqb-true n wanted e
+    by_test false e h = absurd (cc)
+
+-- a token and the body behind it are a field
+pub field_is : (letters bytes body r r' : List ℕ) (n : ℕ) → bytes ≡ token letters n ++ r → r ≡ body ++ r' → length body ≡ n → bytes ≡ field letters body ++ r'
+field_is letters bytes body r r' n e f g =
+    e ∙ ap (λ (x : List ℕ). token letters n ++ x) f ∙ ap (λ (k : ℕ). token letters k ++ (body ++ r')) (sym g) ∙ sym (append_assoc (token letters (length body)) body r')
+
+record NodeRead (next : Onward) (room : ℕ) (es : Entries) (path : Path) (bytes : List ℕ) (got : Got) (rest : List ℕ) : Type 0 where
+  e : Entry
+  r : List ℕ
+  is : bytes ≡ node_bytes e ++ r
+  node : IsNode e
+  small : length (node_bytes e) ≤ room
+  then : next (room - length (node_bytes e)) (es ++ (path, e) ∷ []) r ≡ taken got rest
+
+dir_read : (next : Onward) (room : ℕ) (es : Entries) (path : Path) (bytes : List ℕ) (got : Got) (rest : List ℕ) → dir_then next room es path bytes ≡ taken got rest → NodeRead next room es path bytes got rest
+unfolding dir_then made_then
+dir_read next room es path bytes got rest h =
+    let t = token_read (codes "MDIR") (λ n. bare room (only 0 5 n)) bytes (λ n r. next (room_behind room 0) (es ++ (path, Dir) ∷ []) r) got rest h in
+    let passes = bare_passes room (only 0 5 t.n) t.passes in
+    let zero_is : t.n ≡ 0 = only_passes 0 5 t.n passes.0 in
+    let long = token_length (codes "MDIR") 0 refl in
+    record {
+      e = Dir;
+      r = t.r;
+      is = t.is ∙ ap (λ (k : ℕ). token (codes "MDIR") k ++ t.r) zero_is;
+      node = tt;
+      small = omega (arith, long, passes.1);
+      then = ap (λ (k : ℕ). next (room - k) (es ++ (path, Dir) ∷ []) t.r) long ∙ t.then;
+    }
+
+file_read : (next : Onward) (room : ℕ) (es : Entries) (path : Path) (bytes : List ℕ) (got : Got) (rest : List ℕ) → file_then next room es path bytes ≡ taken got rest → NodeRead next room es path bytes got rest
+unfolding file_then file_body_then
+file_read next room es path bytes got rest h =
+    let t = token_read (codes "FILE") (fits room 0 16777216) bytes (λ n r. file_body_then next (room_behind room n) es path n r) got rest h in
+    let b = body_read t.n t.r (λ body r. next (room_behind room t.n) (es ++ (path, File body) ∷ []) r) got rest t.then in
+    let passes = fits_passes room 0 16777216 t.n t.passes in
+    let long = field_length (codes "FILE") b.body refl in
+    let same = b.long in
+    record {
+      e = File b.body;
+      r = b.r;
+      is = field_is (codes "FILE") bytes b.body t.r b.r t.n t.is b.is b.long;
+      node = omega (arith, same, passes.high_is);
+      small = omega (arith, long, same, passes.fits_is);
+      then = ap (λ (k : ℕ). next (room - k) (es ++ (path, File b.body) ∷ []) b.r) (long ∙ ap (λ (k : ℕ). 12 + k) same) ∙ b.then;
+    }
+
+link_read : (next : Onward) (room : ℕ) (es : Entries) (path : Path) (bytes : List ℕ) (got : Got) (rest : List ℕ) → link_then next room es path bytes ≡ taken got rest → NodeRead next room es path bytes got rest
+unfolding link_then target_then
+link_read next room es path bytes got rest h = by_text (list_any (λ c. c == 0) b.body) refl b.then
+  where
+    t : TokenRead (codes "LINK") (fits room 1 4095) bytes (λ n r. target_then next (room_behind room n) es path n r) got rest
+    t = token_read (codes "LINK") (fits room 1 4095) bytes (λ n r. target_then next (room_behind room n) es path n r) got rest h
+
+    b : BodyRead t.n t.r (λ text r. cond (list_any (λ c. c == 0) text) (refused 5) (next (room_behind room t.n) (es ++ (path, Link text) ∷ []) r)) got rest
+    b = body_read t.n t.r (λ text r. cond (list_any (λ c. c == 0) text) (refused 5) (next (room_behind room t.n) (es ++ (path, Link text) ∷ []) r)) got rest t.then
+
+    by_text : (z : Bool) → list_any (λ c. c == 0) b.body ≡ z → cond z (refused 5) (next (room_behind room t.n) (es ++ (path, Link b.body) ∷ []) b.r) ≡ taken got rest → NodeRead next room es path bytes got rest
+    by_text true e g = absurd (cc)
+    by_text false e g =
+        let passes = fits_passes room 1 4095 t.n t.passes in
+        let long = field_length (codes "LINK") b.body refl in
+        let same = b.long in
+        record {
+          e = Link b.body;
+          r = b.r;
+          is = field_is (codes "LINK") bytes b.body t.r b.r t.n t.is b.is b.long;
+          node = (omega (arith, same, passes.low_is), omega (arith, same, passes.high_is), e);
+          small = omega (arith, long, same, passes.fits_is);
+          then = ap (λ (k : ℕ). next (room - k) (es ++ (path, Link b.body) ∷ []) b.r) (long ∙ ap (λ (k : ℕ). 12 + k) same) ∙ g;
+        }
+
+node_read : (next : Onward) (room : ℕ) (es : Entries) (path : Path) (bytes : List ℕ) (got : Got) (rest : List ℕ) → node_then next room es path bytes ≡ taken got rest → NodeRead next room es path bytes got rest
+unfolding node_then
+node_read next room es path [] got rest h = absurd (cc)
+node_read next room es path (x ∷ bytes) got rest h = by_letter (x == 77) (x == 76) h
+  where
+    by_letter : (a b : Bool) → cond a (dir_then next room es path (x ∷ bytes)) (cond b (link_then next room es path (x ∷ bytes)) (file_then next room es path (x ∷ bytes))) ≡ taken got rest
+        → NodeRead next room es path (x ∷ bytes) got rest
+    by_letter true b g = dir_read next room es path (x ∷ bytes) got rest g
+    by_letter false true g = link_read next room es path (x ∷ bytes) got rest g
+    by_letter false false g = file_read next room es path (x ∷ bytes) got rest g
+
+record EntryRead (next : Onward) (room : ℕ) (es : Entries) (bytes : List ℕ) (got : Got) (rest : List ℕ) : Type 0 where
+  e : Path × Entry
+  r : List ℕ
+  is : bytes ≡ entry_bytes e ++ r
+  follows : MayFollow es (e ∷ [])
+  small : length (entry_bytes e) ≤ room
+  then : next (room - length (entry_bytes e)) (es ++ e ∷ []) r ≡ taken got rest
+
+entry_read : (next : Onward) (room : ℕ) (es : Entries) (bytes : List ℕ) (got : Got) (rest : List ℕ) → name_then next room es bytes ≡ taken got rest → EntryRead next room es bytes got rest
+unfolding name_then path_then
+entry_read next room es bytes got rest h = by_path (judged_path es b.body) refl b.then
+  where
+    t : TokenRead (codes "NAME") (fits room 2 4096) bytes (λ n r. path_then next (room_behind room n) es n r) got rest
+    t = token_read (codes "NAME") (fits room 2 4096) bytes (λ n r. path_then next (room_behind room n) es n r) got rest h
+
+    b : BodyRead t.n t.r (λ text r. judged_then next (room_behind room t.n) es (judged_path es text) r) got rest
+    b = body_read t.n t.r (λ text r. judged_then next (room_behind room t.n) es (judged_path es text) r) got rest t.then
+
+    by_path : (v : Result Path MirrorError) → judged_path es b.body ≡ v → judged_then next (room_behind room t.n) es v b.r ≡ taken got rest → EntryRead next room es bytes got rest
+    by_path (Err why) e g = absurd (cc)
+    by_path (Ok path) e g =
+        let m = node_read next (room_behind room t.n) es path b.r got rest g in
+        let spelling : spelled path ≡ b.body = path_spelled b.body path (judged_good es b.body path e).1 in
+        let size : length (spelled path) ≡ t.n = ap length spelling ∙ b.long in
+        let passes = fits_passes room 2 4096 t.n t.passes in
+        let name = field_length (codes "NAME") (spelled path) refl in
+        let whole = length-append (field (codes "NAME") (spelled path)) (node_bytes m.e) in
+        let fits_node = m.small in
+        let gone : (room - (12 + t.n)) - length (node_bytes m.e) ≡ room - length (entry_bytes (path, m.e)) = omega (arith, name, whole, size) in
+        record {
+          e = (path, m.e);
+          r = m.r;
+          is = field_is (codes "NAME") bytes b.body t.r b.r t.n t.is b.is b.long
+              ∙ ap (λ (x : List ℕ). field (codes "NAME") x ++ b.r) (sym spelling)
+              ∙ ap (λ (x : List ℕ). field (codes "NAME") (spelled path) ++ x) m.is
+              ∙ sym (append_assoc (field (codes "NAME") (spelled path)) (node_bytes m.e) m.r);
+          follows = ((ap (judged_path es) spelling ∙ e, omega (arith, size, passes.low_is), omega (arith, size, passes.high_is)), m.node, tt);
+          small = omega (arith, name, whole, size, passes.fits_is, fits_node);
+          then = ap (λ (k : ℕ). next k (es ++ (path, m.e) ∷ []) m.r) (sym gone) ∙ m.then;
+        }
+
+record EntriesRead (job : Option Job) (k room : ℕ) (es : Entries) (bytes : List ℕ) (got : Got) (rest : List ℕ) : Type 0 where
+  fs : Entries
+  got_is : got ≡ record { job = job; entries = es ++ fs }
+  count : length fs ≡ k
+  follow : MayFollow es fs
+  is : bytes ≡ flat_map entry_bytes fs ++ rest
+  small : length (flat_map entry_bytes fs) ≤ room
+
+entries_read : (job : Option Job) (k room : ℕ) (es : Entries) (bytes : List ℕ) (got : Got) (rest : List ℕ) → entries_from job k room es bytes ≡ taken got rest → EntriesRead job k room es bytes got rest
+unfolding entries_from
+entries_read job zero room es bytes got rest h =
+    let values : ◌≡◌ {A = Got} (record { job = job; entries = es }) got = cc in
+    record { fs = []; got_is = sym values ∙ ap (λ (x : Entries). record { job = job; entries = x }) (sym (append-nil es)); count = refl; follow = tt; is = cc; small = omega arith }
+entries_read job (suc k) room es bytes got rest h =
+    let m = entry_read (entries_from job k) room es bytes got rest h in
+    let more = entries_read job k (room - length (entry_bytes m.e)) (es ++ m.e ∷ []) m.r got rest m.then in
+    let counted = more.count in
+    let whole = length-append (entry_bytes m.e) (flat_map entry_bytes more.fs) in
+    let first = m.small in
+    let later = more.small in
+    record {
+      fs = m.e ∷ more.fs;
+      got_is = more.got_is ∙ ap (λ (x : Entries). record { job = job; entries = x }) (append_assoc es (m.e ∷ []) more.fs);
+      count = omega (arith, counted);
+      follow = (m.follows.0, m.follows.1, more.follow);
+      is = m.is ∙ ap (λ (x : List ℕ). entry_bytes m.e ++ x) more.is ∙ sym (append_assoc (entry_bytes m.e) (flat_map entry_bytes more.fs) rest);
+      small = omega (arith, whole, first, later);
+    }
+
+pub record ImageRead (job : Option Job) (room : ℕ) (bytes : List ℕ) (got : Got) (rest : List ℕ) : Type 0 where
+  pub es : Entries
+  pub got_is : got ≡ record { job = job; entries = es }
+  pub few : length es ≤ 100000
+  pub follow : MayFollow [] es
+  pub is : bytes ≡ image_bytes es ++ rest
+  pub small : length (image_bytes es) ≤ room
+
+pub image_spelled : (job : Option Job) (room : ℕ) (bytes : List ℕ) (got : Got) (rest : List ℕ) → image_from job room bytes ≡ taken got rest → ImageRead job room bytes got rest
+unfolding image_from image_bytes
+image_spelled job room bytes got rest h =
+    let t = token_read (codes "NFIL") (λ n. bare room (within 0 100000 n)) bytes (λ n r. entries_from job n (room_behind room 0) [] r) got rest h in
+    let passes = bare_passes room (within 0 100000 t.n) t.passes in
+    let m = entries_read job t.n (room_behind room 0) [] t.r got rest t.then in
+    let counted = m.count in
+    let long = token_length (codes "NFIL") (length m.fs) refl in
+    let whole = length-append (token (codes "NFIL") (length m.fs)) (flat_map entry_bytes m.fs) in
+    let later = m.small in
+    record {
+      es = m.fs;
+      got_is = m.got_is;
+      few = subst (λ k. k ≤ 100000) (sym m.count) (within_passes 100000 t.n passes.0);
+      follow = m.follow;
+      is = t.is ∙ ap (λ (k : ℕ). token (codes "NFIL") k ++ t.r) (sym counted) ∙ ap (λ (x : List ℕ). token (codes "NFIL") (length m.fs) ++ x) m.is
+          ∙ sym (append_assoc (token (codes "NFIL") (length m.fs)) (flat_map entry_bytes m.fs) rest);
+      small = omega (arith, long, whole, later, passes.1);
+    }
+
+-- what the words and all behind them were read from
+record WordsRead (k room : ℕ) (cwd : List ℕ) (before : List (List ℕ)) (bytes : List ℕ) (got : Got) (rest : List ℕ) : Type 0 where
+  words : List (List ℕ)
+  r : List ℕ
+  count : length words ≡ k
+  are : AreWords words
+  is : bytes ≡ flat_map (field (codes "ARGV")) words ++ r
+  small : length (flat_map (field (codes "ARGV")) words) ≤ room
+  then : with_job (job_of cwd (before ++ words)) (room - length (flat_map (field (codes "ARGV")) words)) r ≡ taken got rest
+
+words_read : (k room : ℕ) (cwd : List ℕ) (before : List (List ℕ)) (bytes : List ℕ) (got : Got) (rest : List ℕ) → words_from k room cwd before bytes ≡ taken got rest → WordsRead k room cwd before bytes got rest
+unfolding words_from word_then word_body_then
+words_read zero room cwd before bytes got rest h =
+    record {
+      words = [];
+      r = bytes;
+      count = refl;
+      are = tt;
+      is = refl;
+      small = omega arith;
+      then = ap (λ (ws : List (List ℕ)). with_job (job_of cwd ws) (room - 0) bytes) (append-nil before) ∙ ap (λ (n : ℕ). with_job (job_of cwd before) n bytes) (nothing_less room) ∙ h;
+    }
+  where
+    nothing_less : (n : ℕ) → n - 0 ≡ n
+    nothing_less n = omega arith
+words_read (suc k) room cwd before bytes got rest h =
+    let t = token_read (codes "ARGV") (fits room 1 4096) bytes (λ n r. word_body_then (words_from k) (room_behind room n) cwd before n r) got rest h in
+    let b = body_read t.n t.r (λ w r. words_from k (room_behind room t.n) cwd (before ++ w ∷ []) r) got rest t.then in
+    let passes = fits_passes room 1 4096 t.n t.passes in
+    let m = words_read k (room_behind room t.n) cwd (before ++ b.body ∷ []) b.r got rest b.then in
+    let counted = m.count in
+    let size = b.long in
+    let long = field_length (codes "ARGV") b.body refl in
+    let whole = length-append (field (codes "ARGV") b.body) (flat_map (field (codes "ARGV")) m.words) in
+    let later = m.small in
+    let gone : (room - (12 + t.n)) - length (flat_map (field (codes "ARGV")) m.words) ≡ room - length (flat_map (field (codes "ARGV")) (b.body ∷ m.words)) = omega (arith, long, whole, size) in
+    record {
+      words = b.body ∷ m.words;
+      r = m.r;
+      count = omega (arith, counted);
+      are = ((omega (arith, size, passes.low_is), omega (arith, size, passes.high_is)), m.are);
+      is = field_is (codes "ARGV") bytes b.body t.r b.r t.n t.is b.is b.long
+          ∙ ap (λ (x : List ℕ). field (codes "ARGV") b.body ++ x) m.is ∙ sym (append_assoc (field (codes "ARGV") b.body) (flat_map (field (codes "ARGV")) m.words) m.r);
+      small = omega (arith, long, whole, size, later, passes.fits_is);
+      then = ap (λ (k : ℕ). with_job (job_of cwd (before ++ b.body ∷ m.words)) k m.r) (sym gone)
+          ∙ ap (λ (ws : List (List ℕ)). with_job (job_of cwd ws) ((room - (12 + t.n)) - length (flat_map (field (codes "ARGV")) m.words)) m.r) (sym (append_assoc before (b.body ∷ []) m.words)) ∙ m.then;
+    }
+
+pub record RequestRead (bytes : List ℕ) (got : Got) (rest : List ℕ) : Type 0 where
+  pub job : Job
+  pub got_job : got.job ≡ Some job
+  pub request : IsRequest job got.entries
+  pub is : bytes ≡ request_bytes job got.entries ++ rest
+
+-- five parts one after another
+joined : (bytes d c a w i vr pr ar wr rest : List ℕ) → bytes ≡ d ++ vr → vr ≡ c ++ pr → pr ≡ a ++ ar → ar ≡ w ++ wr → wr ≡ i ++ rest → bytes ≡ (d ++ (c ++ (a ++ (w ++ i)))) ++ rest
+joined bytes d c a w i vr pr ar wr rest e1 e2 e3 e4 e5 =
+    e1 ∙ ap (λ (x : List ℕ). d ++ x) (e2 ∙ ap (λ (x : List ℕ). c ++ x) (e3 ∙ ap (λ (x : List ℕ). a ++ x) (e4 ∙ ap (λ (x : List ℕ). w ++ x) e5)))
+    ∙ sym (
+    append_assoc d (c ++ (a ++ (w ++ i))) rest
+    ∙ ap (λ (x : List ℕ). d ++ x) (append_assoc c (a ++ (w ++ i)) rest ∙ ap (λ (x : List ℕ). c ++ x) (append_assoc a (w ++ i) rest ∙ ap (λ (x : List ℕ). a ++ x) (append_assoc w i rest)))
+    )
+
+-- all parts of a request, put together
+assembled : (bytes cwd vr pr ar wr rest : List ℕ) (words : List (List ℕ)) (job : Job) (got : Got) → JobsKeepWords → job_of cwd words ≡ Some job
+    → bytes ≡ token (codes "DIST") 0x103 ++ vr → vr ≡ field (codes "CDIR") cwd ++ pr → InLimits (room_behind most 0) 1 4096 (length cwd)
+    → pr ≡ token (codes "ARGC") (length words) ++ ar → length words ≤ 1000 → 12 ≤ room_behind (room_behind most 0) (length cwd)
+    → ar ≡ flat_map (field (codes "ARGV")) words ++ wr → AreWords words → length (flat_map (field (codes "ARGV")) words) ≤ room_behind (room_behind (room_behind most 0) (length cwd)) 0
+    → ImageRead (Some job) (room_behind (room_behind (room_behind most 0) (length cwd)) 0 - length (flat_map (field (codes "ARGV")) words)) wr got rest
+    → RequestRead bytes got rest
+unfolding request_bytes
+assembled bytes cwd vr pr ar wr rest words job got keeps is_job e1 e2 limits e3 few room e4 are small_words m =
+    let parts = keeps cwd words job is_job in
+    let entries : got.entries ≡ m.es = ap (λ (g : Got). g.entries) m.got_is in
+    let version = token_length (codes "DIST") 0x103 refl in
+    let place = field_length (codes "CDIR") cwd refl in
+    let count = token_length (codes "ARGC") (length words) refl in
+    let ws = flat_map (field (codes "ARGV")) words in
+    let image = image_bytes m.es in
+    let l1 = length-append (token (codes "DIST") 0x103) (field (codes "CDIR") cwd ++ (token (codes "ARGC") (length words) ++ (ws ++ image))) in
+    let l2 = length-append (field (codes "CDIR") cwd) (token (codes "ARGC") (length words) ++ (ws ++ image)) in
+    let l3 = length-append (token (codes "ARGC") (length words)) (ws ++ image) in
+    let l4 = length-append ws image in
+    let inside = limits.fits_is in
+    let last = m.small in
+    let small : length (token (codes "DIST") 0x103 ++ (field (codes "CDIR") cwd ++ (token (codes "ARGC") (length words) ++ (ws ++ image)))) ≤ most = omega (arith, l1, l2, l3, l4, version, place, count, inside, room, small_words, last) in
+    let request : IsRequest job m.es =
+    record {
+      is_job = ap (λ (x : List ℕ). job_of x job.words) parts.0 ∙ ap (job_of cwd) parts.1 ∙ is_job;
+      place = subst (λ (x : List ℕ). (1 ≤ length x) × (length x ≤ 4096)) (sym parts.0) (limits.low_is, limits.high_is);
+      few_words = subst (λ (ws : List (List ℕ)). length ws ≤ 1000) (sym parts.1) few;
+      words = subst AreWords (sym parts.1) are;
+      few = m.few;
+      follow = m.follow;
+      small = subst (λ (k : ℕ). k ≤ most) (ap length (spelling parts.0 parts.1)) small;
+    } in
+    record {
+      job = job;
+      got_job = ap (λ (g : Got). g.job) m.got_is;
+      request = subst (λ (es : Entries). IsRequest job es) (sym entries) request;
+      is = joined bytes (token (codes "DIST") 0x103) (field (codes "CDIR") cwd) (token (codes "ARGC") (length words)) ws image vr pr ar wr rest e1 e2 e3 e4 m.is
+          ∙ ap (λ (x : List ℕ). x ++ rest) (spelling parts.0 parts.1) ∙ ap (λ (es : Entries). request_bytes job es ++ rest) (sym entries);
+    }
+  where
+    spelling : job.cwd ≡ cwd → job.words ≡ words
+        → (token (codes "DIST") 0x103 ++ (field (codes "CDIR") cwd ++ (token (codes "ARGC") (length words) ++ (flat_map (field (codes "ARGV")) words ++ image_bytes m.es)))) ≡ request_bytes job m.es
+    spelling c w = ap (λ (x : List ℕ). token (codes "DIST") 0x103 ++ (field (codes "CDIR") x ++ (token (codes "ARGC") (length words) ++ (flat_map (field (codes "ARGV")) words ++ image_bytes m.es)))) (sym c)
+        ∙ ap (λ (ws : List (List ℕ)). token (codes "DIST") 0x103 ++ (field (codes "CDIR") job.cwd ++ (token (codes "ARGC") (length ws) ++ (flat_map (field (codes "ARGV")) ws ++ image_bytes m.es)))) (sym w)
+
+pub request_spelled : JobsKeepWords → (bytes : List ℕ) (got : Got) (rest : List ℕ) → request_at bytes ≡ taken got rest → RequestRead bytes got rest
+unfolding request_from place_from place_body_from count_from request_bytes
+request_spelled keeps bytes got rest h = by_job (job_of p.body w.words) refl w.then
+  where
+    v : TokenRead (codes "DIST") (λ n. bare most (only 0x103 2 n)) bytes (λ n r. place_from (room_behind most 0) r) got rest
+    v = token_read (codes "DIST") (λ n. bare most (only 0x103 2 n)) bytes (λ n r. place_from (room_behind most 0) r) got rest h
+
+    t : TokenRead (codes "CDIR") (fits (room_behind most 0) 1 4096) v.r (λ n r. place_body_from (room_behind (room_behind most 0) n) n r) got rest
+    t = token_read (codes "CDIR") (fits (room_behind most 0) 1 4096) v.r (λ n r. place_body_from (room_behind (room_behind most 0) n) n r) got rest v.then
+
+    p : BodyRead t.n t.r (λ b r. count_from (room_behind (room_behind most 0) t.n) b r) got rest
+    p = body_read t.n t.r (λ b r. count_from (room_behind (room_behind most 0) t.n) b r) got rest t.then
+
+    a : TokenRead (codes "ARGC") (λ n. bare (room_behind (room_behind most 0) t.n) (within 0 1000 n)) p.r (λ n r. words_from n (room_behind (room_behind (room_behind most 0) t.n) 0) p.body [] r) got rest
+    a = token_read (codes "ARGC") (λ n. bare (room_behind (room_behind most 0) t.n) (within 0 1000 n)) p.r (λ n r. words_from n (room_behind (room_behind (room_behind most 0) t.n) 0) p.body [] r) got rest p.then
+
+    w : WordsRead a.n (room_behind (room_behind (room_behind most 0) t.n) 0) p.body [] a.r got rest
+    w = words_read a.n (room_behind (room_behind (room_behind most 0) t.n) 0) p.body [] a.r got rest a.then
+
+    by_job : (o : Option Job) → job_of p.body w.words ≡ o → with_job o (room_behind (room_behind (room_behind most 0) t.n) 0 - length (flat_map (field (codes "ARGV")) w.words)) w.r ≡ taken got rest → RequestRead bytes got rest
+    by_job None e g = absurd (cc)
+    by_job (Some job) e g =
+        let passes = bare_passes most (only 0x103 2 v.n) v.passes in
+        let version : v.n ≡ 0x103 = only_passes 0x103 2 v.n passes.0 in
+        let counts = bare_passes (room_behind (room_behind most 0) t.n) (within 0 1000 a.n) a.passes in
+        let limits = fits_passes (room_behind most 0) 1 4096 t.n t.passes in
+        let size = p.long in
+        let m = image_spelled (Some job) (room_behind (room_behind (room_behind most 0) t.n) 0 - length (flat_map (field (codes "ARGV")) w.words)) w.r got rest g in
+        assembled bytes p.body v.r p.r a.r w.r rest w.words job got keeps e
+        (v.is ∙ ap (λ (k : ℕ). token (codes "DIST") k ++ v.r) version)
+        (field_is (codes "CDIR") v.r p.body t.r p.r t.n t.is p.is p.long)
+        (subst (InLimits (room_behind most 0) 1 4096) (sym size) limits)
+        (a.is ∙ ap (λ (k : ℕ). token (codes "ARGC") k ++ a.r) (sym w.count))
+        (subst (λ (k : ℕ). k ≤ 1000) (sym w.count) (within_passes 1000 a.n counts.0))
+        (subst (λ (k : ℕ). 12 ≤ room_behind (room_behind most 0) k) (sym size) counts.1)
+        w.is w.are
+        (subst (λ (k : ℕ). length (flat_map (field (codes "ARGV")) w.words) ≤ room_behind (room_behind (room_behind most 0) k) 0) (sym size) w.small)
+        (subst (λ (k : ℕ). ImageRead (Some job) (room_behind (room_behind (room_behind most 0) k) 0 - length (flat_map (field (codes "ARGV")) w.words)) w.r got rest) (sym size) m)

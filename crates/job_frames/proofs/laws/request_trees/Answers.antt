@@ -1,0 +1,5 @@
+use Rattle.job_frames.proofs.TreeLemmas.{request_tree, tree_request, tree_written}
+use Rattle.job_frames.proofs.laws.request_trees.Goals as goal
+
+pub returns : goal.returns
+returns c = record { trees = request_tree; requests = tree_request; written = tree_written }

@@ -1,0 +1,108 @@
+-- Tokens and bodies. A token is four capital letters and eight lower hexadecimal digits. A prefix of a
+-- stream is read from its front: it may be too short yet, or be refused by a reason, or give a value and a rest.
+use Rattle.std.specs.Prelude.{ℕ, zero, suc, ◌+◌, ◌-◌, ◌*◌, ◌/◌, ◌%◌, ◌&&◌, List, [], ◌∷◌, ◌++◌, length, take, drop, if◌then◌else◌, nat_lt, nat_le, ◌==◌, Option, Some, None}
+
+-- what reading a value from the front of a prefix gives
+pub data Step (A : Type 0) : Type 0 where
+  short : Step A
+  refused : ℕ → Step A
+  taken : A → List ℕ → Step A
+
+-- read on, behind what was taken
+infixl 10 ◌>>=◌
+abbrev pub ◌>>=◌ : {A B : Type 0} → Step A → (A → List ℕ → Step B) → Step B
+short >>= next = short
+(refused n) >>= next = refused n
+(taken a rest) >>= next = next a rest
+
+-- the reasons 2 to 9
+abbrev pub version_reason : ℕ
+version_reason = 2
+
+abbrev pub letter_reason : ℕ
+letter_reason = 3
+
+abbrev pub digit_reason : ℕ
+digit_reason = 4
+
+abbrev pub limit_reason : ℕ
+limit_reason = 5
+
+abbrev pub order_reason : ℕ
+order_reason = 6
+
+abbrev pub parent_reason : ℕ
+parent_reason = 7
+
+abbrev pub words_reason : ℕ
+words_reason = 8
+
+-- the value of a lower hexadecimal digit
+unfoldable pub digit_of : ℕ → Option ℕ
+digit_of b =
+    if nat_le 48 b && nat_le b 57 then Some (b - 48)
+    else (if nat_le 97 b && nat_le b 102 then Some (b - 87) else None)
+
+-- these letters stand in front
+unfoldable pub letters_at : List ℕ → List ℕ → Step (Unit {0})
+letters_at [] bytes = taken tt bytes
+letters_at (c ∷ cs) [] = short
+letters_at (c ∷ cs) (b ∷ bs) = if b == c then letters_at cs bs else refused letter_reason
+
+-- this many digits stand in front; n is the value of those before them
+unfoldable pub digits_at : ℕ → ℕ → List ℕ → Step ℕ
+digits_at zero n bytes = taken n bytes
+digits_at (suc k) n [] = short
+digits_at (suc k) n (b ∷ bs) = elim (digit_of b) [ Some d ↦ digits_at k (16 * n + d) bs | None ↦ refused digit_reason ]
+
+-- a token stands in front
+unfoldable pub number_at : List ℕ → List ℕ → Step ℕ
+number_at letters bytes = letters_at letters bytes >>= λ u after. digits_at 8 0 after
+
+-- the judge lets a number pass, or refuses it by a reason
+abbrev pub judged : Option ℕ → ℕ → List ℕ → Step ℕ
+judged None n rest = taken n rest
+judged (Some why) n rest = refused why
+
+-- a token stands in front, whose number the judge lets pass
+abbrev pub token_at : List ℕ → (ℕ → Option ℕ) → List ℕ → Step ℕ
+token_at letters judge bytes = number_at letters bytes >>= λ n rest. judged (judge n) n rest
+
+-- a body of this length stands in front
+unfoldable pub body_at : ℕ → List ℕ → Step (List ℕ)
+body_at n bytes = if nat_lt (length bytes) n then short else taken (take n bytes) (drop n bytes)
+
+-- the spelling of a digit, of the last k digits of a number, and of a token
+abbrev pub digit : ℕ → ℕ
+digit d = if nat_lt d 10 then 48 + d else 87 + d
+
+unfoldable pub digits : ℕ → ℕ → List ℕ
+digits zero n = []
+digits (suc k) n = digits k (n / 16) ++ (digit (n % 16) ∷ [])
+
+abbrev pub token : List ℕ → ℕ → List ℕ
+token letters n = letters ++ digits 8 n
+
+-- a token with a body
+abbrev pub field : List ℕ → List ℕ → List ℕ
+field letters body = token letters (length body) ++ body
+
+-- judges
+abbrev pub within : ℕ → ℕ → ℕ → Option ℕ
+within low high n = if nat_le low n && nat_le n high then None else Some limit_reason
+
+-- a judge of a token in a room: so many bytes may follow, the twelve of the token and its body included
+abbrev pub fits : ℕ → ℕ → ℕ → ℕ → Option ℕ
+fits room low high n = if nat_le low n && (nat_le n high && nat_le (12 + n) room) then None else Some limit_reason
+
+-- the same for a token without a body
+abbrev pub bare : ℕ → Option ℕ → Option ℕ
+bare room (Some why) = Some why
+bare room None = if nat_le 12 room then None else Some limit_reason
+
+-- what is left of a room behind a token and a body of this length
+abbrev pub room_behind : ℕ → ℕ → ℕ
+room_behind room n = room - (12 + n)
+
+abbrev pub only : ℕ → ℕ → ℕ → Option ℕ
+only wanted why n = if n == wanted then None else Some why

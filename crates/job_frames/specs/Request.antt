@@ -1,0 +1,190 @@
+-- Requests: their one spelling, and the reading, from its last field to its first.
+use Rattle.std.specs.Prelude.{◌≡◌, ℕ, zero, suc, ◌≤◌, false, List, [], ◌∷◌, ◌++◌, length, if◌then◌else◌, ◌==◌, Option, Some, None, codes, Result, Ok, Err, IsTrue}
+use Rattle.std.specs.List.{list_any, flat_map, AllByRecursion}
+use Rattle.tree_model.specs.Paths.{Text, Path, spelled}
+use Rattle.tree_model.specs.Entries.{Entries, judged_path, makes_tree}
+use Rattle.tree_model.specs.declared.entry.Entry.{Entry}
+use Rattle.tree_model.specs.declared.entry.Entry.TheVariants.{Dir, File, Link}
+use Rattle.tree_model.specs.declared.mem_tree.MirrorError.{MirrorError}
+use Rattle.tree_model.specs.declared.mem_tree.MirrorError.TheVariants as mirror
+use Rattle.job_words.specs.declared.job.Job.{Job}
+use Rattle.job_words.specs.Words.{job_of}
+use Rattle.job_frames.specs.Fields.{Step, short, refused, taken, ◌>>=◌, version_reason, limit_reason, order_reason, parent_reason, words_reason, token_at, body_at, token, field, within, only, fits, bare, room_behind}
+
+-- the spelling of a node, of an entry, and of all entries
+abbrev pub node_bytes : Entry → Text
+node_bytes Dir = token (codes "MDIR") 0
+node_bytes (File body) = field (codes "FILE") body
+node_bytes (Link text) = field (codes "LINK") text
+
+abbrev pub entry_bytes : Path × Entry → Text
+entry_bytes e = field (codes "NAME") (spelled e.0) ++ node_bytes e.1
+
+unfoldable pub image_bytes : Entries → Text
+image_bytes es = token (codes "NFIL") (length es) ++ flat_map entry_bytes es
+
+-- the one spelling of a request
+unfoldable pub request_bytes : Job → Entries → Text
+request_bytes job es =
+    token (codes "DIST") 0x103 ++ (field (codes "CDIR") job.cwd ++ (token (codes "ARGC") (length job.words)
+    ++ (flat_map (field (codes "ARGV")) job.words ++ image_bytes es)))
+
+-- how many bytes a request may have
+abbrev pub most : ℕ
+most = 268435456
+
+-- what is read: a job, where words were read before, and the entries
+pub record Got : Type 0 where
+  pub job : Option Job
+  pub entries : Entries
+
+-- what is read behind an entry, in the room left, with the entries so far
+abbrev pub Onward : Type 0
+Onward = ℕ → Entries → Text → Step Got
+
+-- behind a path, where there is one
+abbrev pub at_path : Option Path → (Path → Step Got) → Step Got
+at_path None next = refused parent_reason
+at_path (Some path) next = next path
+
+unfoldable pub made_then : Onward → ℕ → Entries → Path → Text → Step Got
+made_then next room es path bytes = next room (es ++ (path, Dir) ∷ []) bytes
+
+unfoldable pub dir_then : Onward → ℕ → Entries → Path → Text → Step Got
+dir_then next room es path bytes = token_at (codes "MDIR") (λ n. bare room (only 0 limit_reason n)) bytes >>= λ n rest. made_then next (room_behind room 0) es path rest
+
+-- a link's text has no byte 0
+unfoldable pub target_then : Onward → ℕ → Entries → Path → ℕ → Text → Step Got
+target_then next room es path n bytes =
+    body_at n bytes >>= λ text rest. if list_any (λ c. c == 0) text then refused limit_reason else next room (es ++ (path, Link text) ∷ []) rest
+
+unfoldable pub link_then : Onward → ℕ → Entries → Path → Text → Step Got
+link_then next room es path bytes = token_at (codes "LINK") (fits room 1 4095) bytes >>= λ n rest. target_then next (room_behind room n) es path n rest
+
+unfoldable pub file_body_then : Onward → ℕ → Entries → Path → ℕ → Text → Step Got
+file_body_then next room es path n bytes = body_at n bytes >>= λ body rest. next room (es ++ (path, File body) ∷ []) rest
+
+unfoldable pub file_then : Onward → ℕ → Entries → Path → Text → Step Got
+file_then next room es path bytes = token_at (codes "FILE") (fits room 0 16777216) bytes >>= λ n rest. file_body_then next (room_behind room n) es path n rest
+
+-- the first letter of a node's token tells which one is due
+unfoldable pub node_then : Onward → ℕ → Entries → Path → Text → Step Got
+node_then next room es path [] = short
+node_then next room es path (b ∷ bytes) =
+    if b == 77 then dir_then next room es path (b ∷ bytes)
+    else (if b == 76 then link_then next room es path (b ∷ bytes) else file_then next room es path (b ∷ bytes))
+
+-- the reason of a path that may not stand where it stands
+abbrev pub path_reason : MirrorError → ℕ
+path_reason mirror.Order = order_reason
+path_reason mirror.Parent = parent_reason
+
+abbrev pub judged_then : Onward → ℕ → Entries → Result Path MirrorError → Text → Step Got
+judged_then next room es (Err why) bytes = refused (path_reason why)
+judged_then next room es (Ok path) bytes = node_then next room es path bytes
+
+unfoldable pub path_then : Onward → ℕ → Entries → ℕ → Text → Step Got
+path_then next room es n bytes = body_at n bytes >>= λ text rest. judged_then next room es (judged_path es text) rest
+
+unfoldable pub name_then : Onward → ℕ → Entries → Text → Step Got
+name_then next room es bytes = token_at (codes "NAME") (fits room 2 4096) bytes >>= λ n rest. path_then next (room_behind room n) es n rest
+
+-- this many entries, behind those so far
+unfoldable pub entries_from : Option Job → ℕ → Onward
+entries_from job zero room es bytes = taken (record { job = job; entries = es }) bytes
+entries_from job (suc k) room es bytes = name_then (entries_from job k) room es bytes
+
+-- the entries behind a job
+unfoldable pub image_from : Option Job → ℕ → Text → Step Got
+image_from job room bytes = token_at (codes "NFIL") (λ n. bare room (within 0 100000 n)) bytes >>= λ n rest. entries_from job n (room_behind room 0) [] rest
+
+-- the words are judged behind the last of them
+abbrev pub with_job : Option Job → ℕ → Text → Step Got
+with_job None room bytes = refused words_reason
+with_job (Some job) room bytes = image_from (Some job) room bytes
+
+-- what is read behind a word, in the room left, with the words so far
+abbrev pub WordsOnward : Type 0
+WordsOnward = ℕ → Text → List Text → Text → Step Got
+
+unfoldable pub word_body_then : WordsOnward → ℕ → Text → List Text → ℕ → Text → Step Got
+word_body_then next room cwd words n bytes = body_at n bytes >>= λ word rest. next room cwd (words ++ word ∷ []) rest
+
+unfoldable pub word_then : WordsOnward → ℕ → Text → List Text → Text → Step Got
+word_then next room cwd words bytes = token_at (codes "ARGV") (fits room 1 4096) bytes >>= λ n rest. word_body_then next (room_behind room n) cwd words n rest
+
+-- this many words, behind those so far
+unfoldable pub words_from : ℕ → WordsOnward
+words_from zero room cwd words bytes = with_job (job_of cwd words) room bytes
+words_from (suc k) room cwd words bytes = word_then (words_from k) room cwd words bytes
+
+unfoldable pub count_from : ℕ → Text → Text → Step Got
+count_from room cwd bytes = token_at (codes "ARGC") (λ n. bare room (within 0 1000 n)) bytes >>= λ n rest. words_from n (room_behind room 0) cwd [] rest
+
+unfoldable pub place_body_from : ℕ → ℕ → Text → Step Got
+place_body_from room n bytes = body_at n bytes >>= λ cwd rest. count_from room cwd rest
+
+unfoldable pub place_from : ℕ → Text → Step Got
+place_from room bytes = token_at (codes "CDIR") (fits room 1 4096) bytes >>= λ n rest. place_body_from (room_behind room n) n rest
+
+-- a request at the front of a text
+unfoldable pub request_from : ℕ → Text → Step Got
+request_from room bytes = token_at (codes "DIST") (λ n. bare room (only 0x103 version_reason n)) bytes >>= λ n rest. place_from (room_behind room 0) rest
+
+abbrev pub request_at : Text → Step Got
+request_at bytes = request_from most bytes
+
+-- WHAT HAS A SPELLING
+
+abbrev pub IsNode : Entry → Type 0
+IsNode Dir = Unit {0}
+IsNode (File body) = length body ≤ 16777216
+IsNode (Link text) = (1 ≤ length text) × (length text ≤ 4095) × (list_any (λ c. c == 0) text ≡ false)
+
+-- entries may stand behind others, one after another
+abbrev pub MayFollow : Entries → Entries → Type 0
+MayFollow before [] = Unit {0}
+MayFollow before (e ∷ es) =
+    ((judged_path before (spelled e.0) ≡ Ok e.0) × (2 ≤ length (spelled e.0)) × (length (spelled e.0) ≤ 4096)) × IsNode e.1 × MayFollow (before ++ e ∷ []) es
+
+-- a compile word
+abbrev pub IsWord : Text → Type 0
+IsWord word = (1 ≤ length word) × (length word ≤ 4096)
+
+abbrev pub AreWords : List Text → Type 0
+AreWords words = AllByRecursion IsWord words
+
+-- what a request may be: a job that is the reading of its own working directory and words, entries that may stand one
+-- behind another, and a spelling within the room
+pub record IsRequest (job : Job) (es : Entries) : Type 0 where
+  pub is_job : job_of job.cwd job.words ≡ Some job
+  pub place : (1 ≤ length job.cwd) × (length job.cwd ≤ 4096)
+  pub few_words : length job.words ≤ 1000
+  pub words : AreWords job.words
+  pub few : length es ≤ 100000
+  pub follow : MayFollow [] es
+  pub small : length (request_bytes job es) ≤ most
+
+-- a body within the limit of a file
+abbrev pub IsSmall : Entry → Type 0
+IsSmall Dir = Unit {0}
+IsSmall (File body) = length body ≤ 16777216
+IsSmall (Link text) = Unit {0}
+
+-- a job and a list of entries that makes a tree, each part within the limits of a request
+pub record FitsRequest (job : Job) (es : Entries) : Type 0 where
+  pub is_job : job_of job.cwd job.words ≡ Some job
+  pub place : (1 ≤ length job.cwd) × (length job.cwd ≤ 4096)
+  pub few_words : length job.words ≤ 1000
+  pub words : AreWords job.words
+  pub tree : IsTrue (makes_tree es)
+  pub few : length es ≤ 100000
+  pub bodies : AllByRecursion (λ e. IsSmall e.1) es
+
+-- an entry whose path and node have spellings
+abbrev pub HasSpelling : Path × Entry → Type 0
+HasSpelling e = (length (spelled e.0) ≤ 4096) × IsNode e.1
+
+-- the spelling of words
+abbrev pub words_bytes : List Text → Text
+words_bytes words = token (codes "ARGC") (length words) ++ flat_map (field (codes "ARGV")) words

@@ -1,0 +1,93 @@
+// Replies against bytes that were written by hand.
+use crate::{Answer, reply_of, write_reply};
+use base_types::Bytes;
+use std::alloc::{AllocError, Global};
+use std::test::Fail;
+
+// An answer's kind and its content, or the digit of its reason.
+fn shown(alloc: Global, answer: Option<Answer>) -> Result<(char, Bytes), AllocError> {
+    match answer {
+        None => Ok(('-', Bytes::new(alloc))),
+        Some(Answer::Text(text)) => Ok(('t', text)),
+        Some(Answer::Diag(words)) => Ok(('d', words)),
+        Some(Answer::Refused(n)) => Ok(('r', Bytes::copy_of(alloc, [n].as_slice())?)),
+    }
+}
+
+#[test]
+fn replies_are_written(rt: HostRuntime) -> Result<(), Fail> {
+    let alloc = rt.alloc();
+    let text = Answer::Text(Bytes::copy_of(alloc, b"abc".as_slice())?);
+    let diagnostic = Answer::Diag(Bytes::copy_of(alloc, b"abc".as_slice())?);
+    assert_eq!(rt;
+        write_reply(alloc, &text)?.as_slice(),
+        b"DONE00000103STAT00000000SERR00000000DOTI00000003abc".as_slice()
+    );
+    assert_eq!(rt;
+        write_reply(alloc, &diagnostic)?.as_slice(),
+        b"DONE00000103STAT00000100SERR00000003abcDOTI00000000".as_slice()
+    );
+    assert_eq!(rt;
+        write_reply(alloc, &Answer::Refused(9))?.as_slice(),
+        b"RFSE00000009".as_slice()
+    );
+    Ok(())
+}
+
+#[test]
+fn whole_replies_are_read(rt: HostRuntime) -> Result<(), Fail> {
+    let alloc = rt.alloc();
+    let rows = [
+        (
+            b"DONE00000103STAT00000000SERR00000000DOTI00000003abc".as_slice(),
+            't',
+            b"abc".as_slice(),
+        ),
+        (
+            b"DONE00000103STAT00000000SERR00000000DOTI00000000".as_slice(),
+            't',
+            b"".as_slice(),
+        ),
+        (
+            b"DONE00000103STAT00000100SERR00000003abcDOTI00000000".as_slice(),
+            'd',
+            b"abc".as_slice(),
+        ),
+        (b"RFSE00000009".as_slice(), 'r', [9].as_slice()),
+        (
+            b"DONE00000103STAT00000000SERR00000000DOTI00000003ab".as_slice(),
+            '-',
+            b"".as_slice(),
+        ),
+        (
+            b"DONE00000103STAT00000000SERR00000000DOTI00000003abcd".as_slice(),
+            '-',
+            b"".as_slice(),
+        ),
+        (
+            b"DONE00000103STAT00000100SERR00000003abDOTI00000000".as_slice(),
+            '-',
+            b"".as_slice(),
+        ),
+        (
+            b"DONE00000103STAT00000100SERR00000003abcDOTI000000000".as_slice(),
+            '-',
+            b"".as_slice(),
+        ),
+        (
+            b"DONE00000103STAT00000100SERR00000000DOTI00000000".as_slice(),
+            '-',
+            b"".as_slice(),
+        ),
+        (b"RFSE00000000".as_slice(), '-', b"".as_slice()),
+        (b"RFSE0000000a".as_slice(), '-', b"".as_slice()),
+        (b"RFSE0000000".as_slice(), '-', b"".as_slice()),
+        (b"".as_slice(), '-', b"".as_slice()),
+    ];
+    for (bytes, kind, content) in rows {
+        let (is, holds) = shown(alloc, reply_of(alloc, bytes)?)?;
+        assert_eq!(rt; is, kind);
+        assert_eq!(rt; holds.as_slice(), content);
+    }
+    Ok(())
+}

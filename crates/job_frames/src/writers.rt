@@ -1,0 +1,161 @@
+// Writing requests and replies.
+ghost use Rattle.std.specs.Prelude.{◌≡◌, ◌≤◌, ◌<◌, ◌++◌, length, IfOk, OnOk, All};
+ghost use Rattle.job_frames.specs.Fields.{digit, digits, token, field};
+ghost use Rattle.job_frames.specs.declared.answer.Answer.TheVariants as answer;
+ghost use Rattle.job_frames.specs.Reply.{IsAnswer, reply_bytes};
+ghost use Rattle.job_frames.specs.Request.{entry_bytes, node_bytes, image_bytes, request_bytes, IsNode, HasSpelling, words_bytes};
+
+use crate::Answer;
+use base_types::Bytes;
+use job_words::Job;
+use std::alloc::{AllocError, Global};
+use tree_model::{CanonPath, Entry};
+
+// A lower hexadecimal digit.
+#[tactic(auto, using(std::proofs::lemmas::Bool::Decides::nat_tests))]
+fn digit_byte(d: u32) -> u8
+    requires { d < 16 }
+    ensures { result ≡ digit d }
+{
+    if d < 10 { 48 + d as u8 } else { 87 + d as u8 }
+}
+
+// The eight digits of a number.
+pub fn eight_digits(n: u32) -> [u8; 8]
+    ensures { result ≡ digits 8 n }
+{
+    let mut bytes = [0u8; 8];
+    let mut rest = n;
+    for i in 0..8usize {
+        bytes[7 - i] = digit_byte(rest % 16);
+        rest /= 16;
+    }
+    bytes
+}
+
+// Appends a token.
+fn push_token(out: &mut Vec<u8>, letters: &[u8], n: u32) -> Result<(), AllocError>
+    ensures { OnOk result (out.new.items ≡ out.old.items ++ token letters.now n) }
+{
+    out.extend_from_slice(letters)?;
+    let bytes = eight_digits(n);
+    out.extend_from_slice(&bytes)?;
+    Ok(())
+}
+
+// Appends a token and its body.
+fn push_field(out: &mut Vec<u8>, letters: &[u8], body: &[u8]) -> Result<(), AllocError>
+    requires { length body.now ≤ 67108864 }
+    ensures { OnOk result (out.new.items ≡ out.old.items ++ field letters.now body.now) }
+{
+    push_token(out, letters, body.len() as u32)?;
+    out.extend_from_slice(body)?;
+    Ok(())
+}
+
+// Appends a node.
+fn push_node(out: &mut Vec<u8>, node: &Entry) -> Result<(), AllocError>
+    requires { IsNode node.now }
+    ensures { OnOk result (out.new.items ≡ out.old.items ++ node_bytes node.now) }
+{
+    match node {
+        Entry::Dir => push_token(out, b"MDIR", 0),
+        Entry::File(body) => push_field(out, b"FILE", body.as_slice()),
+        Entry::Link(text) => push_field(out, b"LINK", text.as_slice()),
+    }
+}
+
+// Appends the entries.
+fn push_entries(out: &mut Vec<u8>, entries: &[(CanonPath, Entry)]) -> Result<(), AllocError>
+    requires few { length entries.now ≤ 100000 }
+    requires fit { All HasSpelling entries.now }
+    ensures { OnOk result (out.new.items ≡ out.old.items ++ image_bytes entries.now) }
+{
+    push_token(out, b"NFIL", entries.len() as u32)?;
+    for e in entries {
+        push_field(out, b"NAME", e.0.bytes())?;
+        push_node(out, &e.1)?;
+    }
+    Ok(())
+}
+
+/// The request of a job with entries.
+pub fn write_request(
+    alloc: Global,
+    job: &Job,
+    entries: &[(CanonPath, Entry)],
+) -> Result<Bytes, AllocError>
+    requires place { length job.now.cwd ≤ 4096 }
+    requires few_words { length job.now.words ≤ 1000 }
+    requires words { All (λ word. length word ≤ 4096) job.now.words }
+    requires few { length entries.now ≤ 100000 }
+    requires fit { All HasSpelling entries.now }
+    ensures { IfOk result (λ bytes. bytes ≡ request_bytes job.now entries.now) }
+{
+    let mut out = Vec::new(alloc);
+    push_token(&mut out, b"DIST", 0x103)?;
+    push_field(&mut out, b"CDIR", job.cwd.as_slice())?;
+    push_words(&mut out, job.words.as_slice())?;
+    push_entries(&mut out, entries)?;
+    Ok(Bytes::of(out))
+}
+
+// Appends words.
+fn push_words(out: &mut Vec<u8>, words: &[Bytes]) -> Result<(), AllocError>
+    requires few { length words.now ≤ 1000 }
+    requires fit { All (λ word. length word ≤ 4096) words.now }
+    ensures { OnOk result (out.new.items ≡ out.old.items ++ words_bytes words.now) }
+{
+    push_token(out, b"ARGC", words.len() as u32)?;
+    for w in words {
+        push_field(out, b"ARGV", w.as_slice())?;
+    }
+    Ok(())
+}
+
+// Appends the reply that says a text.
+fn push_text(out: &mut Vec<u8>, text: &[u8]) -> Result<(), AllocError>
+    requires { length text.now ≤ 67108864 }
+    ensures { OnOk result (out.new.items ≡ out.old.items ++ reply_bytes (answer.Text text.now)) }
+{
+    push_token(out, b"DONE", 0x103)?;
+    push_token(out, b"STAT", 0)?;
+    push_token(out, b"SERR", 0)?;
+    push_field(out, b"DOTI", text)?;
+    Ok(())
+}
+
+// Appends the reply that says a diagnostic.
+fn push_diagnostic(out: &mut Vec<u8>, words: &[u8]) -> Result<(), AllocError>
+    requires { length words.now ≤ 65536 }
+    ensures { OnOk result (out.new.items ≡ out.old.items ++ reply_bytes (answer.Diag words.now)) }
+{
+    push_token(out, b"DONE", 0x103)?;
+    push_token(out, b"STAT", 0x100)?;
+    push_field(out, b"SERR", words)?;
+    push_token(out, b"DOTI", 0)?;
+    Ok(())
+}
+
+// Appends a reply.
+#[tactic(auto, unfolding(crate::specs::Reply::reply_bytes))]
+fn push_reply(out: &mut Vec<u8>, answer: &Answer) -> Result<(), AllocError>
+    requires { IsAnswer answer.now }
+    ensures { OnOk result (out.new.items ≡ out.old.items ++ reply_bytes answer.now) }
+{
+    match answer {
+        Answer::Text(text) => push_text(out, text.as_slice()),
+        Answer::Diag(words) => push_diagnostic(out, words.as_slice()),
+        Answer::Refused(n) => push_token(out, b"RFSE", *n as u32),
+    }
+}
+
+/// The reply that says an answer.
+pub fn write_reply(alloc: Global, answer: &Answer) -> Result<Bytes, AllocError>
+    requires { IsAnswer answer.now }
+    ensures { IfOk result (λ bytes. bytes ≡ reply_bytes answer.now) }
+{
+    let mut out = Vec::new(alloc);
+    push_reply(&mut out, answer)?;
+    Ok(Bytes::of(out))
+}

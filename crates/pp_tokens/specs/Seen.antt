@@ -1,0 +1,28 @@
+-- What a lexed file's fields show: the tokens of all lines in one list of places, and for each line the number of
+-- places up to its end.
+use Rattle.std.specs.Prelude.{ℕ, ◌+◌, ◌-◌, ◌≤◌, List, [], ◌∷◌, length, map, take, drop, Option}
+use Rattle.pp_tokens.specs.declared.lexer.Place.{Place}
+use Rattle.pp_tokens.specs.declared.token.Token.{Token}
+use Rattle.pp_tokens.specs.Lines.{LexedFile}
+
+-- the token at a place of the text
+abbrev pub token_at : List ℕ → Place → Token
+token_at text p = record { kind = p.kind; text = take p.length (drop p.start text); line = p.line; space = p.space }
+
+-- the lines, of which the first begins at the place with this number
+unfoldable pub seen_lines : List ℕ → List Place → ℕ → List ℕ → List (List Token)
+seen_lines text places from [] = []
+seen_lines text places from (end ∷ ends) = map (token_at text) (take (end - from) (drop from places)) ∷ seen_lines text places end ends
+
+abbrev pub seen_file : List ℕ → List Place → List ℕ → Option ℕ → LexedFile
+seen_file text places ends unended = record { lines = seen_lines text places 0 ends; unended = unended }
+
+-- each line ends no earlier than the one before it, and none behind the last place
+unfoldable pub Ascends : ℕ → List ℕ → ℕ → Type 0
+Ascends from [] last = from ≤ last
+Ascends from (end ∷ ends) last = (from ≤ end) × Ascends end ends last
+
+-- each place lies within the text
+unfoldable pub EachWithin : List ℕ → List Place → Type 0
+EachWithin text [] = Unit {0}
+EachWithin text (p ∷ ps) = (p.start + p.length ≤ length text) × EachWithin text ps

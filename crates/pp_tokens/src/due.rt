@@ -1,0 +1,88 @@
+// Whether a header name is due behind the tokens of a logical line so far (ISO C 6.4.7, 6.10.1, 6.10.2).
+ghost use Rattle.std.specs.Prelude.{◌≡◌};
+ghost use Rattle.pp_tokens.specs.Text.{after_word, is_due};
+
+/// What stands on a logical line so far.
+#[derive(Clone, Copy, Debug, PartialEq, Eq, Drop)]
+pub enum Before {
+    /// No token.
+    Nothing,
+    /// `#` or `%:` alone.
+    Hash,
+    /// That and `include` or `include_next`.
+    Include,
+    /// An `if` or `elif` directive.
+    Condition,
+    /// One that ends with `__has_include`.
+    Probe,
+    /// One that ends with `__has_include (`.
+    Probed,
+    /// Anything else.
+    Other,
+}
+
+pub fn is_due(before: Before) -> bool
+    ensures { result ≡ is_due before }
+{
+    match before {
+        Before::Include | Before::Probed => true,
+        _ => false,
+    }
+}
+
+#[tactic(auto, unfolding(crate::specs::Text::after_word))]
+/// What stands there with one more token, of this spelling.
+pub fn after_word(before: Before, word: &[u8]) -> Before
+    ensures { result ≡ after_word before word.now }
+{
+    match before {
+        Before::Nothing => after_nothing(word),
+        Before::Hash => after_hash(word),
+        Before::Include => Before::Other,
+        Before::Condition => after_condition(word),
+        Before::Probe => {
+            if word == b"(".as_slice() {
+                Before::Probed
+            } else {
+                after_condition(word)
+            }
+        }
+        Before::Probed => after_condition(word),
+        Before::Other => Before::Other,
+    }
+}
+
+#[tactic(auto, unfolding(crate::specs::Text::after_word))]
+fn after_nothing(word: &[u8]) -> Before
+    ensures { result ≡ after_word Before.Nothing word.now }
+{
+    if word == b"#".as_slice() || word == b"%:".as_slice() {
+        Before::Hash
+    } else {
+        Before::Other
+    }
+}
+
+#[tactic(auto, unfolding(crate::specs::Text::after_word))]
+fn after_hash(word: &[u8]) -> Before
+    ensures { result ≡ after_word Before.Hash word.now }
+{
+    if word == b"include".as_slice() || word == b"include_next".as_slice() {
+        Before::Include
+    } else if word == b"if".as_slice() || word == b"elif".as_slice() {
+        Before::Condition
+    } else {
+        Before::Other
+    }
+}
+
+#[tactic(auto, unfolding(crate::specs::Text::after_word))]
+fn after_condition(word: &[u8]) -> Before
+    ensures { result ≡ after_word Before.Condition word.now }
+{
+    if word == b"__has_include".as_slice() {
+        Before::Probe
+    } else {
+        Before::Condition
+    }
+}
