@@ -5,7 +5,7 @@ use Rattle.std.specs.List.{list_any, filter_map}
 use Rattle.base_types.specs.Members.{Member}
 use Rattle.tree_model.specs.Paths.{Text, Path, parent, IsAtOrAbove}
 use Rattle.tree_model.specs.Entries.{Entries, Increasing}
-use Rattle.tree_model.specs.Trees.{FileTree, entry_at}
+use Rattle.tree_model.specs.Trees.{FileTree, entry_at, IsTooLarge}
 use Rattle.tree_model.specs.Walk.{locate}
 use Rattle.tree_model.specs.declared.walk.Located.{Located}
 use Rattle.tree_model.specs.declared.entry.Entry.{Entry}
@@ -78,14 +78,15 @@ abbrev pub is_unbuilt : FileTree → Option Located → Bool
 is_unbuilt tree None = false
 is_unbuilt tree (Some located) = not (is_simple (body_found tree located)) || list_any (λ other. not (is_flat (body_found tree other))) (targets_of tree located)
 
--- when a refusal holds of a job. `Request`: there are more than 100,000 entries, or their request has more than
--- 268,435,456 bytes. The refusals of macros, of many visits and of large files hold of no job so far.
+-- when a refusal holds of a job. `Large`: a file among the nodes has more than 16,777,216 bytes. `Request`: there are more
+-- than 100,000 entries, or their request has more than 268,435,456 bytes. The refusals of macros and of many visits hold
+-- of no job so far.
 abbrev pub Holds : Refusal → FileTree → Job → ℕ → Type 0
 Holds refusal.Budget tree job budget = ⊥
 Holds refusal.Long tree job budget = ⊥
 Holds refusal.Presumed tree job budget = ⊥
 Holds refusal.Visits tree job budget = ⊥
-Holds refusal.Large tree job budget = ⊥
+Holds refusal.Large tree job budget = (path : Path) × IsNodeOf tree job path × IsTooLarge tree path
 Holds refusal.Request tree job budget =
     (entries : Entries) × AreEntriesOf tree job entries × ((100000 < length entries) ⊎ (most < length (request_bytes job entries)))
 Holds refusal.NoSource tree job budget = source_of tree job ≡ None

@@ -1,5 +1,5 @@
 -- The text of a report, and how a run of pump may end.
-use Rattle.std.specs.Prelude.{◌≡◌, ℕ, ◌-◌, ◌+◌, List, [], ◌∷◌, ◌++◌, length, codes, Bool, true, false, not}
+use Rattle.std.specs.Prelude.{◌≡◌, ℕ, ◌-◌, ◌+◌, List, [], ◌∷◌, ◌++◌, length, map, codes, Bool, true, false, not}
 use Rattle.std.specs.List.{flat_map, count_by}
 use Rattle.std.specs.Fmt.{decimal}
 use Rattle.build_clients.specs.declared.record.Done.{Done}
@@ -62,8 +62,9 @@ after_text end.TreeFault = []
 after_text end.OutFault = []
 after_text end.Memory = []
 
-abbrev pub job_text : Work → List ℕ
-job_text w = codes "job " ++ decimal w.done.job ++ codes " " ++ outcome_text w.done.outcome ++ codes " " ++ way_text w.done.way ++ 10 ∷ [] ++ after_text w.done.outcome
+-- the lines of a job
+unfoldable pub job_text : Done → List ℕ
+job_text done = codes "job " ++ (decimal done.job ++ (codes " " ++ (outcome_text done.outcome ++ (codes " " ++ (way_text done.way ++ (10 ∷ after_text done.outcome))))))
 
 abbrev pub is_remote : Way → Bool
 is_remote Remote = true
@@ -80,15 +81,17 @@ is_local Remote = false
 is_local (Local cause) = true
 is_local Broken = false
 
-abbrev pub counted : (Way → Bool) → List Work → List ℕ
-counted test works = decimal (count_by (λ (w : Work). test w.done.way) works)
+abbrev pub counted : (Way → Bool) → List Done → List ℕ
+counted test records = decimal (count_by (λ (done : Done). test done.way) records)
 
--- the report of the jobs (the memo adds its line of totals behind it)
-abbrev pub jobs_text : List Work → List ℕ
-jobs_text works =
-    flat_map job_text works ++ codes "jobs " ++ decimal (length works)
-    ++ codes " remote " ++ counted is_remote works ++ codes " local " ++ counted is_local works
-    ++ codes " broken " ++ counted is_broken works ++ 10 ∷ []
+-- the report of the jobs: their lines, and the line of how many were done where
+unfoldable pub totals_text : List Done → List ℕ
+totals_text records =
+    codes "jobs " ++ (decimal (length records) ++ (codes " remote " ++ (counted is_remote records ++ (codes " local " ++ (counted is_local records
+    ++ (codes " broken " ++ (counted is_broken records ++ 10 ∷ [])))))))
+
+unfoldable pub jobs_text : List Done → List ℕ
+jobs_text records = flat_map job_text records ++ totals_text records
 
 abbrev pub why_text : ListWhy → List ℕ
 why_text NotBuilt = codes "not built"
@@ -100,7 +103,7 @@ report_text (ListRefused line why) = codes "pump: list " ++ decimal line ++ code
 report_text ListFault = codes "pump: list read fault" ++ 10 ∷ []
 report_text SpawnFault = codes "pump: spawn fault" ++ 10 ∷ []
 report_text NoMemory = codes "pump: memory" ++ 10 ∷ []
-report_text (Ran works) = jobs_text works
+report_text (Ran works) = jobs_text (map (λ (w : Work). w.done) works)
 
 -- some job's outcome
 abbrev pub is_memory : JobOutcome → Bool
