@@ -5,7 +5,6 @@ use Rattle.std.specs.Prelude.{ℕ, ◌+◌, ◌-◌, ◌==◌, max, Bool, false,
 use Rattle.std.specs.List.{list_any}
 use Rattle.std.specs.Fmt.{signed_decimal}
 use Rattle.pp_tokens.specs.declared.Token.{Token}
-use Rattle.pp_tokens.specs.declared.TokenRef.{TokenRef}
 use Rattle.cpp_output.specs.declared.last.Last.{Last}
 use Rattle.cpp_output.specs.declared.last.Last.TheVariants.{Nothing, Tight, Loose}
 
@@ -18,10 +17,6 @@ pub data Event : Type 0 where
   mark : List ℕ → ℤ → ℕ → Event
   put : Token → Event
   pragma : ℕ → List Token → Event
-
--- a token whose spelling is a slice, as the token with that spelling
-abbrev pub token_seen : TokenRef → Token
-token_seen t = record { kind = t.kind; text = t.text.now; line = t.line; space = t.space }
 
 -- the longest output, in bytes
 abbrev pub text_limit : ℕ

@@ -1,6 +1,7 @@
 // What stands last on an output line, and the space behind it.
 ghost use Rattle.std.specs.Prelude.{◌≡◌, if◌then◌else◌, ◌∷◌, []};
-ghost use Rattle.cpp_output.specs.Layout.{is_tight, last_of, gap, token_seen};
+ghost use Rattle.pp_tokens.specs.Tokens.{token_seen};
+ghost use Rattle.cpp_output.specs.Layout.{is_tight, last_of, gap};
 
 use pp_tokens::TokenRef;
 

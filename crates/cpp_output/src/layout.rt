@@ -1,6 +1,7 @@
 // The layout of preprocessed output: a text that grows token by token.
 ghost use Rattle.std.specs.Prelude.{◌≡◌, ◌<◌, ◌≤◌, ◌++◌, List, [], length, map, max, IfOk, OnOk, IsErrOf};
-ghost use Rattle.cpp_output.specs.Layout.{Event, enter, back, mark, put, pragma, token_seen, text_limit, marker, fresh, newlines, last_at, last_of, gap, on_line};
+ghost use Rattle.pp_tokens.specs.Tokens.{token_seen};
+ghost use Rattle.cpp_output.specs.Layout.{Event, enter, back, mark, put, pragma, text_limit, marker, fresh, newlines, last_at, last_of, gap, on_line};
 ghost use Rattle.cpp_output.specs.Laid.{begun, after_event, after_events, finished};
 ghost use Rattle.cpp_output.specs.declared.layout.LayError.TheVariants.{Memory};
 

@@ -1,7 +1,7 @@
 // Calls of exchanges that are counted, and fail where a list says so.
 ghost use Rattle.std.specs.Prelude.{◌≡◌, ◌≤◌, true, false};
 ghost use Rattle.base_types.specs.Causes.{Rose};
-ghost use Rattle.daemon_serve.specs.MemWire.{Calls, IsDue, dial_made, call_made, calls_of};
+ghost use Rattle.daemon_serve.specs.MemWire.{IsDue, dial_made, call_made, calls_of};
 
 #[derive(Drop)]
 pub(crate) struct Failing {

@@ -1,5 +1,5 @@
 // The last of a list of exchanges, as it goes on.
-ghost use Rattle.std.specs.Prelude.{◌≡◌, ◌≤◌, ◌<◌, ◌+◌, ℕ, [], ◌∷◌, take, drop, length, IfOk, OnOk, OnErr, cond, nat_eq};
+ghost use Rattle.std.specs.Prelude.{◌≡◌, ◌≤◌, ◌<◌, ◌+◌, take, drop, length, IfOk, OnOk, OnErr, cond, nat_eq};
 ghost use Rattle.base_types.specs.Told.{on_last};
 ghost use Rattle.io_edges.specs.Talk.{sending, finishing, taking, ending};
 ghost use Rattle.daemon_serve.specs.MemWire.{AtLast, IsFresh};

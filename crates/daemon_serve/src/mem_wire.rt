@@ -1,5 +1,5 @@
 // A wire whose other side is an answerer in memory.
-ghost use Rattle.std.specs.Prelude.{◌≡◌, ◌≤◌, ◌<◌, ℕ, List, [], ◌++◌, ◌∷◌, take, length, Some, None, IfOk, OnOk, OnErr, All, cond, nat_eq};
+ghost use Rattle.std.specs.Prelude.{◌≡◌, ◌≤◌, ◌<◌, ℕ, [], ◌++◌, ◌∷◌, take, length, Some, IfOk, OnOk, OnErr, All, cond, nat_eq};
 ghost use Rattle.std.specs.Io.{ReadsAtMost};
 ghost use Rattle.base_types.specs.Causes.{HasCause};
 ghost use Rattle.base_types.specs.Told.{added};

@@ -1,5 +1,5 @@
 // How much a wire in memory gives at a time.
-ghost use Rattle.std.specs.Prelude.{◌≡◌, ◌<◌, ◌≤◌, All};
+ghost use Rattle.std.specs.Prelude.{◌<◌, All};
 
 // The greatest lengths of the pieces, used in a circle; none sets no bound.
 #[derive(Drop)]

@@ -1,5 +1,5 @@
 // The other side of a wire, whose answers are written down.
-ghost use Rattle.std.specs.Prelude.{◌≡◌, ℕ, List, [], ◌∷◌, drop, length, IfOk, OnOk, OnErr};
+ghost use Rattle.std.specs.Prelude.{◌≡◌, drop, IfOk, OnOk, OnErr};
 ghost use Rattle.daemon_serve.specs.Scripted.{first_answer, AnyAnswer};
 
 use crate::answerer::Answerer;

@@ -5,7 +5,6 @@ mod RunLemmas
 mod ReaderLemmas
 mod SpellingLemmas
 mod SpelledLemmas
-mod PathLemmas
 mod TreeLemmas
 mod WriterLemmas
 mod ReplySpelling

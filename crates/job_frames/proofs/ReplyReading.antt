@@ -3,7 +3,7 @@ use Rattle.std.proofs.Common.{◌≡◌, ◌≢◌, ℕ, ◌+◌, ◌/◌, ◌%�
 use Rattle.std.specs.Prelude.{codes, nat_eq, MatchOption}
 use Rattle.std.specs.Option.{option_map}
 use Rattle.std.proofs.lemmas.List.{append_cancel_left, take-append-drop, append-nil}
-use Rattle.std.proofs.lemmas.Bool.{lt-ltb}
+use Rattle.std.proofs.lemmas.Bool.{eq-eqb, lt-ltb}
 use Rattle.std.proofs.Math.Seq.{take-append_seam, drop-append_seam}
 use lib.Pointwise.{pointwise}
 use Rattle.job_frames.specs.declared.answer.Answer.{Answer}
@@ -13,9 +13,15 @@ use Rattle.job_frames.specs.Outcomes.{value_of, at_end, nothing_follows}
 use Rattle.job_frames.specs.Reply.{IsAnswer, reply_at, reply_bytes}
 use Rattle.job_frames.specs.Replies.{IsBehind, IsSpelledBy, IsReasonOf}
 use Rattle.job_frames.proofs.StageLemmas.{pointwise_same}
-use Rattle.job_frames.proofs.PathLemmas.{same_text}
 use Rattle.job_frames.proofs.SpellingLemmas.{digits_length}
 use Rattle.job_frames.proofs.ReplySpelled.{reply_spelled}
+
+same_text : (a b : List ℕ) → a ≡ b → pointwise nat_eq a b ≡ true
+same_text a b e = subst (λ (x : List ℕ). pointwise nat_eq a x ≡ true) e (itself a)
+  where
+    itself : (a : List ℕ) → pointwise nat_eq a a ≡ true
+    itself [] = refl
+    itself (x ∷ a) = rw (eq-eqb x x refl) (itself a)
 
 -- what stands behind a front
 pub behind_is : {R : Type 0} (now : R → List ℕ) (front bytes : List ℕ) (o : Option R)

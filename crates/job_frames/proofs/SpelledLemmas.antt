@@ -14,7 +14,7 @@ use Rattle.job_words.specs.Words.{job_of, JobsKeepWords}
 use Rattle.job_frames.specs.Fields.{Step, short, refused, taken, ◌>>=◌, token_at, number_at, judged, body_at, token, field, within, only, fits, bare, room_behind}
 use Rattle.tree_model.specs.Entries.{Entries, judged_path}
 use Rattle.job_frames.specs.Request.{node_bytes, entry_bytes, image_bytes}
-use Rattle.job_frames.specs.Request.{Got, Onward, most, node_then, dir_then, made_then, link_then, target_then, file_then, file_body_then, judged_then, path_then, name_then, entries_from, image_from, with_job, word_body_then, word_then, words_from, count_from, place_body_from, place_from, request_from, request_at, request_bytes, IsNode, MayFollow, AreWords, IsRequest}
+use Rattle.job_frames.specs.Request.{Got, Onward, most, node_then, dir_then, made_then, link_then, target_then, file_then, file_body_then, judged_then, path_then, name_then, entries_from, image_from, with_job, word_body_then, word_then, words_from, count_from, place_body_from, place_from, request_from, request_at, request_bytes, IsSpellable, MayFollow, AreWords, IsRequest}
 use Rattle.job_frames.proofs.DigitLemmas.{number_spelled}
 use Rattle.job_frames.proofs.StageLemmas.{path_spelled, judged_good}
 use Rattle.job_frames.proofs.SpellingLemmas.{token_length, field_length}
@@ -102,7 +102,7 @@ record NodeRead (next : Onward) (room : ℕ) (es : Entries) (path : Path) (bytes
   e : Entry
   r : List ℕ
   is : bytes ≡ node_bytes e ++ r
-  node : IsNode e
+  node : IsSpellable e
   small : length (node_bytes e) ≤ room
   then : next (room - length (node_bytes e)) (es ++ (path, e) ∷ []) r ≡ taken got rest
 

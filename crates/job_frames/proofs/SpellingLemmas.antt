@@ -13,7 +13,7 @@ use Rattle.job_words.specs.Words.{job_of}
 use Rattle.job_frames.specs.Fields.{digit, Step, refused, taken, ◌>>=◌, token_at, judged, body_at, token, field, digits, within, only, fits, bare, room_behind}
 use Rattle.tree_model.specs.Entries.{Entries, judged_path}
 use Rattle.job_frames.specs.Request.{node_bytes, entry_bytes, image_bytes}
-use Rattle.job_frames.specs.Request.{Got, Onward, most, node_then, dir_then, made_then, link_then, target_then, file_then, file_body_then, judged_then, path_then, name_then, entries_from, image_from, with_job, word_body_then, word_then, words_from, count_from, place_body_from, place_from, request_from, request_at, request_bytes, IsNode, MayFollow, AreWords, IsRequest}
+use Rattle.job_frames.specs.Request.{Got, Onward, most, node_then, dir_then, made_then, link_then, target_then, file_then, file_body_then, judged_then, path_then, name_then, entries_from, image_from, with_job, word_body_then, word_then, words_from, count_from, place_body_from, place_from, request_from, request_at, request_bytes, IsSpellable, MayFollow, AreWords, IsRequest}
 use Rattle.job_frames.specs.Outcomes.{done, whatever_follows}
 use Rattle.job_frames.proofs.DigitLemmas.{number_read}
 use Rattle.job_frames.proofs.StageLemmas.{body_there}
@@ -55,7 +55,7 @@ field_there letters body rest room low high next top a b c =
 pub body_read : {A : Type 0} (body rest : List ℕ) (next : List ℕ → List ℕ → Step A) → (body_at (length body) (body ++ rest) >>= next) ≡ next body rest
 body_read {A} body rest next = ap (λ (s : Step (List ℕ)). s >>= next) (body_there (length body) body rest refl)
 
-node_read : (next : Onward) (room : ℕ) (es : Entries) (path : Path) (e : Entry) (rest : List ℕ) → IsNode e → length (node_bytes e) ≤ room
+node_read : (next : Onward) (room : ℕ) (es : Entries) (path : Path) (e : Entry) (rest : List ℕ) → IsSpellable e → length (node_bytes e) ≤ room
     → node_then next room es path (node_bytes e ++ rest) ≡ next (room - length (node_bytes e)) (es ++ (path, e) ∷ []) rest
 unfolding node_then dir_then made_then link_then target_then file_then file_body_then
 node_read next room es path Dir rest is h =
@@ -74,7 +74,7 @@ node_read next room es path (Link text) rest is h =
     ∙ ap (λ t. cond t (refused 5) (next (room_behind room (length text)) (es ++ (path, Link text) ∷ []) rest)) is.2
     ∙ ap (λ k. next (room - k) (es ++ (path, Link text) ∷ []) rest) (sym long)
 
-entry_read : (next : Onward) (room : ℕ) (es : Entries) (e : Path × Entry) (rest : List ℕ) → judged_path es (spelled e.0) ≡ Ok e.0 → 2 ≤ length (spelled e.0) → length (spelled e.0) ≤ 4096 → IsNode e.1
+entry_read : (next : Onward) (room : ℕ) (es : Entries) (e : Path × Entry) (rest : List ℕ) → judged_path es (spelled e.0) ≡ Ok e.0 → 2 ≤ length (spelled e.0) → length (spelled e.0) ≤ 4096 → IsSpellable e.1
     → length (entry_bytes e) ≤ room → name_then next room es (entry_bytes e ++ rest) ≡ next (room - length (entry_bytes e)) (es ++ e ∷ []) rest
 unfolding name_then path_then
 entry_read next room es e rest j low high is h =

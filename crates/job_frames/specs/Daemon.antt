@@ -9,15 +9,15 @@ use Rattle.job_frames.specs.Request.{Got, request_at}
 use Rattle.job_frames.specs.Reply.{IsAnswer, reply_bytes}
 
 -- one of the answers to a job and its entries, spelled; every request has a job
-abbrev pub IsAnswered : (Job → Entries → Answer → Type 0) → Option Job → Entries → List ℕ → Type 0
-IsAnswered answer None es received = ⊥
-IsAnswered answer (Some job) es received = (a : Answer) × answer job es a × IsAnswer a × (received ≡ reply_bytes a)
+abbrev pub IsAnswerTo : (Job → Entries → Answer → Type 0) → Option Job → Entries → List ℕ → Type 0
+IsAnswerTo answer None es received = ⊥
+IsAnswerTo answer (Some job) es received = (a : Answer) × answer job es a × IsAnswer a × (received ≡ reply_bytes a)
 
 -- the reply by the verdict on all bytes that came: bytes that ended too early are refused by reason 9
 abbrev pub IsReply : (Job → Entries → Answer → Type 0) → Verdict Got → List ℕ → Type 0
 IsReply answer going received = received ≡ reply_bytes (Refused 9)
 IsReply answer (reason n) received = received ≡ reply_bytes (Refused n)
-IsReply answer (done got) received = IsAnswered answer got.job got.entries received
+IsReply answer (done got) received = IsAnswerTo answer got.job got.entries received
 
 -- a daemon's reply; want of memory is refused by reason 1
 abbrev pub Daemon : (Job → Entries → Answer → Type 0) → List ℕ → List ℕ → Type 0

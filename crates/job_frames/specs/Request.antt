@@ -136,16 +136,17 @@ request_at bytes = request_from most bytes
 
 -- WHAT HAS A SPELLING
 
-abbrev pub IsNode : Entry → Type 0
-IsNode Dir = Unit {0}
-IsNode (File body) = length body ≤ 16777216
-IsNode (Link text) = (1 ≤ length text) × (length text ≤ 4095) × (list_any (λ c. c == 0) text ≡ false)
+-- a node within the limits of its token
+abbrev pub IsSpellable : Entry → Type 0
+IsSpellable Dir = Unit {0}
+IsSpellable (File body) = length body ≤ 16777216
+IsSpellable (Link text) = (1 ≤ length text) × (length text ≤ 4095) × (list_any (λ c. c == 0) text ≡ false)
 
 -- entries may stand behind others, one after another
 abbrev pub MayFollow : Entries → Entries → Type 0
 MayFollow before [] = Unit {0}
 MayFollow before (e ∷ es) =
-    ((judged_path before (spelled e.0) ≡ Ok e.0) × (2 ≤ length (spelled e.0)) × (length (spelled e.0) ≤ 4096)) × IsNode e.1 × MayFollow (before ++ e ∷ []) es
+    ((judged_path before (spelled e.0) ≡ Ok e.0) × (2 ≤ length (spelled e.0)) × (length (spelled e.0) ≤ 4096)) × IsSpellable e.1 × MayFollow (before ++ e ∷ []) es
 
 -- a compile word
 abbrev pub IsWord : Text → Type 0
@@ -183,7 +184,7 @@ pub record FitsRequest (job : Job) (es : Entries) : Type 0 where
 
 -- an entry whose path and node have spellings
 abbrev pub HasSpelling : Path × Entry → Type 0
-HasSpelling e = (length (spelled e.0) ≤ 4096) × IsNode e.1
+HasSpelling e = (length (spelled e.0) ≤ 4096) × IsSpellable e.1
 
 -- the spelling of words
 abbrev pub words_bytes : List Text → Text

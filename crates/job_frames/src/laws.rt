@@ -2,6 +2,7 @@
 ghost use Rattle.job_frames.specs.Laws.{RequestsAreRead, RequestsAreSpelled, RequestsAreApart, RequestsAreWhole, RequestsMakeTrees, TreesMakeRequests, TreesMayBeWritten, RepliesAreRead, RepliesAreSpelled, RepliesAreApart, OthersAreNoReplies, RepliesHaveEnds};
 
 use job_words::jobs_keep_words;
+use tree_model::judging_makes_trees;
 
 /// Requests and their spellings, both ways: a request is read from its spelling, whatever follows; what reads as a
 /// request is its spelling; and no request has two spellings, nor does one spelling begin another.
@@ -20,7 +21,9 @@ pub fn request_trees()
     ensures trees { RequestsMakeTrees }
     ensures requests { TreesMakeRequests }
     ensures written { TreesMayBeWritten }
-{}
+{
+    judging_makes_trees();
+}
 
 /// Replies and their spellings, both ways, as for requests.
 pub fn reply_spellings()

@@ -42,7 +42,7 @@ impl RequestReader {
         }
     }
 
-    /// Takes the next piece, and answers the verdict on all bytes so far.
+    /// Takes the next piece, and answers the verdict on all bytes so far. A refusal stays, and so does `Done`.
     pub fn feed(&mut self, piece: &[u8]) -> Fed
         ensures { IsFed (left self.old) piece.now (left self.new) result }
     {
@@ -56,7 +56,7 @@ impl RequestReader {
         ran.fed
     }
 
-    /// Tells that no byte follows: a request that isn't whole is cut off.
+    /// Tells that no byte follows: where nothing was wrong, but the request isn't whole, the verdict is `Cut`.
     pub fn end(&mut self) -> Fed
         ensures { IsEnded (left self.old) (left self.new) result }
     {
@@ -72,7 +72,7 @@ impl RequestReader {
         }
     }
 
-    /// The request, exactly where all bytes were one.
+    /// The job and the entries, exactly where the verdict was `Done`. Bytes behind the request don't matter.
     pub fn finish(self) -> Option<(Job, List<(CanonPath, Entry)>)>
         ensures { result ≡ request_of (left self []) }
     {

@@ -1,5 +1,5 @@
 // Replies against bytes that were written by hand.
-use crate::{Answer, reply_of, write_reply};
+use crate::{Answer, Fed, FrameError, RequestReader, reply_of, write_reply};
 use base_types::Bytes;
 use std::alloc::{AllocError, Global};
 use std::test::Fail;
@@ -89,5 +89,53 @@ fn whole_replies_are_read(rt: HostRuntime) -> Result<(), Fail> {
         assert_eq!(rt; is, kind);
         assert_eq!(rt; holds.as_slice(), content);
     }
+    Ok(())
+}
+
+// A request of two entries.
+fn request() -> &'static [u8] {
+    b"DIST00000103CDIR00000005/workARGC00000001ARGV00000003a.cNFIL00000002\
+NAME00000005/workMDIR00000000NAME00000009/work/a.cFILE00000007int x;\n"
+        .as_slice()
+}
+
+#[test]
+fn a_request_is_read_byte_by_byte(rt: HostRuntime) -> Result<(), Fail> {
+    let alloc = rt.alloc();
+    let bytes = request();
+    let mut reader = RequestReader::new(alloc);
+    for (i, byte) in bytes.iter().enumerate() {
+        let whole = i == bytes.len() - 1;
+        let fed = reader.feed([*byte].as_slice());
+        assert_eq!(rt; fed, if whole { Fed::Done } else { Fed::More });
+    }
+    assert_eq!(rt; reader.end(), Fed::Done);
+    match reader.finish() {
+        None => assert!(rt; false, "a whole request gives a job"),
+        Some((job, entries)) => {
+            assert_eq!(rt; job.cwd.as_slice(), b"/work".as_slice());
+            assert_eq!(rt; entries.len(), 2);
+        }
+    }
+    Ok(())
+}
+
+#[test]
+fn a_refusal_stays(rt: HostRuntime) -> Result<(), Fail> {
+    let alloc = rt.alloc();
+    let mut reader = RequestReader::new(alloc);
+    assert_eq!(rt;
+        reader.feed(b"DIST00000104".as_slice()),
+        Fed::Refused(FrameError::Version)
+    );
+    assert_eq!(rt;
+        reader.feed(b"CDIR".as_slice()),
+        Fed::Refused(FrameError::Version)
+    );
+    assert_eq!(rt; reader.end(), Fed::Refused(FrameError::Version));
+    let mut short = RequestReader::new(alloc);
+    assert_eq!(rt; short.feed(b"DIST".as_slice()), Fed::More);
+    assert_eq!(rt; short.end(), Fed::Refused(FrameError::Cut));
+    assert!(rt; short.finish().is_none());
     Ok(())
 }

@@ -3,7 +3,7 @@ ghost use Rattle.std.specs.Prelude.{◌≡◌, ◌≤◌, ◌<◌, ◌++◌, len
 ghost use Rattle.job_frames.specs.Fields.{digit, digits, token, field};
 ghost use Rattle.job_frames.specs.declared.answer.Answer.TheVariants as answer;
 ghost use Rattle.job_frames.specs.Reply.{IsAnswer, reply_bytes};
-ghost use Rattle.job_frames.specs.Request.{entry_bytes, node_bytes, image_bytes, request_bytes, IsNode, HasSpelling, words_bytes};
+ghost use Rattle.job_frames.specs.Request.{entry_bytes, node_bytes, image_bytes, request_bytes, IsSpellable, HasSpelling, words_bytes};
 
 use crate::Answer;
 use base_types::Bytes;
@@ -55,7 +55,7 @@ fn push_field(out: &mut Vec<u8>, letters: &[u8], body: &[u8]) -> Result<(), Allo
 
 // Appends a node.
 fn push_node(out: &mut Vec<u8>, node: &Entry) -> Result<(), AllocError>
-    requires { IsNode node.now }
+    requires { IsSpellable node.now }
     ensures { OnOk result (out.new.items ≡ out.old.items ++ node_bytes node.now) }
 {
     match node {

@@ -1,7 +1,6 @@
 -- Components of texts that are cut at a `/`.
-use Rattle.std.proofs.Common.{◌≡◌, ℕ, zero, suc, ◌+◌, ◌-◌, ◌<◌, ◌≤◌, List, [], ◌∷◌, ◌++◌, length, take, drop, get_or, refl, sym, ◌∙◌, ap, subst, inl, inr, Option, Some, None, Bool, true, false, cond, not, ◌==◌, nat_lt, arith, add-one, drop-cons, append_assoc, ltb-true, ltb-false}
-use Rattle.std.specs.List.{position, position_or_len, slice_split, onto_first}
-use Rattle.std.proofs.lemmas.Bool.{eqb-true}
+use Rattle.std.proofs.Common.{◌≡◌, ℕ, suc, ◌+◌, ◌-◌, ◌<◌, ◌≤◌, List, [], ◌∷◌, ◌++◌, length, take, drop, get_or, refl, sym, ◌∙◌, ap, subst, inl, inr, Some, None, Bool, true, false, cond, not, ◌==◌, nat_lt, arith, drop-cons, append_assoc, ltb-true, ltb-false}
+use Rattle.std.specs.List.{position, position_or_len, onto_first}
 use Rattle.std.proofs.lemmas.List.{take-append-drop, take_rest}
 use Rattle.std.proofs.lemmas.List.Splits.{slice_split_first}
 use Rattle.base_types.specs.Members.{Member}

@@ -9,6 +9,7 @@
 --     FrameLooked    walks over lookups that agree at the paths looked up
 --     WalkLemmas     the file reached was walked; more links do no harm
 --     WalkNodes      walks in a tree stand at nodes
+--     WalkLeads      a located file is one, and its place leads to it
 --     CutLemmas      components of texts that are cut at a `/`
 --     StepLemmas     each step of a program goes on as the walk does
 --     WalkExamples   worked walks
@@ -22,6 +23,7 @@ pub mod FrameParts
 pub mod FrameLooked
 pub mod WalkLemmas
 pub mod WalkNodes
+pub mod WalkLeads
 pub mod CutLemmas
 pub mod StepLemmas
 mod WalkExamples

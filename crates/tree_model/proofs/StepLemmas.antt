@@ -1,13 +1,13 @@
 -- Each step of a program goes on as the walk does.
-use Rattle.std.proofs.Common.{◌≡◌, ℕ, zero, suc, ◌+◌, ◌-◌, ◌<◌, ◌≤◌, List, [], ◌∷◌, ◌++◌, length, refl, sym, ◌∙◌, ap, subst, ◌⊎◌, inl, inr, Option, Some, None, Bool, true, false, cond, is_some, IsSome, IfSome, IfOk, Result, Ok, Err, arith, append_assoc, if◌then◌else◌, ◌==◌, not, ◌&&◌, nat_le, nat_eq}
+use Rattle.std.proofs.Common.{◌≡◌, ℕ, zero, suc, ◌-◌, ◌<◌, ◌≤◌, List, [], ◌∷◌, ◌++◌, length, refl, sym, ◌∙◌, ap, subst, ◌⊎◌, inl, inr, Option, Some, None, Bool, true, false, cond, is_some, IsSome, IfSome, arith, append_assoc, if◌then◌else◌, ◌==◌, not, ◌&&◌, nat_le, nat_eq}
 use Rattle.std.proofs.lemmas.Bool.{lt-leb, le-leb, ne_eqb}
-use Rattle.std.specs.Option.{option_map, ForSome}
+use Rattle.std.specs.Option.{option_map}
 use Rattle.std.specs.List.{onto_first}
 use Rattle.std.proofs.lemmas.List.{append-nil}
 use Rattle.tree_model.specs.Paths.{Text, Path, slash, parent, child_of, is_canonical}
 use Rattle.tree_model.specs.Trees.{FileTree, entry_at, node_at, shown, IsTree}
-use Rattle.tree_model.specs.Walk.{Look, components, Component, Stay, Up, Down, component_of, start, End, Nowhere, AtDir, AtFile, Walked, through, looking, ended, file_end, beyond, entered, taken, walk_with, walk, but_last, last_of, first_nodes, located_at, located_in, last_looked_up, can_locate, located_by, locate}
-use Rattle.tree_model.specs.Steps.{GoesOn, followed, onward, end_of, components_left}
+use Rattle.tree_model.specs.Walk.{Look, components, Component, Stay, Up, Down, component_of, start, End, Nowhere, AtDir, AtFile, Walked, through, ended, file_end, entered, taken, walk_with, walk, but_last, last_of, first_nodes, located_at, located_in, last_looked_up, can_locate, located_by}
+use Rattle.tree_model.specs.Steps.{GoesOn, followed, onward, end_of}
 use Rattle.tree_model.specs.declared.entry.Entry.{Entry}
 use Rattle.tree_model.specs.declared.entry.Entry.TheVariants.{Dir, File, Link}
 use Rattle.tree_model.specs.declared.entry.Node.{Node}
@@ -29,9 +29,9 @@ pub if_each : (o : Option FileTree) (P : FileTree → Type 0) → ((told : FileT
 if_each None P h = tt
 if_each (Some told) P h = h told refl
 
-pub none_else : (o : Option Path) → ((path : Path) → o ≡ Some path → ⊥) → None ≡ o
+pub none_else : {A : Type 0} (o : Option A) → ((x : A) → o ≡ Some x → ⊥) → None ≡ o
 none_else None h = refl
-none_else (Some path) h = absurd (h path refl)
+none_else (Some x) h = absurd (h x refl)
 
 some_part : (b : ℕ) (parts : List Text) → 0 < length (onto_first b parts)
 some_part b [] = omega arith

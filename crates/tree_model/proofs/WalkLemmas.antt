@@ -1,12 +1,10 @@
 -- Facts of walks: the File reached was walked, links only get fewer, and more links do no harm.
-use Rattle.tree_model.specs.declared.walk.Located.{Located}
-use Rattle.std.proofs.Common.{◌≡◌, ℕ, zero, suc, ◌+◌, ◌-◌, ◌≤◌, List, [], ◌∷◌, ◌++◌, refl, subst, inl, inr, Option, Some, None, Bool, true, false, cond, arith}
+use Rattle.std.proofs.Common.{◌≡◌, ℕ, zero, suc, ◌+◌, ◌≤◌, List, [], ◌∷◌, ◌++◌, refl, subst, inl, inr, Option, Some, None, arith}
 use Rattle.base_types.specs.Members.{Member}
 use Rattle.tree_model.specs.Paths.{Text, Path, parent}
 use Rattle.tree_model.specs.declared.entry.Entry.{Entry}
 use Rattle.tree_model.specs.declared.entry.Entry.TheVariants.{Dir, File, Link}
-use Rattle.tree_model.specs.Walk.{components, Component, Stay, Up, Down, component_of, start, End, Nowhere, AtDir, AtFile, Walked, through, looking, ended, file_end, entered, taken, walk_with, walk, but_last, last_of, located_at, last_looked_up, can_locate, located_by, Look}
-use Rattle.tree_model.proofs.MemberLemmas.{Member-append_right}
+use Rattle.tree_model.specs.Walk.{components, Component, Stay, Up, Down, component_of, start, End, Nowhere, AtDir, AtFile, Walked, through, looking, ended, file_end, entered, taken, walk_with, walk, Look}
 
 -- what holds of every walk with at most `most` links
 module _ (tree : Look) (most : ℕ) (P : Walked → Type 0) (nowhere : P (ended Nowhere))

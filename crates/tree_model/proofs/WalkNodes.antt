@@ -1,6 +1,6 @@
 -- A walk in a tree stands at nodes alone: it ends at a Dir or at a File, and the Dir is where it began, the root or
 -- a node that it met.
-use Rattle.std.proofs.Common.{◌≡◌, ℕ, zero, suc, ◌+◌, ◌-◌, ◌≤◌, List, [], ◌∷◌, ◌++◌, refl, sym, ◌∙◌, ap, subst, ◌⊎◌, inl, inr, Option, Some, None, Bool, true, false, cond, ◌==◌, ◌&&◌, is_some, IsSome, arith}
+use Rattle.std.proofs.Common.{◌≡◌, ℕ, zero, suc, ◌-◌, ◌≤◌, List, [], ◌∷◌, ◌++◌, refl, sym, ◌∙◌, ap, subst, ◌⊎◌, inl, inr, Option, Some, None, Bool, true, false, cond, ◌==◌, ◌&&◌, is_some, IsSome, arith}
 use Rattle.base_types.specs.Members.{Member}
 use Rattle.tree_model.specs.Paths.{Text, Path, parent, slash, dot}
 use Rattle.tree_model.specs.Trees.{FileTree, entry_at, body_at, body_of, IsTree}
@@ -8,9 +8,9 @@ use Rattle.tree_model.specs.Frame.{LocatedHolds}
 use Rattle.tree_model.specs.declared.entry.Entry.{Entry}
 use Rattle.tree_model.specs.declared.entry.Entry.TheVariants.{Dir, File, Link}
 use Rattle.tree_model.specs.declared.walk.Located.{Located}
-use Rattle.tree_model.specs.Walk.{components, Component, Stay, Up, Down, component_of, start, End, Nowhere, AtDir, AtFile, Walked, through, looking, ended, file_end, beyond, entered, taken, walk_with, walk, but_last, last_of, root_if, is_absolute, first_nodes, located_at, located_in, last_looked_up, can_locate, located_by, locate, Look}
+use Rattle.tree_model.specs.Walk.{components, Component, Stay, Up, Down, component_of, start, End, Nowhere, AtDir, AtFile, Walked, through, ended, file_end, entered, taken, walk_with, walk, but_last, last_of, root_if, is_absolute, first_nodes, located_at, last_looked_up, can_locate, located_by, locate, Look}
 use Rattle.tree_model.proofs.MemberLemmas.{Member-append_left, Member-append_right, Member-append}
-use Rattle.tree_model.proofs.FrameParts.{cond_some, located_at-walked}
+use Rattle.tree_model.proofs.FrameParts.{cond_some}
 use Rattle.tree_model.proofs.WalkLemmas.{walk-file_walked, walk-left, LeftAtMost, walk-more}
 
 module _ (tree : FileTree) (is : IsTree tree) where
@@ -163,7 +163,7 @@ unfolding walk_with
 one-met look links follow dir name real e =
     taken-met look (λ next. walk_with look links follow next []) follow real (λ d f. absurd (cc)) dir name (component_of name) (component_cases name) e
 
-walk-met : (look : Look) (links : ℕ) (dir : Path) (name : Text) (real : Path)
+pub walk-met : (look : Look) (links : ℕ) (dir : Path) (name : Text) (real : Path)
     → (walk look links dir (name ∷ [])).end ≡ AtFile real → Member (name ∷ dir) (walk look links dir (name ∷ [])).nodes
 unfolding walk
 walk-met look zero dir name real e = one-met look zero _ dir name real e

@@ -1,8 +1,8 @@
 -- Laws of walks.
-use Rattle.std.specs.Prelude.{◌≡◌, ◌⊎◌, ℕ, List, [], ◌∷◌, ◌++◌, Option, Some, None, IsSome}
+use Rattle.std.specs.Prelude.{◌≡◌, ◌⊎◌, ℕ, List, [], ◌∷◌, ◌++◌, Some, None, IsSome}
 use Rattle.base_types.specs.Members.{Member}
 use Rattle.tree_model.specs.Paths.{Text, Path}
-use Rattle.tree_model.specs.Trees.{FileTree, entry_at, body_at, IsTree, Sub}
+use Rattle.tree_model.specs.Trees.{FileTree, entry_at, body_at, body_of, IsTree, Sub}
 use Rattle.tree_model.specs.Walk.{Look, components, start, End, Nowhere, AtDir, AtFile, walk, but_last, last_of, located_by, locate}
 use Rattle.tree_model.specs.declared.entry.Entry.TheVariants.{Dir}
 use Rattle.tree_model.specs.declared.walk.Located.{Located}
@@ -16,6 +16,25 @@ IsLocatedInPart = (part whole : FileTree) (dir : Path) (text : Text) (l : Locate
 -- a part of a tree locates no file where the whole tree locates none
 abbrev pub IsLocatedInNoPart : Type 0
 IsLocatedInNoPart = (part whole : FileTree) (dir : Path) (text : Text) → Sub part whole → locate whole dir text ≡ None → locate part dir text ≡ None
+
+-- a part of a tree locates no file, or the one that the whole tree locates
+abbrev pub IsNoneOrSame : Type 0
+IsNoneOrSame = (part whole : FileTree) (dir : Path) (text : Text) → Sub part whole → (locate part dir text ≡ None) ⊎ (locate part dir text ≡ locate whole dir text)
+
+-- what holds of a located file by any lookup: the file, its place and the starting directory are walked; the place is
+-- the last component's name in some directory, and from there that name leads to the file
+pub record LocatedLeads (look : Look) (dir : Path) (text : Text) (l : Located) : Type 0 where
+  pub first : Member dir l.walked
+  pub real : Member l.real l.walked
+  pub place : Member l.place l.walked
+  pub file : IsSome (body_of (look l.real))
+  pub up : Path
+  pub below : l.place ≡ last_of (components text) ∷ up
+  pub leads : (walk look 40 up (last_of (components text) ∷ [])).end ≡ AtFile l.real
+
+-- it holds of each file that a text locates
+abbrev pub LeadsOfLocated : Type 0
+LeadsOfLocated = (look : Look) (dir : Path) (text : Text) (l : Located) → located_by look dir text ≡ Some l → LocatedLeads look dir text l
 
 -- what holds of a located file: the nodes walked are nodes, the file and its place among them; the place is the
 -- last component's name in a directory, which is walked or the root; and from there that name leads to the file

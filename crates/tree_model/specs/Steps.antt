@@ -1,5 +1,5 @@
 -- How the steps of a program go on as a walk does.
-use Rattle.std.specs.Prelude.{◌≡◌, ℕ, zero, suc, List, [], ◌∷◌, ◌++◌, Option, Some, None}
+use Rattle.std.specs.Prelude.{◌≡◌, ℕ, zero, suc, List, [], ◌++◌, Option, Some, None}
 use Rattle.tree_model.specs.Paths.{Text, Path}
 use Rattle.tree_model.specs.Walk.{Look, components, Component, Stay, Up, Down, End, Nowhere, AtDir, AtFile, Walked, ended, file_end, walk}
 use Rattle.tree_model.specs.declared.walk.Step.{Step}

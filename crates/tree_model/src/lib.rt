@@ -14,7 +14,7 @@ mod walk;
 
 pub use calls::Counted;
 pub use entry::{Entry, Node};
-pub use frame::{frame_law, looked_law, walked_law};
+pub use frame::{frame_law, leads_law, looked_law, walked_law};
 pub use laws::{
     entries_of_trees, judging_makes_trees, lists_make_trees, looked_up_by_bytes, parents_make_trees,
     spellings_are_apart, tests_decide,
@@ -27,3 +27,5 @@ pub use walk::{Located, locate};
 
 #[cfg(test)]
 mod tests;
+#[cfg(test)]
+mod walk_tests;

@@ -1,5 +1,5 @@
 // Walks: the file that a text locates.
-ghost use Rattle.std.specs.Prelude.{◌≡◌, ◌≤◌, ℕ, [], ◌∷◌, ◌++◌, Some, IfOk, IfSome, IsErrOf, ◌==◌};
+ghost use Rattle.std.specs.Prelude.{◌≡◌, ◌≤◌, ℕ, [], ◌∷◌, ◌++◌, Some, IfOk, IfSome, OnOk, IsErrOf, ◌==◌};
 ghost use Rattle.std.specs.List.{position};
 ghost use Rattle.std.specs.Option.{option_map, ForSome};
 ghost use Rattle.base_types.specs.Causes.{HasCause};
@@ -144,6 +144,14 @@ fn in_place(link: Bytes, rest: Option<&[u8]>) -> Result<Bytes, AllocError>
     Ok(text)
 }
 
+// Notes a node that is met.
+fn note(alloc: Global, path: &CanonPath, walked: &mut List<CanonPath>) -> Result<(), AllocError>
+    ensures { OnOk result (walked.new ≡ walked.old ++ path.now ∷ []) }
+{
+    walked.push(path.copy(alloc)?)?;
+    Ok(())
+}
+
 // A file ends a walk, without success where a component is left.
 fn file_step(path: CanonPath, rest: Option<&[u8]>) -> Step
     ensures { (look : Look) (links : ℕ) → onward look links [] result ≡ onward look links (components_left (option_map (λ t. t.now) rest.entry)) (Step.File path) }
@@ -171,20 +179,14 @@ fn go_down<T: Tree>(
     let Some(path) = dir.child(alloc, name)? else {
         return Ok(Step::Nowhere);
     };
-    match tree.node(&path)? {
-        None => Ok(Step::Nowhere),
-        Some(Node::Dir) => {
-            walked.push(path.copy(alloc)?)?;
-            Ok(Step::Dir(path))
-        }
-        Some(Node::File) => {
-            walked.push(path.copy(alloc)?)?;
-            Ok(Step::File(path))
-        }
-        Some(Node::Link(text)) => {
-            walked.push(path)?;
-            Ok(Step::Link(start(alloc, dir, text.as_slice())?, text))
-        }
+    let Some(node) = tree.node(&path)? else {
+        return Ok(Step::Nowhere);
+    };
+    note(alloc, &path, walked)?;
+    match node {
+        Node::Dir => Ok(Step::Dir(path)),
+        Node::File => Ok(Step::File(path)),
+        Node::Link(text) => Ok(Step::Link(start(alloc, dir, text.as_slice())?, text)),
     }
 }
 
@@ -206,7 +208,7 @@ fn take_step<T: Tree>(
         Move::Stay => Ok(Step::Dir(dir)),
         Move::Up => {
             let up = dir.parent(alloc)?;
-            walked.push(up.copy(alloc)?)?;
+            note(alloc, &up, walked)?;
             Ok(Step::Dir(up))
         }
         Move::Down => go_down(alloc, tree, dir, name, walked),

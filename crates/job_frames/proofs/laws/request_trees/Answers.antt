@@ -2,4 +2,4 @@ use Rattle.job_frames.proofs.TreeLemmas.{request_tree, tree_request, tree_writte
 use Rattle.job_frames.proofs.laws.request_trees.Goals as goal
 
 pub returns : goal.returns
-returns c = record { trees = request_tree; requests = tree_request; written = tree_written }
+returns c = record { trees = request_tree c.judging_makes_trees.ensures.made; requests = tree_request c.judging_makes_trees.ensures.judged; written = tree_written }

@@ -8,3 +8,6 @@ returns-clause-found c part whole dir text l sub e agree = locate-same part whol
 
 pub returns-clause-not_found : goal.returns-clause-not_found
 returns-clause-not_found c part whole dir text sub e = elim (locate-fails_or_is part whole sub dir text) [ inl f ↦ f | inr f ↦ f ∙ e ]
+
+pub returns-clause-either : goal.returns-clause-either
+returns-clause-either c part whole dir text sub = locate-fails_or_is part whole sub dir text

@@ -1,4 +1,3 @@
-use Rattle.std.proofs.Common.{sym, ◌∙◌}
 use Rattle.tree_model.proofs.CutLemmas.{first_cut, no_cut}
 use Rattle.tree_model.proofs.walk.cut_component.Goals as goal
 

@@ -1,5 +1,5 @@
-use Rattle.std.proofs.Common.{◌≡◌, ◌∙◌, ◌-◌, suc, length, take, drop, ap, sym, subst, arith}
-use Rattle.tree_model.specs.Walk.{components, but_last, last_of}
+use Rattle.std.proofs.Common.{◌≡◌, ◌-◌, length, take, drop, ap, sym, subst, arith}
+use Rattle.tree_model.specs.Walk.{but_last, last_of}
 use Rattle.tree_model.proofs.CutLemmas.{LastCut, UnslashedFrom, last_cut, whole_name}
 use Rattle.tree_model.proofs.walk.cut_last.Goals as goal
 

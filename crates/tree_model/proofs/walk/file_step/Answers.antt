@@ -1,4 +1,4 @@
-use Rattle.std.proofs.Common.{◌≡◌, ◌∙◌, ap, sym, List, ℕ, Bor, Option}
+use Rattle.std.proofs.Common.{◌∙◌, ap, sym, List, ℕ, Bor, Option}
 use Rattle.std.specs.Option.{option_map}
 use Rattle.tree_model.specs.Steps.{onward, components_left}
 use Rattle.tree_model.specs.declared.walk.Step.TheVariants as step

@@ -1,4 +1,4 @@
-use Rattle.std.proofs.Common.{◌≡◌, ◌∙◌, ◌++◌, Some, ap, sym}
+use Rattle.std.proofs.Common.{◌∙◌, ◌++◌, ap, sym}
 use Rattle.std.specs.Option.{option_map}
 use Rattle.tree_model.specs.Walk.{components}
 use Rattle.tree_model.specs.Steps.{components_left}

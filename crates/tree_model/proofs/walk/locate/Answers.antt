@@ -2,7 +2,7 @@ use Rattle.std.proofs.Common.{rules, ◌≡◌, ◌∙◌, ◌<◌, ◌⊎◌, l
 use Rattle.std.specs.Option.{option_map}
 use Rattle.std.proofs.lemmas.Bool.{eqb-true, eqb-false}
 use Rattle.std.proofs.lemmas.Result.{IfOk-weaker}
-use Rattle.tree_model.specs.Trees.{FileTree, entry_at}
+use Rattle.tree_model.specs.Trees.{entry_at}
 use Rattle.tree_model.specs.Walk.{components, last_of, first_nodes, walk, start, ended}
 use Rattle.tree_model.specs.Steps.{GoesOn, components_left, end_of}
 use Rattle.tree_model.proofs.StepLemmas.{if_each, refused, from_dir, from_elsewhere, begun}

@@ -1,6 +1,5 @@
-use Rattle.std.proofs.Common.{◌≡◌, ◌∙◌, sym}
-use Rattle.tree_model.specs.Trees.{entry_at}
-use Rattle.tree_model.proofs.StepLemmas.{not_located, none_else, located_file, located_nothing}
+use Rattle.std.proofs.Common.{◌∙◌}
+use Rattle.tree_model.proofs.StepLemmas.{not_located, none_else}
 use Rattle.tree_model.proofs.walk.locate_last.Goals as goal
 
 pub returns-in_default-clause-found : goal.returns-in_default-clause-found

@@ -1,4 +1,4 @@
-use Rattle.std.proofs.Common.{◌≡◌, ◌∙◌, ap, List, ℕ, Bor, Option}
+use Rattle.std.proofs.Common.{◌∙◌, ap, List, ℕ, Bor, Option}
 use Rattle.std.specs.Option.{option_map}
 use Rattle.tree_model.specs.Trees.{entry_at}
 use Rattle.tree_model.specs.Steps.{components_left}

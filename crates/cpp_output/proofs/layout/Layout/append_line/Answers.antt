@@ -1,6 +1,7 @@
 -- One token more on the line.
 use Rattle.std.proofs.Common.{◌≤◌, ◌++◌, length, arith}
-use Rattle.cpp_output.specs.Layout.{token_seen, on_line}
+use Rattle.pp_tokens.specs.Tokens.{token_seen}
+use Rattle.cpp_output.specs.Layout.{on_line}
 use Rattle.cpp_output.proofs.Lines.{with_token, line_turn, line_longer, line_done}
 use Rattle.cpp_output.proofs.layout.Layout.append_line.Goals as goal
 

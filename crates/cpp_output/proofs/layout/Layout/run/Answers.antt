@@ -1,6 +1,7 @@
 -- One token more.
 use Rattle.std.proofs.Common.{◌≤◌, length, map, refl, arith}
-use Rattle.cpp_output.specs.Layout.{put, token_seen}
+use Rattle.pp_tokens.specs.Tokens.{token_seen}
+use Rattle.cpp_output.specs.Layout.{put}
 use Rattle.cpp_output.specs.Laid.{after_event, after_events}
 use Rattle.cpp_output.proofs.Lines.{run_turn, run_longer, run_done}
 use Rattle.cpp_output.proofs.layout.Layout.run.Goals as goal
