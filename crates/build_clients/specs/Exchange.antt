@@ -1,9 +1,8 @@
 -- One exchange of a client: what it leaves in the talk.
-use Rattle.std.specs.Prelude.{◌≡◌, ℕ, ◌⊎◌, List, [], ◌∷◌, ◌++◌, Bool, true, false, cond, Option, take}
+use Rattle.std.specs.Prelude.{◌≡◌, ℕ, ◌⊎◌, List, [], ◌∷◌, ◌++◌, Bool, true, cond}
 use Rattle.io_edges.specs.declared.wire.Exchange.{Exchange}
 use Rattle.io_edges.specs.declared.wire.Host.{Host}
-use Rattle.io_edges.specs.Talk.{dialled, sending, taking, ending, finishing}
-use Rattle.base_types.specs.Told.{added}
+use Rattle.io_edges.specs.Talk.{ending}
 
 -- an exchange that sent the whole request, and received this, to its end or not
 abbrev pub replied : Host → List ℕ → List ℕ → Bool → Exchange

@@ -2,6 +2,10 @@
 --     Outside     an end as contracts see it
 --     Exchange    what an exchange leaves in the talk
 --     Record      what a record of a job says of its client's end
+--     Steps       what the steps of a job leave there
+--     Agree       what a record says of the whole tree, where hosts answer as daemons do
 pub mod Outside
 pub mod Exchange
 pub mod Record
+pub mod Steps
+pub mod Agree

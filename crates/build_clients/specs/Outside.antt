@@ -1,10 +1,8 @@
 -- What contracts see of the outside, as plain data: the ends of the clients, the list, the spawner and the report.
-use Rattle.std.specs.Prelude.{◌≡◌, ℕ, List, [], ◌∷◌, Bool, Option, Some, IfSome}
+use Rattle.std.specs.Prelude.{ℕ, List, Option}
 use Rattle.tree_model.specs.Trees.{FileTree}
 use Rattle.io_edges.specs.declared.wire.Exchange.{Exchange}
-use Rattle.io_edges.specs.declared.wire.Host.{Host}
 use Rattle.io_edges.specs.declared.wire.LinkState.{LinkState}
-use Rattle.io_edges.specs.declared.wire.LinkState.TheVariants.{Closed}
 use Rattle.build_clients.specs.declared.record.End.{End}
 
 -- an end: what its tree, its wire and its outs tell, and their counts

@@ -1,5 +1,5 @@
 -- What a record of a job says of its client's end: the table of ways and the table of outcomes.
-use Rattle.std.specs.Prelude.{◌≡◌, ℕ, ◌≤◌, ◌⊎◌, List, [], ◌∷◌, ◌++◌, length, take, Bool, true, false, Option, None, Some}
+use Rattle.std.specs.Prelude.{◌≡◌, ℕ, ◌≤◌, ◌⊎◌, List, [], ◌∷◌, ◌++◌, length, Bool, true, Option}
 use Rattle.std.specs.Option.{ForSome}
 use Rattle.tree_model.specs.Trees.{FileTree}
 use Rattle.job_words.specs.declared.job.Job.{Job}
@@ -15,10 +15,8 @@ use Rattle.build_clients.specs.Outside.{EndSeen}
 use Rattle.build_clients.specs.declared.record.Done.{Done}
 use Rattle.daemon_cpp.specs.declared.outcome.Outcome.{Outcome}
 use Rattle.daemon_cpp.specs.declared.outcome.Outcome.TheVariants as outcome
-use Rattle.closure_fixpoint.specs.declared.job_analysis.Refusal.{Refusal}
 use Rattle.build_clients.specs.declared.record.Way.{Way}
 use Rattle.build_clients.specs.declared.record.Way.TheVariants.{Remote, Local, Broken}
-use Rattle.build_clients.specs.declared.record.Cause.{Cause}
 use Rattle.build_clients.specs.declared.record.Cause.TheVariants as cause
 use Rattle.build_clients.specs.declared.record.JobOutcome.{JobOutcome}
 use Rattle.build_clients.specs.declared.record.JobOutcome.TheVariants as end
@@ -102,7 +100,7 @@ WayHolds known job deeds Broken = (deeds.exchanges ≡ []) × Rose deeds.before.
 
 -- the outcome is the reply's where the way is Remote, and else what preprocessing gives over the named tree
 abbrev pub Gives : Known → Job → Deeds → Way → Outcome → Type 0
-Gives known job deeds Remote o = Asked known job deeds.exchanges (λ received ended. received ≡ reply_bytes (carried o))
+Gives known job deeds Remote o = Asked known job deeds.exchanges (λ received ended. IsAnswer (carried o) × (received ≡ reply_bytes (carried o)))
 Gives known job deeds (Local cause) o = OfTree known (λ tree. known.gives tree job ≡ o)
 Gives known job deeds Broken o = ⊥
 

@@ -5,7 +5,9 @@ ghost use Rattle.job_words.specs.Words.{IsJob};
 ghost use Rattle.build_clients.specs.Outside.{seen_end};
 ghost use Rattle.build_clients.specs.Record.{DidJob, known};
 
-use crate::{Done, End};
+use crate::asking::{Replied, ask_host};
+use crate::steps::{Prepared, conclude, prepare};
+use crate::{Done, End, JobOutcome, Way};
 use io_edges::{Host, LinkState, Outs, Wire};
 use job_words::Job;
 use std::alloc::Global;
@@ -31,10 +33,21 @@ pub fn do_job<T: Tree, W: Wire, O: Outs>(
     ensures did { let seen = seen_end T.told T.Tree.faults T.reads W.talk W.state W.Wire.faults O.kept O.Outs.faults in
         DidJob (known T.Of.named budget) job.now host.now result (seen end.old) (seen end.new) }
 {
-    Done {
-        job: number,
-        client,
-        outcome: crate::JobOutcome::Memory,
-        way: crate::Way::Local(crate::Cause::Memory),
+    match prepare(alloc, end, budget, job) {
+        Prepared::Request(request) => {
+            let replied = ask_host(alloc, end, host, request.as_slice());
+            return conclude(alloc, end, client, number, job, replied);
+        }
+        Prepared::Failed(cause) => {
+            return conclude(alloc, end, client, number, job, Replied::Failed(cause));
+        }
+        Prepared::Broken => {
+            return Done {
+                job: number,
+                client,
+                outcome: JobOutcome::TreeFault,
+                way: Way::Broken,
+            };
+        }
     }
 }

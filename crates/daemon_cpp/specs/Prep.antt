@@ -1,7 +1,6 @@
 -- Preprocessing a job: translation phases 1 to 4 (ISO C 5.1.1.2, 6.10), as a recursion on the pieces of a file, with
 -- what entering an included file does as a parameter, and on the depth of includes left.
-use Rattle.std.specs.Prelude.{◌≡◌, ◌≤◌, ℕ, zero, suc, ◌+◌, List, [], ◌∷◌, ◌++◌, length, map, Option, None, Some, Bool, cond, nat_le, unwrap_or, pos}
-use Rattle.pp_tokens.specs.declared.token.Token.{Token}
+use Rattle.std.specs.Prelude.{◌≤◌, ℕ, zero, suc, ◌+◌, List, [], ◌∷◌, ◌++◌, length, map, Option, None, Some, Bool, cond, nat_le, unwrap_or, pos}
 use Rattle.cpp_output.specs.Layout.{Event, enter, back, put, text_limit}
 use Rattle.cpp_output.specs.Laid.{Laid, begun, after_events, finished}
 use Rattle.tree_model.specs.Paths.{Text, Path, slash, spelled, parent}

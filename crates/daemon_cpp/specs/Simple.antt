@@ -1,7 +1,7 @@
 -- The pieces of a file (ISO C 6.10): lines of text and directives. Files are built so far that are simple: lines of
 -- text and include lines alone.
-use Rattle.std.specs.Prelude.{ℕ, ◌-◌, Bool, true, false, not, ◌&&◌, List, [], ◌∷◌, map, length, take, drop, if◌then◌else◌, nat_le, ◌==◌, nat_eq, codes, bytes_eq, count_by}
-use Rattle.std.specs.List.{list_any, list_all, starts_with}
+use Rattle.std.specs.Prelude.{ℕ, ◌-◌, Bool, true, false, not, ◌&&◌, List, [], ◌∷◌, map, length, take, drop, if◌then◌else◌, nat_le, ◌==◌, nat_eq, codes, count_by}
+use Rattle.std.specs.List.{list_any, starts_with}
 use Rattle.pp_tokens.specs.declared.token.Kind.{Kind}
 use Rattle.pp_tokens.specs.declared.token.Kind.TheVariants as kind
 use Rattle.pp_tokens.specs.declared.token.Token.{Token}

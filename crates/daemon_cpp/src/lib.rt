@@ -2,7 +2,16 @@
 #![tactic(auto)]
 
 mod cpp;
+mod diagnostic;
+mod laying;
 mod outcome;
+mod simple;
+mod tree;
 
-pub use cpp::preprocess;
+pub use cpp::{absolute, preprocess};
 pub use outcome::{CppError, Outcome};
+pub use simple::{Include, flat, include_at};
+pub use tree::read_lines;
+
+#[cfg(test)]
+mod tests;

@@ -1,0 +1,70 @@
+// An exchange with a host, and what its reply says.
+ghost use Rattle.std.specs.Prelude.{◌≡◌, ◌<◌, length, false};
+ghost use Rattle.io_edges.specs.Talk.{EachAnswered};
+ghost use Rattle.build_clients.specs.Outside.{seen_end};
+ghost use Rattle.job_frames.specs.Reply.{longest_reply};
+ghost use Rattle.build_clients.specs.Steps.{Asks, Says};
+
+use crate::talking::{Reply, exchange};
+use crate::{Cause, End};
+use base_types::Bytes;
+use io_edges::{Host, LinkFault, LinkState, Outs, Wire};
+use job_frames::{Answer, replies_have_ends, reply_of, reply_spellings};
+use std::alloc::Global;
+use tree_model::Tree;
+
+/// What a request came to: a text, a diagnostic, or why the job is to be done locally.
+#[derive(Debug, Drop)]
+pub enum Replied {
+    Text(Bytes),
+    Diag(Bytes),
+    Failed(Cause),
+}
+
+/// Sends a request to a host, and judges the whole reply. A link that fails is `Link`, want of memory here `Memory` and
+/// at the host `DaemonMemory`, and a reply that is no text, no diagnostic and no want of memory is `Peer`.
+pub fn ask_host<T: Tree, W: Wire, O: Outs>(
+    alloc: Global,
+    end: &mut End<T, W, O>,
+    host: &Host,
+    request: &[u8],
+) -> Replied
+    requires closed { W.state end.old.wire ≡ LinkState.Closed }
+    requires answered { EachAnswered W.peer (W.talk end.old.wire) }
+    ensures closed { W.state end.new.wire ≡ LinkState.Closed }
+    ensures answered { EachAnswered W.peer (W.talk end.new.wire) }
+    ensures tree { end.new.tree ≡ end.old.tree }
+    ensures outs { end.new.outs ≡ end.old.outs }
+    ensures asked { let seen = seen_end T.told T.Tree.faults T.reads W.talk W.state W.Wire.faults O.kept O.Outs.faults in
+        Asks host.now request.now (seen end.old) (seen end.new) result }
+{
+    match exchange(alloc, &mut end.wire, host, request) {
+        Ok(reply) => return judge(alloc, reply),
+        Err(LinkFault::Down) => return Replied::Failed(Cause::Link),
+        Err(LinkFault::Memory) => return Replied::Failed(Cause::Memory),
+    }
+}
+
+// What a reply says. One that didn't end is longer than every reply.
+fn judge(alloc: Global, reply: Reply) -> Replied
+    requires { reply.ended ≡ false → longest_reply < length reply.bytes }
+    ensures { Says reply.bytes reply.ended result }
+{
+    reply_spellings();
+    replies_have_ends();
+    if !reply.ended {
+        return Replied::Failed(Cause::Peer);
+    }
+    match reply_of(alloc, reply.bytes.as_slice()) {
+        Ok(Some(Answer::Text(text))) => return Replied::Text(text),
+        Ok(Some(Answer::Diag(words))) => return Replied::Diag(words),
+        Ok(Some(Answer::Refused(reason))) => {
+            if reason == 1 {
+                return Replied::Failed(Cause::DaemonMemory);
+            }
+            return Replied::Failed(Cause::Peer);
+        }
+        Ok(None) => return Replied::Failed(Cause::Peer),
+        Err(_) => return Replied::Failed(Cause::Memory),
+    }
+}

@@ -1,0 +1,16 @@
+// The laws of a job's record.
+ghost use Rattle.build_clients.specs.Agree.{EntriesAreEnough, RecordsAgree, RecordsAreCalm};
+
+use job_frames::{reply_spellings, request_spellings, request_trees};
+
+/// Where preprocessing over the entries of a job gives what it gives over the whole tree, and hosts answer as daemons
+/// do: each outcome that is recorded is that of preprocessing over the whole tree; and a job in which no count of faults
+/// rose is remote, or local by its analysis or for want of memory.
+pub fn records_agree()
+    ensures agree { EntriesAreEnough → RecordsAgree }
+    ensures calm { EntriesAreEnough → RecordsAreCalm }
+{
+    request_spellings();
+    request_trees();
+    reply_spellings();
+}

@@ -1,0 +1,6 @@
+mod Courses
+mod Places
+mod Layings
+mod LargeFiles
+mod Ended
+mod Jobs

@@ -1,0 +1,108 @@
+// The texts of diagnostics.
+ghost use Rattle.std.specs.Prelude.{◌≡◌, ◌≤◌, ◌++◌, length, IfOk, OnOk};
+ghost use Rattle.daemon_cpp.specs.Diagnostics.{NotFound, shown, shown_byte, diagnostic_text, words_of};
+ghost use Rattle.daemon_cpp.specs.Problems.{complaint_of};
+
+use base_types::Bytes;
+use std::alloc::{AllocError, Global};
+use std::marker::Model;
+
+// The longest diagnostic, in bytes.
+const LENGTH_LIMIT: usize = 65_536;
+
+// What is wrong.
+#[derive(Clone, Copy, Debug, Drop)]
+pub enum Problem<'a> {
+    NoSource,
+    NotFound(&'a [u8]),
+    NotBuilt,
+    TextLimit,
+}
+
+// The text of a diagnostic, of 1 to 65,536 bytes.
+#[derive(Debug, Drop)]
+pub struct Diagnostic {
+    text: Vec<u8>,
+}
+
+impl Model for Diagnostic {
+    ghost use Rattle.std.specs.Prelude.{ℕ, List, ◌≤◌, length};
+
+    ghost Value = { List ℕ };
+
+    ghost view = { λ d. d.text.items };
+
+    ghost invariant = { λ d. (1 ≤ length d.text.items) × (length d.text.items ≤ 65536) };
+}
+
+impl Diagnostic {
+    // The diagnostic of a problem at a place and a physical line, 0 where it is the file as a whole.
+    #[tactic(auto, unfolding(crate::specs::Diagnostics::diagnostic_text))]
+    pub fn new(
+        alloc: Global,
+        place: &[u8],
+        line: u32,
+        problem: Problem<'_>,
+    ) -> Result<Diagnostic, AllocError>
+        ensures { IfOk result (λ d. d ≡ diagnostic_text (record { place = place.now; at = line; complaint = complaint_of problem.entry })) }
+    {
+        let mut text = shown(alloc, place)?;
+        let middle = format!(in alloc; ":{line}: error: ")?;
+        text.extend_from_slice(middle.as_bytes())?;
+        add_words(alloc, &mut text, problem)?;
+        text.truncate(LENGTH_LIMIT);
+        Ok(Diagnostic { text })
+    }
+
+    pub fn into_bytes(self) -> Bytes
+        ensures value { result ≡ self }
+        ensures fits { (1 ≤ length result) × (length result ≤ 65536) }
+    {
+        Bytes::of(self.text)
+    }
+}
+
+// Adds the words that say what is wrong.
+fn add_words(alloc: Global, text: &mut Vec<u8>, problem: Problem<'_>) -> Result<(), AllocError>
+    ensures { OnOk result (text.new.items ≡ text.old.items ++ words_of (complaint_of problem.entry)) }
+{
+    match problem {
+        Problem::NoSource => text.extend_from_slice(b"cannot find source"),
+        Problem::NotFound(name) => add_not_found(alloc, text, name),
+        Problem::NotBuilt => text.extend_from_slice(b"not built"),
+        Problem::TextLimit => text.extend_from_slice(b"text limit"),
+    }
+}
+
+fn add_not_found(alloc: Global, text: &mut Vec<u8>, name: &[u8]) -> Result<(), AllocError>
+    ensures { OnOk result (text.new.items ≡ text.old.items ++ words_of (NotFound name.now)) }
+{
+    let name = shown(alloc, name)?;
+    text.extend_from_slice(b"cannot find \"")?;
+    text.extend_from_slice(&name)?;
+    text.extend_from_slice(b"\"")?;
+    Ok(())
+}
+
+// A name as it is shown: `\`, `"` and a newline are escaped.
+#[tactic(auto, unfolding(crate::specs::Diagnostics::shown))]
+pub fn shown(alloc: Global, text: &[u8]) -> Result<Vec<u8>, AllocError>
+    ensures { IfOk result (λ bytes. bytes.items ≡ shown text.now) }
+{
+    let mut bytes = Vec::with_capacity(alloc, text.len())?;
+    for byte in text {
+        add_shown(&mut bytes, *byte)?;
+    }
+    Ok(bytes)
+}
+
+fn add_shown(bytes: &mut Vec<u8>, byte: u8) -> Result<(), AllocError>
+    ensures { OnOk result (bytes.new.items ≡ bytes.old.items ++ shown_byte byte) }
+{
+    match byte {
+        b'\\' => bytes.extend_from_slice(b"\\\\"),
+        b'"' => bytes.extend_from_slice(b"\\\""),
+        b'\n' => bytes.extend_from_slice(b"\\n"),
+        _ => Ok(bytes.push(byte)?),
+    }
+}
