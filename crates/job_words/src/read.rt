@@ -43,7 +43,10 @@ fn is_directory(alloc: Global, text: &[u8]) -> Result<bool, AllocError>
 fn output_name(alloc: Global, source: &[u8]) -> Result<Bytes, AllocError>
     ensures { IfOk result (λ name. name ≡ output_of source.now) }
 {
-    let end = source.iter().rposition(|b| *b == b'.').unwrap_or(source.len());
+    let end = source
+        .iter()
+        .rposition(|b| *b == b'.')
+        .unwrap_or(source.len());
     let mut name = Bytes::copy_of(alloc, &source[..end])?;
     name.extend(b".i".as_slice())?;
     Ok(name)

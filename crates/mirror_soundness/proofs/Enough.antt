@@ -109,10 +109,10 @@ module _ (lists : ListsMakeTrees) (nodes : EntriesAreNodes) (found_in_part : IsL
       opens mirrored (enter_file mirrored depth) is_simple [] source state
       ∙ ap (opened_with mirrored (enter_file mirrored depth) is_simple [] source state) same_source_body
       ∙ ap (λ (step : Step). cond (is_simple (all.body source.real)) step (complain 0 NotBuilt (inside_of source state)))
-        (and_same (say [] (inside_of source state)) (λ after. run_pieces mirrored (enter_file mirrored depth) (pieces_of (all.body source.real)) after)
-          (λ after. run_pieces all (enter_file all depth) (pieces_of (all.body source.real)) after)
-          (λ after goes. pieces_same mirrored all depth source.place (pieces_of (all.body source.real)) agree after
-            (ap (λ (h : Here). h.place) (say_here [] (inside_of source state) after goes))))
+      (and_same (say [] (inside_of source state)) (λ after. run_pieces mirrored (enter_file mirrored depth) (pieces_of (all.body source.real)) after)
+      (λ after. run_pieces all (enter_file all depth) (pieces_of (all.body source.real)) after)
+      (λ after goes. pieces_same mirrored all depth source.place (pieces_of (all.body source.real)) agree after
+      (ap (λ (h : Here). h.place) (say_here [] (inside_of source state) after goes))))
       ∙ sym (opens all (enter_file all depth) is_simple [] source state)
 
   pub same_run : (depth : ℕ) (text : Text)
@@ -120,7 +120,7 @@ module _ (lists : ListsMakeTrees) (nodes : EntriesAreNodes) (found_in_part : IsL
       ≡ prepared (and_then (λ state. open_file all (enter_file all depth) is_simple [] source state) (limited (first_state source)))
   same_run depth text =
       ap prepared (and_same (limited (first_state source)) (λ state. open_file mirrored (enter_file mirrored depth) is_simple [] source state)
-        (λ state. open_file all (enter_file all depth) is_simple [] source state) (λ after goes. source_opened depth after))
+      (λ state. open_file all (enter_file all depth) is_simple [] source state) (λ after goes. source_opened depth after))
 
 -- both sides of a job whose source is found
 from_source : (lists : ListsMakeTrees) (nodes : EntriesAreNodes) (found_in_part : IsLocatedInPart) (none_in_part : IsLocatedInNoPart) (holds : HoldsOfLocated)

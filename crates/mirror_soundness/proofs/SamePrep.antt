@@ -62,7 +62,7 @@ flat_opened : (w v : World) (e d : Entering) (events : List Event) (located : Lo
 flat_opened w v e d events located state body flat =
     ap (λ (step : Step). cond (is_flat body) step (complain 0 NotBuilt (inside_of located state)))
     (and_same (say events (inside_of located state)) (λ after. run_pieces w e (pieces_of body) after) (λ after. run_pieces v d (pieces_of body) after)
-      (λ after goes. text_same w v e d (pieces_of body) (flat_is_text body flat) after))
+    (λ after goes. text_same w v e d (pieces_of body) (flat_is_text body flat) after))
 
 -- both worlds have the same bytes for a file, and it is flat
 pub record SameFile (w v : World) (located : Located) : Type 0 where
@@ -123,5 +123,5 @@ pieces_same w v depth place (Include at name ∷ pieces) agrees state here =
     let same : Agrees w v state.here.place name = subst (λ (p : Path). Agrees w v p name) (sym here) (agrees name (inl refl)) in
     ap (and_then (λ after. run_pieces w (enter_file w depth) pieces after)) (include_same w v depth at name state same)
     ∙ and_same (run_piece v (enter_file v depth) (Include at name) state) (λ after. run_pieces w (enter_file w depth) pieces after) (λ after. run_pieces v (enter_file v depth) pieces after)
-      (λ after goes. pieces_same w v depth place pieces (λ other m. agrees other (inr m)) after
-        (ap (λ (h : Here). h.place) (found_here v depth at name state _ after goes) ∙ here))
+    (λ after goes. pieces_same w v depth place pieces (λ other m. agrees other (inr m)) after
+    (ap (λ (h : Here). h.place) (found_here v depth at name state _ after goes) ∙ here))

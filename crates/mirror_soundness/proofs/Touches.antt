@@ -62,7 +62,7 @@ opened_among : (files : List Located) (w : World) (e : Entering) (events : List 
 opened_among files w e events located state body true flat among =
     subst (λ (b : Bool). Among files (touched_in (cond b (and_then (λ after. run_pieces w e (pieces_of body) after) (say events (inside_of located state))) (complain 0 NotBuilt (inside_of located state))))) (sym flat)
     (then_among files (say events (inside_of located state)) (λ after. run_pieces w e (pieces_of body) after) (say_among files events (inside_of located state) among)
-      (λ after goes still. text_among files w e (pieces_of body) (flat_is_text body flat) after still))
+    (λ after goes still. text_among files w e (pieces_of body) (flat_is_text body flat) after still))
 opened_among files w e events located state body false flat among =
     subst (λ (b : Bool). Among files (touched_in (cond b (and_then (λ after. run_pieces w e (pieces_of body) after) (say events (inside_of located state))) (complain 0 NotBuilt (inside_of located state))))) (sym flat) among
 
@@ -73,7 +73,7 @@ enter_among files w (suc depth) at located state among =
     let events : List Event = enter (presumed_name located.place) ∷ [] in
     then_among files (open_file w (enter_file w depth) is_flat events located state) (λ after. back_in state.here at after)
     (subst (λ (step : Step). Among files (touched_in step)) (sym (opens w (enter_file w depth) is_flat events located state))
-      (opened_among files w (enter_file w depth) events located state (w.body located.real) (is_flat (w.body located.real)) refl among))
+    (opened_among files w (enter_file w depth) events located state (w.body located.real) (is_flat (w.body located.real)) refl among))
     (λ after goes still. say_among files _ (record after { here = state.here }) still)
 
 touch_among : (files : List Located) (touched : List Located) (located : Located) → Member located files → Among files touched → Among files (touched ++ located ∷ [])
@@ -98,11 +98,11 @@ pieces_among files w depth place (Run tokens ∷ pieces) asks state here among =
     (λ after goes still. pieces_among files w depth place pieces asks after (ap (λ (h : Here). h.place) (say_here _ state after goes) ∙ here) still)
 pieces_among files w depth place (Include at name ∷ pieces) asks state here among =
     let file : (located : Located) → w.find (Quote (parent state.here.place) name) ≡ Some located → Member located files =
-          λ located e. asks name (inl refl) located (ap (λ (p : Path). w.find (Quote (parent p) name)) (sym here) ∙ e) in
+    λ located e. asks name (inl refl) located (ap (λ (p : Path). w.find (Quote (parent p) name)) (sym here) ∙ e) in
     then_among files (run_piece w (enter_file w depth) (Include at name) state) (λ after. run_pieces w (enter_file w depth) pieces after)
     (found_among files w depth at name state _ file among)
     (λ after goes still. pieces_among files w depth place pieces (λ other m. asks other (inr m)) after
-      (ap (λ (h : Here). h.place) (found_here w depth at name state _ after goes) ∙ here) still)
+    (ap (λ (h : Here). h.place) (found_here w depth at name state _ after goes) ∙ here) still)
 
 -- a source that is opened
 source_among : (files : List Located) (w : World) (depth : ℕ) (source : Located) (state : State) → is_simple (w.body source.real) ≡ true
@@ -111,9 +111,9 @@ source_among : (files : List Located) (w : World) (depth : ℕ) (source : Locate
 source_among files w depth source state simple asks among =
     subst (λ (step : Step). Among files (touched_in step)) (sym (opens w (enter_file w depth) is_simple [] source state))
     (subst (λ (b : Bool). Among files (touched_in (cond b (and_then (λ after. run_pieces w (enter_file w depth) (pieces_of (w.body source.real)) after) (say [] (inside_of source state))) (complain 0 NotBuilt (inside_of source state))))) (sym simple)
-      (then_among files (say [] (inside_of source state)) (λ after. run_pieces w (enter_file w depth) (pieces_of (w.body source.real)) after)
-        (say_among files [] (inside_of source state) among)
-        (λ after goes still. pieces_among files w depth source.place (pieces_of (w.body source.real)) asks after (ap (λ (h : Here). h.place) (say_here [] (inside_of source state) after goes)) still)))
+    (then_among files (say [] (inside_of source state)) (λ after. run_pieces w (enter_file w depth) (pieces_of (w.body source.real)) after)
+    (say_among files [] (inside_of source state) among)
+    (λ after goes still. pieces_among files w depth source.place (pieces_of (w.body source.real)) asks after (ap (λ (h : Here). h.place) (say_here [] (inside_of source state) after goes)) still)))
 
 module _ (tree : FileTree) (job : Job) (source : Located) (source_is : source_of tree job ≡ Some source) (built : is_unbuilt tree (Some source) ≡ true → ⊥) where
   asked_found : (name : Text) → Member name (names_asked (body_found tree source)) → (located : Located) → locate tree (parent source.place) name ≡ Some located → Member located (found_files tree job)
@@ -124,7 +124,7 @@ module _ (tree : FileTree) (job : Job) (source : Located) (source_is : source_of
   run_among : (depth : ℕ) → Among (found_files tree job) (touched_in (and_then (λ state. open_file (world_of tree) (enter_file (world_of tree) depth) is_simple [] source state) (limited (first_state source))))
   run_among depth =
       let simple : is_simple (body_found tree source) ≡ true =
-            (none_fails (is_simple (body_found tree source)) (list_any (λ other. not (is_flat (body_found tree other))) (targets_of tree source)) built).0 in
+      (none_fails (is_simple (body_found tree source)) (list_any (λ other. not (is_flat (body_found tree other))) (targets_of tree source)) built).0 in
       let alone : Among (found_files tree job) (source ∷ []) = λ located m. only located m in
       then_among (found_files tree job) (limited (first_state source)) (λ state. open_file (world_of tree) (enter_file (world_of tree) depth) is_simple [] source state)
       (subst (λ (t : List Located). Among (found_files tree job) t) (sym (limited_touched _ (first_state source) _)) alone)
@@ -142,8 +142,8 @@ touched_among tree job built (Some source) e =
     let there : is_unbuilt tree (Some source) ≡ true → ⊥ = λ unbuilt. built (ap (is_unbuilt tree) e ∙ unbuilt) in
     subst (λ (o : Option Located). Among (found_files tree job) (run_job (world_of tree) (absolute job.cwd job.source) o).touched) (sym e)
     (subst (λ (t : List Located). Among (found_files tree job) t)
-      (sym (prepared_touched (and_then (λ state. open_file (world_of tree) (enter_file (world_of tree) depth_limit) is_simple [] source state) (limited (first_state source)))))
-      (run_among tree job source e there depth_limit))
+    (sym (prepared_touched (and_then (λ state. open_file (world_of tree) (enter_file (world_of tree) depth_limit) is_simple [] source state) (limited (first_state source)))))
+    (run_among tree job source e there depth_limit))
 
 pub touches_nodes : TouchesNodesAlone
 touches_nodes tree job built located m path walked below = record {

@@ -9,5 +9,4 @@ pub fn mirror_is_enough()
     ensures tree { EntriesMakeTree }
     ensures touched { TouchesNodesAlone }
     ensures enough { MirrorIsEnough }
-{
-}
+{}

@@ -8,9 +8,8 @@ use folder::Folder;
 use io_edges::{FolderOuts, MemSpawner, StdSink, StdSource};
 use pump_run::{End, pump};
 use std::alloc::{AllocError, Global};
-use std::env;
-use std::io;
 use std::process::ExitCode;
+use std::{env, io};
 
 // As many ends as there may be clients.
 const ENDS: usize = 64;
@@ -45,7 +44,11 @@ fn main(rt: HostRuntime) -> io::Result<ExitCode> {
 
 // The words behind the program's own name.
 fn words_of<'a>(alloc: Global, arguments: &'a Vec<String>) -> Result<Vec<&'a str>, AllocError> {
-    arguments.iter().skip(1).map(|word| word.as_str()).collect(alloc)
+    arguments
+        .iter()
+        .skip(1)
+        .map(|word| word.as_str())
+        .collect(alloc)
 }
 
 fn run(rt: &HostRuntime, words: &[&str]) -> io::Result<ExitCode> {
@@ -54,7 +57,15 @@ fn run(rt: &HostRuntime, words: &[&str]) -> io::Result<ExitCode> {
     let mut list = StdSource::new(rt);
     let mut report = StdSink::new(rt.clone()?);
     let mut spawner = MemSpawner::new(alloc, Vec::new(alloc));
-    let status = pump(rt, alloc, words, &mut list, &mut ends, &mut spawner, &mut report);
+    let status = pump(
+        rt,
+        alloc,
+        words,
+        &mut list,
+        &mut ends,
+        &mut spawner,
+        &mut report,
+    );
     Ok(ExitCode::from(status))
 }
 

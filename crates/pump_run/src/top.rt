@@ -12,15 +12,7 @@ use std::thread::Threads;
 use tree_model::Tree;
 
 /// Reads the words and the list, runs the jobs, and writes the report.
-pub fn pump<
-    T: Tree,
-    W: Wire,
-    O: Outs,
-    P: Spawner,
-    S: Source,
-    K: Sink,
-    R: Threads + Wait + Sync,
->(
+pub fn pump<T: Tree, W: Wire, O: Outs, P: Spawner, S: Source, K: Sink, R: Threads + Wait + Sync>(
     rt: &R,
     alloc: Global,
     words: &[&str],
@@ -33,12 +25,11 @@ pub fn pump<
     requires few { length ends.old.items ≤ 64 }
     requires fresh { AllByRecursion IsFresh (map (seen_end T.told T.Tree.faults T.reads W.talk W.state W.Wire.faults O.kept O.Outs.faults) ends.old.items) }
     requires idle { P.running spawner.old ≡ [] }
-    ensures run {
-        let seen = seen_end T.told T.Tree.faults T.reads W.talk W.state W.Wire.faults O.kept O.Outs.faults in
+    ensures run { let seen = seen_end T.told T.Tree.faults T.reads W.talk W.state W.Wire.faults O.kept O.Outs.faults in
         IsRun (given T.Of.named W.peer (map (λ word. word.now) words.now))
-            (outside (map seen ends.old.items) (S.left list.old) (S.faults list.old) (P.begun spawner.old) (P.running spawner.old) (P.asked spawner.old) (P.faults spawner.old) (K.held report.old) (K.faults report.old))
-            (outside (map seen ends.new.items) (S.left list.new) (S.faults list.new) (P.begun spawner.new) (P.running spawner.new) (P.asked spawner.new) (P.faults spawner.new) (K.held report.new) (K.faults report.new))
-            result }
+        (outside (map seen ends.old.items) (S.left list.old) (S.faults list.old) (P.begun spawner.old) (P.running spawner.old) (P.asked spawner.old) (P.faults spawner.old) (K.held report.old) (K.faults report.old))
+        (outside (map seen ends.new.items) (S.left list.new) (S.faults list.new) (P.begun spawner.new) (P.running spawner.new) (P.asked spawner.new) (P.faults spawner.new) (K.held report.new) (K.faults report.new))
+        result }
 {
     if words.len() != 6 {
         match report.put(b"pump: usage\n".as_slice()) {

@@ -16,8 +16,8 @@ pub use calls::Counted;
 pub use entry::{Entry, Node};
 pub use frame::{frame_law, leads_law, looked_law, walked_law};
 pub use laws::{
-    entries_of_trees, judging_makes_trees, lists_make_trees, looked_up_by_bytes, parents_make_trees,
-    spellings_are_apart, tests_decide,
+    entries_of_trees, judging_makes_trees, lists_make_trees, looked_up_by_bytes,
+    parents_make_trees, spellings_are_apart, tests_decide,
 };
 pub use mem_tree::{MemTree, MirrorError};
 pub use order::{entry_spelled, judge_path};
