@@ -115,7 +115,6 @@ module _ (tree : FileTree) (budget : ℕ) (job : Job) (entries : Entries) (are :
         tree = made;
         few = few;
         bodies = each-small entries entry-small;
-        small = short;
       }
 
 -- ---- what the daemon said ----
@@ -192,7 +191,7 @@ module _ (whole_requests : RequestsAreWhole) (trees : TreesMakeRequests) (apart 
     says : (sent : List ℕ) (none : NothingHolds tree job budget) (is : IsRequestOf tree job sent) (received : List ℕ) → Daemon Answers sent received → Said job is.0 received
     says sent none is received daemon =
         let made = (enough tree job budget is.0 is_tree none is.1).0 in
-        let request = trees job is.0 (fits-request tree budget job is.0 is.1 none is_job made) in
+        let request = trees job is.0 (fits-request tree budget job is.0 is.1 none is_job made) (short tree budget job is.0 is.1 none) in
         said job is.0 sent received (whole_requests job is.0 sent request is.2) daemon
 
     served-one : (e : Exchange) → deeds.exchanges ≡ e ∷ [] → IsAnswered (Daemon Answers) e

@@ -35,7 +35,8 @@ AreServed exchanges = AllByRecursion (IsAnswered (Daemon Answers)) exchanges
 
 -- ---- what is asked of the analysis ----
 
--- the entries of a job of which no refusal holds make a tree, over which the job has its outcome over the whole tree
+-- The entries of a job of which no refusal holds make a tree, over which the job has the outcome that it has over the whole
+-- tree. (It follows from the law that joins the analysis and preprocessing.)
 abbrev pub EntriesAreEnough : Type 0
 EntriesAreEnough = (tree : FileTree) (job : Job) (budget : ℕ) (entries : Entries) → IsTree tree → NothingHolds tree job budget → AreEntriesOf tree job entries
     → IsTrue (makes_tree entries) × (outcome_over (tree_of entries) job ≡ outcome_over tree job)
