@@ -1,5 +1,5 @@
 -- The job that a working directory and compile words give: words are so far one simple name, the source.
-use Rattle.std.specs.Prelude.{◌≡◌, ℕ, List, [], ◌∷◌, ◌++◌, Bool, true, false, ◌&&◌, ◌==◌, if◌then◌else◌, Option, Some, None, codes}
+use Rattle.std.specs.Prelude.{◌≡◌, List, [], ◌∷◌, ◌++◌, Bool, true, false, ◌&&◌, ◌==◌, if◌then◌else◌, Option, Some, None, codes}
 use Rattle.std.specs.List.{list_any, before_last}
 use Rattle.tree_model.specs.Paths.{Text, Path, path_of}
 use Rattle.pp_tokens.specs.Plain.{is_simple_name}
