@@ -1,6 +1,6 @@
 -- What the words of the top call and the compile list ask for.
-use Rattle.std.specs.Prelude.{◌≡◌, ℕ, ◌-◌, ◌≤◌, List, [], ◌∷◌, ◌++◌, length, Bool, true, false, ◌&&◌, ◌||◌, not, if◌then◌else◌, nat_le, ◌==◌, bytes_eq, codes, Option, None, Some, Result, Ok, Err}
-use Rattle.std.specs.List.{list_any, list_all, before_first, after_first}
+use Rattle.std.specs.Prelude.{◌≡◌, ℕ, ◌-◌, ◌≤◌, List, [], ◌∷◌, ◌++◌, length, Bool, true, false, ◌&&◌, ◌||◌, not, if◌then◌else◌, nat_le, nat_eq, ◌+◌, ◌==◌, bytes_eq, codes, Option, None, Some, Result, Ok, Err}
+use Rattle.std.specs.List.{list_any, list_all, position_or_len, before_first, after_first}
 use Rattle.std.specs.Option.{option_map}
 use Rattle.tree_model.specs.Paths.{Text}
 use Rattle.io_edges.specs.declared.wire.Host.{Host}
@@ -31,7 +31,13 @@ host_of name = record { name = name; port = 3632; limit = if bytes_eq name (code
 abbrev pub settings_with : Text → Settings
 settings_with name = record { order = []; hosts = host_of name ∷ []; clients = 1; budget = 4096 }
 
--- The words `order - --hosts HOST -j 1`; none where they are anything else.
+-- six words in the grammar `order - --hosts HOST -j 1`
+abbrev pub is_grammar : Text → Text → Text → Text → Text → Text → Bool
+is_grammar order steps hosts name clients number =
+    (bytes_eq order (codes "order") && bytes_eq steps (codes "-"))
+    && ((bytes_eq hosts (codes "--hosts") && is_host_name name) && (bytes_eq clients (codes "-j") && bytes_eq number (codes "1")))
+
+-- the words of that grammar, and none else
 unfoldable pub settings_of : List Text → Option Settings
 settings_of [] = None
 settings_of (a ∷ []) = None
@@ -39,9 +45,7 @@ settings_of (a ∷ b ∷ []) = None
 settings_of (a ∷ b ∷ c ∷ []) = None
 settings_of (a ∷ b ∷ c ∷ d ∷ []) = None
 settings_of (a ∷ b ∷ c ∷ d ∷ e ∷ []) = None
-settings_of (a ∷ b ∷ c ∷ name ∷ e ∷ f ∷ []) =
-    if (bytes_eq a (codes "order") && bytes_eq b (codes "-")) && ((bytes_eq c (codes "--hosts") && is_host_name name) && (bytes_eq e (codes "-j") && bytes_eq f (codes "1")))
-    then Some (settings_with name) else None
+settings_of (a ∷ b ∷ c ∷ name ∷ e ∷ f ∷ []) = if is_grammar a b c name e f then Some (settings_with name) else None
 settings_of (a ∷ b ∷ c ∷ d ∷ e ∷ f ∷ g ∷ words) = None
 
 -- ---- the list ----
@@ -68,7 +72,7 @@ job_of_words cwd source = if list_any ends_word cwd then None else job_of cwd (s
 
 -- all but a line feed at the end, where it is the only one
 abbrev pub line_of : Text → Option Text
-line_of bytes = if bytes_eq (after_first (λ b. b == 10) bytes) [] && list_any (λ b. b == 10) bytes then Some (before_first (λ b. b == 10) bytes) else None
+line_of bytes = if nat_eq (position_or_len (λ b. b == 10) bytes + 1) (length bytes) then Some (before_first (λ b. b == 10) bytes) else None
 
 abbrev pub job_of_line : Option Text → Option Job
 job_of_line None = None

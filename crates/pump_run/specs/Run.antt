@@ -1,31 +1,26 @@
 -- The clause on pump: its run, from the words and the list to the ends, the report and the status.
-use Rattle.std.specs.Prelude.{◌≡◌, Ok, Err, ℕ, suc, ◌+◌, ◌-◌, ◌^◌, ◌<◌, ◌≤◌, ◌⊎◌, List, [], ◌∷◌, ◌++◌, length, take, Bool, true, false, cond, Option, None, Some, IfSome, IsSome, ◌||◌, ◌&&◌, nat_le, ◌==◌, codes, IsTrue, if◌then◌else◌}
-use Rattle.std.specs.List.{flat_map, filter, count_by, list_any, list_all, AllByRecursion}
+use Rattle.std.specs.Prelude.{◌≡◌, Ok, Err, ℕ, suc, ◌+◌, ◌-◌, ◌^◌, ◌<◌, ◌≤◌, ◌⊎◌, List, [], ◌∷◌, ◌++◌, take, Bool, true, false, cond, Option, None, Some, IfSome, IsSome, ◌==◌, if◌then◌else◌}
+use Rattle.std.specs.List.{flat_map, filter, count_by, list_any, AllByRecursion}
 use Rattle.std.specs.Option.{ForSome}
-use Rattle.tree_model.specs.Trees.{FileTree, tree_of}
+use Rattle.tree_model.specs.Trees.{FileTree}
 use Rattle.job_words.specs.declared.job.Job.{Job}
 use Rattle.io_edges.specs.declared.wire.Exchange.{Exchange}
 use Rattle.io_edges.specs.declared.wire.Host.{Host}
 use Rattle.io_edges.specs.declared.wire.LinkState.TheVariants.{Closed}
-use Rattle.job_frames.specs.declared.answer.Answer.{Answer}
 use Rattle.base_types.specs.Causes.{Rose}
 use Rattle.base_types.specs.Told.{added}
-use Rattle.tree_model.specs.Entries.{Entries}
-use Rattle.io_edges.specs.Talk.{IsAnswered, EachAnswered}
+use Rattle.io_edges.specs.Talk.{EachAnswered}
 use Rattle.job_frames.specs.Daemon.{Daemon}
 use Rattle.daemon_cpp.specs.Prep.{outcome_over}
-use Rattle.build_clients.specs.declared.record.Done.{Done}
-use Rattle.daemon_cpp.specs.declared.outcome.Outcome.{Outcome}
-use Rattle.daemon_cpp.specs.declared.outcome.Outcome.TheVariants as outcome
 use Rattle.build_clients.specs.declared.record.Way.{Way}
 use Rattle.build_clients.specs.declared.record.Way.TheVariants.{Remote, Local, Broken}
 use Rattle.build_clients.specs.declared.record.Cause.TheVariants as cause
 use Rattle.build_clients.specs.declared.record.JobOutcome.{JobOutcome}
-use Rattle.build_clients.specs.declared.record.JobOutcome.TheVariants as end
+use Rattle.build_clients.specs.Agree.{Answers, AreServed, AgreesWith, IsCalm}
 use Rattle.build_clients.specs.Outside.{EndSeen}
 use Rattle.build_clients.specs.Record as record_of
-use Rattle.build_clients.specs.Record.{Known, Deeds, IsRecord, carried, known}
-use Rattle.pump_run.specs.Asked.{Settings, settings_of, ListRefusal, ListWhy, NotBuilt, jobs_of}
+use Rattle.build_clients.specs.Record.{Known, IsRecord, known}
+use Rattle.pump_run.specs.Asked.{Settings, settings_of, jobs_of}
 use Rattle.pump_run.specs.Report.{Work, Ending, Usage, ListRefused, ListFault, SpawnFault, NoMemory, Ran, report_text, is_memory, is_out_fault, is_tree_fault, is_diag}
 
 -- ---- the outside before the call and after it ----
@@ -130,15 +125,11 @@ EachRecord known k (job ∷ jobs) (w ∷ works) = (w.done.job ≡ k) × (IsRecor
 
 -- ---- the headline's premises ----
 
--- the answer to a whole request: what preprocessing gives over the tree of its entries
-abbrev pub Answers : Job → Entries → Answer → Type 0
-Answers job entries a = a ≡ carried (outcome_over (tree_of entries) job)
-
 -- the end tells its talk, and each exchange of it was answered as the daemon answers
 pub record IsServed (seen : EndSeen) : Type 0 where
   pub talk : List Exchange
   pub told : seen.talk ≡ Some talk
-  pub served : AllByRecursion (IsAnswered (Daemon Answers)) talk
+  pub served : AreServed talk
 
 abbrev pub EachServed : List EndSeen → Type 0
 EachServed ends = AllByRecursion IsServed ends
@@ -159,14 +150,7 @@ EachAnsweredBy peer ends = AllByRecursion (λ (seen : EndSeen). EachAnswered pee
 abbrev pub ServedByDaemon : (List ℕ → List ℕ → Type 0) → Type 0
 ServedByDaemon peer = IsDaemon peer → (ends : List EndSeen) → EachTells ends → EachAnsweredBy peer ends → EachServed ends
 
--- the outcome agrees with what preprocessing gives over the whole tree
-abbrev pub AgreesWith : Outcome → JobOutcome → List (List ℕ × List ℕ) → Job → Type 0
-AgreesWith o (end.Text n) put job = (body : List ℕ) × (length body ≡ n) × (o ≡ outcome.Text body) × (put ≡ (job.output, body) ∷ [])
-AgreesWith o (end.Diag words) put job = o ≡ outcome.Diag words
-AgreesWith o end.TreeFault put job = Unit {0}
-AgreesWith o end.OutFault put job = Unit {0}
-AgreesWith o end.Memory put job = Unit {0}
-
+-- each outcome agrees with what preprocessing gives over the whole tree
 abbrev pub EachAgrees : FileTree → List Job → List Work → Type 0
 EachAgrees tree (job ∷ jobs) (w ∷ works) = AgreesWith (outcome_over tree job) w.done.outcome w.deeds.put job × EachAgrees tree jobs works
 EachAgrees tree [] works = Unit {0}
@@ -207,10 +191,13 @@ HasEnding given before after (Ran works) = JobsRan given before after works
 -- ---- the report and the status ----
 
 -- the told report has the text, or a beginning of it where its count rose or the status is 5
-pub record Reports (text : List ℕ) (status : ℕ) (before after : Outside) : Type 0 where
-  pub front : (n : ℕ) × (after.report ≡ added (take n text) before.report)
-  pub whole : (status ≡ 5 → ⊥) → (Rose before.counts.report after.counts.report → ⊥) → after.report ≡ added text before.report
-  pub whole_by_status : (status ≡ 0) ⊎ ((status ≡ 1) ⊎ (status ≡ 6)) → after.report ≡ added text before.report
+pub record IsPut (text : List ℕ) (status : ℕ) (before now : Option (List ℕ)) (from to : ℕ) : Type 0 where
+  pub front : (n : ℕ) × (now ≡ added (take n text) before)
+  pub whole : (status ≡ 5 → ⊥) → (Rose from to → ⊥) → now ≡ added text before
+  pub whole_by_status : (status ≡ 0) ⊎ ((status ≡ 1) ⊎ (status ≡ 6)) → now ≡ added text before
+
+abbrev pub Reports : List ℕ → ℕ → Outside → Outside → Type 0
+Reports text status before after = IsPut text status before.report after.report before.counts.report after.counts.report
 
 abbrev pub some_outcome : (JobOutcome → Bool) → List Work → Bool
 some_outcome test works = list_any (λ (w : Work). test w.done.outcome) works
@@ -258,32 +245,6 @@ pub record NoFaults (before after : Outside) : Type 0 where
   pub spawner : Rose before.counts.spawner after.counts.spawner → ⊥
   pub report : Rose before.counts.report after.counts.report → ⊥
   pub ends : EachCalm before.ends after.ends
-
--- remote, or refused by the analysis, or for want of memory
-abbrev pub IsCalm : Way → JobOutcome → Type 0
-IsCalm Remote (end.Text n) = Unit {0}
-IsCalm Remote (end.Diag words) = Unit {0}
-IsCalm Remote end.Memory = Unit {0}
-IsCalm Remote end.TreeFault = ⊥
-IsCalm Remote end.OutFault = ⊥
-IsCalm (Local cause.Link) outcome = ⊥
-IsCalm (Local cause.Peer) outcome = ⊥
-IsCalm (Local (cause.Analysis refused)) end.TreeFault = ⊥
-IsCalm (Local (cause.Analysis refused)) end.OutFault = ⊥
-IsCalm (Local (cause.Analysis refused)) (end.Text n) = Unit {0}
-IsCalm (Local (cause.Analysis refused)) (end.Diag words) = Unit {0}
-IsCalm (Local (cause.Analysis refused)) end.Memory = Unit {0}
-IsCalm (Local cause.DaemonMemory) end.TreeFault = ⊥
-IsCalm (Local cause.DaemonMemory) end.OutFault = ⊥
-IsCalm (Local cause.DaemonMemory) (end.Text n) = Unit {0}
-IsCalm (Local cause.DaemonMemory) (end.Diag words) = Unit {0}
-IsCalm (Local cause.DaemonMemory) end.Memory = Unit {0}
-IsCalm (Local cause.Memory) end.TreeFault = ⊥
-IsCalm (Local cause.Memory) end.OutFault = ⊥
-IsCalm (Local cause.Memory) (end.Text n) = Unit {0}
-IsCalm (Local cause.Memory) (end.Diag words) = Unit {0}
-IsCalm (Local cause.Memory) end.Memory = Unit {0}
-IsCalm Broken outcome = ⊥
 
 -- where the words and the list are in their grammars and nothing failed, all jobs were run, and only want of memory stood in the way
 abbrev pub IsComplete : Given → Outside → Outside → Ending → ℕ → Type 0

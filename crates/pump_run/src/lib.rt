@@ -1,7 +1,15 @@
 //! The top call: words and a compile list in, outputs, a report and a status out.
 #![tactic(auto)]
 
+mod ending;
+mod first;
+mod laws;
+mod list;
+mod listed;
+mod report;
 mod top;
+mod words;
 
 pub use build_clients::End;
+pub use laws::served_by_daemon;
 pub use top::pump;

@@ -4,14 +4,25 @@ ghost use Rattle.std.specs.List.{AllByRecursion};
 ghost use Rattle.build_clients.specs.Outside.{seen_end};
 ghost use Rattle.pump_run.specs.Run.{IsRun, IsFresh, outside, given};
 
+use crate::ending::{FAULT, NO_MEMORY, REFUSED, USAGE, refuse, tell};
+use crate::first::run_first;
+use crate::laws::outcomes_agree;
+use crate::listed::{NoJob, listed_job};
+use crate::words::{host_in, named_host};
 use build_clients::End;
-use io_edges::{Outs, Sink, Source, Spawner, Wire, WriteFault};
+use io_edges::{Outs, Sink, Source, Spawner, Wire};
 use std::alloc::Global;
 use std::sync::Wait;
 use std::thread::Threads;
 use tree_model::Tree;
 
-/// Reads the words and the list, runs the jobs, and writes the report.
+/// Reads the words `order - --hosts HOST -j 1` and the list, does its job at the first of the ends, puts the job's text on
+/// that end's outs, and writes the report: a line for the job and one of totals, or one line that says why nothing was done.
+/// The ends weren't used before, and the spawner isn't called: hosts are given by name.
+///
+/// The status is 0 for a text, 1 for a diagnostic, 2 for other words, 3 for a list that isn't in its grammar, 4 where the
+/// list, the outs or the report failed, 5 for want of memory, and 6 where the tree failed. A line of refusal that can't be
+/// written whole leaves the status.
 pub fn pump<T: Tree, W: Wire, O: Outs, P: Spawner, S: Source, K: Sink, R: Threads + Wait + Sync>(
     rt: &R,
     alloc: Global,
@@ -31,12 +42,23 @@ pub fn pump<T: Tree, W: Wire, O: Outs, P: Spawner, S: Source, K: Sink, R: Thread
         (outside (map seen ends.new.items) (S.left list.new) (S.faults list.new) (P.begun spawner.new) (P.running spawner.new) (P.asked spawner.new) (P.faults spawner.new) (K.held report.new) (K.faults report.new))
         result }
 {
-    if words.len() != 6 {
-        match report.put(b"pump: usage\n".as_slice()) {
-            Ok(()) => return 2,
-            Err(WriteFault::Fault) => return 2,
-            Err(WriteFault::Memory) => return 5,
+    outcomes_agree();
+    let Some(name) = host_in(words) else {
+        return refuse(report, b"pump: usage\n".as_slice(), USAGE);
+    };
+    let job = match listed_job(alloc, list) {
+        Ok(job) => job,
+        Err(NoJob::NotBuilt) => {
+            return refuse(report, b"pump: list 0: not built\n".as_slice(), REFUSED);
         }
-    }
-    5
+        Err(NoJob::Fault) => {
+            return refuse(report, b"pump: list read fault\n".as_slice(), FAULT);
+        }
+        Err(NoJob::Memory) => return refuse(report, b"pump: memory\n".as_slice(), NO_MEMORY),
+    };
+    let Ok(host) = named_host(alloc, name) else {
+        return refuse(report, b"pump: memory\n".as_slice(), NO_MEMORY);
+    };
+    let done = run_first(alloc, ends, &job, &host);
+    tell(alloc, done, report)
 }

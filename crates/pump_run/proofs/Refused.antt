@@ -1,0 +1,64 @@
+-- A run that is refused before its jobs, and puts one line on the report.
+use Rattle.std.proofs.Common.{◌≡◌, ℕ, List, [], ◌∷◌, Option, None, Some, Ok, Err, refl, sym, ◌∙◌, subst, inl, ◌⊎◌, arith}
+use Rattle.std.specs.List.{AllByRecursion}
+use Rattle.std.specs.Option.{ForSome}
+use Rattle.std.specs.Fmt.{digits}
+use Rattle.base_types.specs.Causes.{Rose}
+use Rattle.job_words.specs.declared.job.Job.{Job}
+use Rattle.pump_run.specs.Asked.{Settings, settings_of, NotBuilt, not_built, jobs_of}
+use Rattle.pump_run.specs.Report.{Ending, Usage, ListRefused, ListFault, NoMemory, report_text}
+use Rattle.pump_run.specs.Run.{IsRun, Outside, Given, IsFresh, IsPut, Reports, HasEnding, EachEnd, ran, StatusIs, NoFaults, IsComplete, AsksSomething}
+use Rattle.pump_run.specs.Steps.{LineIsPut}
+use Rattle.pump_run.proofs.Still.{still-ends, fresh-answered}
+
+no_settings : (words : List (List ℕ)) (settings : Settings) → settings_of words ≡ None → settings_of words ≡ Some settings → ⊥
+no_settings words settings none some = let both : None ≡ Some settings = sym none ∙ some in cc
+
+no_jobs : (bytes : List ℕ) (jobs : List Job) → jobs_of bytes ≡ Err not_built → jobs_of bytes ≡ Ok jobs → ⊥
+no_jobs bytes jobs none some = let both = sym none ∙ some in cc
+
+-- the line of a list that isn't built, as its bytes
+not_built-line : report_text (ListRefused 0 NotBuilt) ≡ 112 ∷ 117 ∷ 109 ∷ 112 ∷ 58 ∷ 32 ∷ 108 ∷ 105 ∷ 115 ∷ 116 ∷ 32 ∷ 48 ∷ 58 ∷ 32 ∷ 110 ∷ 111 ∷ 116 ∷ 32 ∷ 98 ∷ 117 ∷ 105 ∷ 108 ∷ 116 ∷ 10 ∷ []
+unfolding digits
+not_built-line = refl
+
+module _ (given : Given) (before : Outside) (fresh : AllByRecursion IsFresh before.ends) (left report : Option (List ℕ)) (list count status : ℕ) (text : List ℕ) where
+  -- the outside after the list was read in part and the line was put
+  abbrev pub after : Outside
+  after = record before { left = left; report = report; counts = record { list = list; spawner = before.counts.spawner; report = count } }
+
+  abbrev Completes : Ending → Type 0
+  Completes ending = (settings : Settings) → settings_of given.words ≡ Some settings → (bytes : List ℕ) → before.left ≡ Some bytes → (jobs : List Job) → jobs_of bytes ≡ Ok jobs → NoFaults before after → IsComplete given before after ending status
+
+  abbrev Put : List ℕ → Type 0
+  Put line = IsPut line status before.report report before.counts.report count
+
+  refused : (ending : Ending) → HasEnding given before after ending → EachEnd 0 (ran ending) before.ends before.ends → Reports (report_text ending) status before after
+      → (status ≡ 5) ⊎ StatusIs before after ending status → Completes ending → IsRun given before after status
+  refused ending cause ends reports status_is complete = record {
+    ending = ending;
+    cause = cause;
+    ends = ends;
+    report = reports;
+    status_is = status_is;
+    daemons = record { begun = refl; running = refl; asked = refl };
+    answered = fresh-answered given.peer before.ends fresh;
+    complete = λ _ tree named. complete;
+  }
+
+  pub usage-run : settings_of given.words ≡ None → text ≡ report_text Usage → LineIsPut text 2 before.report report before.counts.report count status → IsRun given before after status
+  usage-run nothing is line = refused Usage nothing (still-ends 0 before.ends) (subst Put is line.line_is) line.status_is
+      (λ settings asks bytes left_is jobs lists calm. no_settings given.words settings nothing asks)
+
+  pub fault-run : AsksSomething given → Rose before.counts.list list → text ≡ report_text ListFault → LineIsPut text 4 before.report report before.counts.report count status → IsRun given before after status
+  fault-run asked rose is line = refused ListFault (asked, rose) (still-ends 0 before.ends) (subst Put is line.line_is) line.status_is
+      (λ settings asks bytes left_is jobs lists calm. calm.list rose)
+
+  pub not-built-run : AsksSomething given → ForSome before.left (λ bytes. jobs_of bytes ≡ Err not_built) → text ≡ 112 ∷ 117 ∷ 109 ∷ 112 ∷ 58 ∷ 32 ∷ 108 ∷ 105 ∷ 115 ∷ 116 ∷ 32 ∷ 48 ∷ 58 ∷ 32 ∷ 110 ∷ 111 ∷ 116 ∷ 32 ∷ 98 ∷ 117 ∷ 105 ∷ 108 ∷ 116 ∷ 10 ∷ []
+      → LineIsPut text 3 before.report report before.counts.report count status → IsRun given before after status
+  not-built-run asked none is line = refused (ListRefused 0 NotBuilt) (asked, none) (still-ends 0 before.ends) (subst Put (is ∙ sym not_built-line) line.line_is) line.status_is
+      (λ settings asks bytes left_is jobs lists calm. no_jobs bytes jobs (none bytes left_is) lists)
+
+  pub starved-run : text ≡ report_text NoMemory → LineIsPut text 5 before.report report before.counts.report count status → IsRun given before after status
+  starved-run is line = let five : status ≡ 5 = omega (arith, line.status_is) in
+      refused NoMemory tt (still-ends 0 before.ends) (subst Put is line.line_is) (inl five) (λ settings asks bytes left_is jobs lists calm. five)

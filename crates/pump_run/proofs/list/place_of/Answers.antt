@@ -1,0 +1,12 @@
+use Rattle.std.proofs.Common.{◌≡◌, ◌<◌, ◌==◌, length, sym, arith}
+use Rattle.std.proofs.lemmas.List.Sums.{position_or_len_is}
+use Rattle.pump_run.proofs.list.place_of.Goals as goal
+
+pub returns-then-b-mark-clause-place : goal.returns-then-b-mark-clause-place
+returns-then-b-mark-clause-place c =
+    sym (position_or_len_is (λ b. b == c.args.mark) c.args.bytes.now c.loop-i.i 0 (omega arith) c.loop-i.invariant (λ h. c.if-b-mark.true))
+
+pub returns-clause-place : goal.returns-clause-place
+returns-clause-place c =
+    let fails = c.loop-i.invariant in
+    sym (position_or_len_is (λ b. b == c.args.mark) c.args.bytes.now (length c.args.bytes.now) 0 (omega arith) (λ k h. fails k (omega arith)) (λ h. absurd (omega arith)))

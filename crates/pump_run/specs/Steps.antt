@@ -1,0 +1,70 @@
+-- What the parts of a run come to: the list that is read, the job of the first client, and the report.
+use Rattle.std.specs.Prelude.{◌≡◌, ℕ, ◌⊎◌, List, [], ◌∷◌, Option, Result, Ok, Err}
+use Rattle.std.specs.Option.{ForSome}
+use Rattle.base_types.specs.Causes.{Rose}
+use Rattle.tree_model.specs.Trees.{FileTree, IsTree}
+use Rattle.io_edges.specs.declared.wire.Host.{Host}
+use Rattle.io_edges.specs.Talk.{EachAnswered}
+use Rattle.job_words.specs.declared.job.Job.{Job}
+use Rattle.job_words.specs.Words.{IsJob}
+use Rattle.build_clients.specs.declared.record.Done.{Done}
+use Rattle.build_clients.specs.declared.record.JobOutcome.{JobOutcome}
+use Rattle.build_clients.specs.declared.record.JobOutcome.TheVariants as end
+use Rattle.build_clients.specs.Outside.{EndSeen}
+use Rattle.build_clients.specs.Record.{DidJob, known}
+use Rattle.pump_run.specs.declared.listed.NoJob.{NoJob}
+use Rattle.pump_run.specs.declared.listed.NoJob.TheVariants as no_job
+use Rattle.pump_run.specs.Asked.{jobs_of, not_built}
+use Rattle.pump_run.specs.Report.{jobs_text}
+use Rattle.pump_run.specs.Run.{IsPut}
+
+-- ---- the list ----
+
+-- A list of these bytes, of which those are left afterwards, gives its one job and was read to its end; or it is refused,
+-- or the count of its faults rose, or there was no memory.
+abbrev pub ListGives : Option (List ℕ) → Option (List ℕ) → ℕ → ℕ → Result Job NoJob → Type 0
+ListGives before now from to (Ok job) = IsJob job × (ForSome before (λ bytes. jobs_of bytes ≡ Ok (job ∷ [])) × ForSome now (λ rest. rest ≡ []))
+ListGives before now from to (Err no_job.NotBuilt) = ForSome before (λ bytes. jobs_of bytes ≡ Err not_built)
+ListGives before now from to (Err no_job.Fault) = Rose from to
+ListGives before now from to (Err no_job.Memory) = Unit {0}
+
+-- ---- the job ----
+
+-- the first client did the job with this host, as job 0, and the other ends stayed
+pub record FirstDid (named : Option FileTree) (peer : List ℕ → List ℕ → Type 0) (job : Job) (host : Host) (done : Done) (before after : List EndSeen) : Type 0 where
+  pub first : EndSeen
+  pub now : EndSeen
+  pub rest : List EndSeen
+  pub was : before ≡ first ∷ rest
+  pub is : after ≡ now ∷ rest
+  pub number : done.job ≡ 0
+  pub client : done.client ≡ 0
+  pub did : DidJob (known named 4096) job host done first now
+  pub answered : EachAnswered peer now.talk
+  pub whole : ForSome named IsTree
+
+-- ---- the report ----
+
+-- the status by a job's outcome, where its report is put
+abbrev pub status_for : JobOutcome → ℕ
+status_for (end.Text n) = 0
+status_for (end.Diag words) = 1
+status_for end.TreeFault = 6
+status_for end.OutFault = 4
+status_for end.Memory = 5
+
+-- a line was put, and the status is this one, or that of no memory
+pub record LineIsPut (line : List ℕ) (wanted : ℕ) (before now : Option (List ℕ)) (from to status : ℕ) : Type 0 where
+  pub line_is : IsPut line status before now from to
+  pub status_is : (status ≡ 5) ⊎ (status ≡ wanted)
+
+-- A text was put, and the status is this one; or it is 4, where the count of the report rose, or that of no memory. Where
+-- that of no memory is wanted, it is the status.
+pub record TextIsPut (text : List ℕ) (wanted : ℕ) (before now : Option (List ℕ)) (from to status : ℕ) : Type 0 where
+  pub text_is : IsPut text status before now from to
+  pub status_is : (status ≡ 5) ⊎ ((status ≡ wanted) ⊎ ((status ≡ 4) × Rose from to))
+  pub no_memory : wanted ≡ 5 → status ≡ 5
+
+-- the report of one job was put, and the status is that of its outcome, or that of a report that wasn't put whole
+abbrev pub JobIsTold : Done → Option (List ℕ) → Option (List ℕ) → ℕ → ℕ → ℕ → Type 0
+JobIsTold done before now from to status = TextIsPut (jobs_text (done ∷ [])) (status_for done.outcome) before now from to status

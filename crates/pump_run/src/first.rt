@@ -1,0 +1,32 @@
+// The job of a run, done by the first client.
+ghost use Rattle.std.specs.Prelude.{◌≤◌, length, map};
+ghost use Rattle.std.specs.List.{AllByRecursion};
+ghost use Rattle.job_words.specs.Words.{IsJob};
+ghost use Rattle.build_clients.specs.Outside.{seen_end};
+ghost use Rattle.pump_run.specs.Run.{IsFresh};
+ghost use Rattle.pump_run.specs.Steps.{FirstDid};
+
+use build_clients::{Done, End, do_job};
+use io_edges::{Host, Outs, Wire};
+use job_words::Job;
+use std::alloc::Global;
+use tree_model::Tree;
+
+// The budget of an analysis.
+const BUDGET: u32 = 4096;
+
+/// Does the job at the first end.
+pub fn run_first<T: Tree, W: Wire, O: Outs>(
+    alloc: Global,
+    ends: &mut Vec<End<T, W, O>>,
+    job: &Job,
+    host: &Host,
+) -> Done
+    requires some { 1 ≤ length ends.old.items }
+    requires fresh { AllByRecursion IsFresh (map (seen_end T.told T.Tree.faults T.reads W.talk W.state W.Wire.faults O.kept O.Outs.faults) ends.old.items) }
+    requires job { IsJob job.now }
+    ensures did { let seen = seen_end T.told T.Tree.faults T.reads W.talk W.state W.Wire.faults O.kept O.Outs.faults in
+        FirstDid T.Of.named W.peer job.now host.now result (map seen ends.old.items) (map seen ends.new.items) }
+{
+    do_job(alloc, &mut ends[0], BUDGET, 0, 0, job, host)
+}
