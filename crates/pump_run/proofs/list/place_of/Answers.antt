@@ -1,10 +1,12 @@
-use Rattle.std.proofs.Common.{◌≡◌, ◌<◌, ◌==◌, length, sym, arith}
+use Rattle.std.proofs.Common.{◌==◌, length, get_or, sym, arith}
+use Rattle.std.proofs.lemmas.Bool.{eq-eqb}
 use Rattle.std.proofs.lemmas.List.Sums.{position_or_len_is}
 use Rattle.pump_run.proofs.list.place_of.Goals as goal
 
 pub returns-then-b-mark-clause-place : goal.returns-then-b-mark-clause-place
 returns-then-b-mark-clause-place c =
-    sym (position_or_len_is (λ b. b == c.args.mark) c.args.bytes.now c.loop-i.i 0 (omega arith) c.loop-i.invariant (λ h. c.if-b-mark.true))
+    let found = eq-eqb (get_or c.args.bytes.now c.loop-i.i 0) c.args.mark c.if-b-mark.true in
+    sym (position_or_len_is (λ b. b == c.args.mark) c.args.bytes.now c.loop-i.i 0 (omega arith) c.loop-i.invariant (λ h. found))
 
 pub returns-clause-place : goal.returns-clause-place
 returns-clause-place c =
