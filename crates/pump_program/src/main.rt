@@ -3,16 +3,18 @@
 
 mod folder;
 
+ghost use Rattle.std.specs.Prelude.{IfOk};
+ghost use Rattle.build_clients.specs.Outside.{seen_end};
+ghost use Rattle.pump_run.specs.Run.{IsFresh};
+
 use daemon_serve::{MemWire, ServePeer};
 use folder::Folder;
-use io_edges::{FolderOuts, MemSpawner, StdSink, StdSource};
+use io_edges::{FolderOuts, MemSpawner, Outs, StdSink, StdSource, Wire};
 use pump_run::{End, pump};
 use std::alloc::{AllocError, Global};
 use std::process::ExitCode;
 use std::{env, io};
-
-// As many ends as there may be clients.
-const ENDS: usize = 64;
+use tree_model::Tree;
 
 const HELP: &str = "usage: pump_program order - --hosts HOST -j 1 < LIST
 
@@ -53,7 +55,9 @@ fn words_of<'a>(alloc: Global, arguments: &'a Vec<String>) -> Result<Vec<&'a str
 
 fn run(rt: &HostRuntime, words: &[&str]) -> io::Result<ExitCode> {
     let alloc = rt.alloc();
-    let mut ends = ends_of(rt)?;
+    // One client has one end.
+    let mut ends = Vec::new(alloc);
+    ends.push(new_end(rt)?)?;
     let mut list = StdSource::new(rt);
     let mut report = StdSink::new(rt.clone()?);
     let mut spawner = MemSpawner::new(alloc, Vec::new(alloc));
@@ -69,15 +73,14 @@ fn run(rt: &HostRuntime, words: &[&str]) -> io::Result<ExitCode> {
     Ok(ExitCode::from(status))
 }
 
-fn ends_of(rt: &HostRuntime) -> io::Result<Vec<HostEnd>> {
+// An end that wasn't used yet: the host's files, a daemon in this process, and the folder of outputs.
+fn new_end(rt: &HostRuntime) -> io::Result<HostEnd>
+    ensures { IfOk result (λ end. IsFresh (seen_end ⟦<Folder<HostRuntime> as Tree>⟧.told ⟦<Folder<HostRuntime> as Tree>⟧.faults ⟦<Folder<HostRuntime> as Tree>⟧.reads ⟦<MemWire<ServePeer> as Wire>⟧.talk ⟦<MemWire<ServePeer> as Wire>⟧.state ⟦<MemWire<ServePeer> as Wire>⟧.faults ⟦<FolderOuts<HostRuntime> as Outs>⟧.kept ⟦<FolderOuts<HostRuntime> as Outs>⟧.faults end)) }
+{
     let alloc = rt.alloc();
-    let mut ends = Vec::new(alloc);
-    for _ in 0..ENDS {
-        ends.push(End {
-            tree: Folder::new(rt.clone()?),
-            wire: MemWire::new(alloc, ServePeer, Vec::new(alloc), Vec::new(alloc)),
-            outs: FolderOuts::new(rt.clone()?, alloc, "out")?,
-        })?;
-    }
-    Ok(ends)
+    Ok(End {
+        tree: Folder::new(rt.clone()?),
+        wire: MemWire::new(alloc, ServePeer, Vec::new(alloc), Vec::new(alloc)),
+        outs: FolderOuts::new(rt.clone()?, alloc, "out")?,
+    })
 }
