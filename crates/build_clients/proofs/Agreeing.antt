@@ -24,6 +24,7 @@ use Rattle.job_frames.specs.Laws.{RequestsAreWhole, TreesMakeRequests, RepliesAr
 use Rattle.daemon_cpp.specs.declared.outcome.Outcome.{Outcome}
 use Rattle.daemon_cpp.specs.declared.outcome.Outcome.TheVariants as outcome
 use Rattle.daemon_cpp.specs.Prep.{outcome_over}
+use Rattle.daemon_serve.specs.Served.{carried, Answers}
 use Rattle.closure_fixpoint.specs.declared.job_analysis.Refusal.TheVariants as refusal
 use Rattle.closure_fixpoint.specs.Analysis.{AreEntriesOf, NothingHolds, IsRequestOf}
 use Rattle.build_clients.specs.declared.record.Way.{Way}
@@ -31,8 +32,8 @@ use Rattle.build_clients.specs.declared.record.Way.TheVariants.{Remote, Local, B
 use Rattle.build_clients.specs.declared.record.Cause.TheVariants as cause
 use Rattle.build_clients.specs.declared.record.JobOutcome.{JobOutcome}
 use Rattle.build_clients.specs.declared.record.JobOutcome.TheVariants as end
-use Rattle.build_clients.specs.Record.{Deeds, known, IsNoAnswer, WayHolds, OutcomeHolds, Gives, carried}
-use Rattle.build_clients.specs.Agree.{Answers, AreServed, EntriesAreEnough, AgreesWith, AreStill, IsNoFault, IsCalm, RecordsAgree, RecordsAreCalm}
+use Rattle.build_clients.specs.Record.{Deeds, known, IsNoAnswer, WayHolds, OutcomeHolds, Gives}
+use Rattle.build_clients.specs.Agree.{AreServed, EntriesAreEnough, AgreesWith, AreStill, IsNoFault, IsCalm, RecordsAgree, RecordsAreCalm}
 
 -- ---- a job's words and working directory fit into a request ----
 

@@ -9,11 +9,11 @@ use Rattle.job_words.specs.declared.job.Job.{Job}
 use Rattle.job_words.specs.Words.{IsJob}
 use Rattle.io_edges.specs.declared.wire.Exchange.{Exchange}
 use Rattle.io_edges.specs.Talk.{IsAnswered}
-use Rattle.job_frames.specs.declared.answer.Answer.{Answer}
 use Rattle.job_frames.specs.Daemon.{Daemon}
 use Rattle.daemon_cpp.specs.declared.outcome.Outcome.{Outcome}
 use Rattle.daemon_cpp.specs.declared.outcome.Outcome.TheVariants as outcome
 use Rattle.daemon_cpp.specs.Prep.{outcome_over}
+use Rattle.daemon_serve.specs.Served.{Answers}
 use Rattle.closure_fixpoint.specs.Analysis.{AreEntriesOf, NothingHolds}
 use Rattle.build_clients.specs.declared.record.Done.{Done}
 use Rattle.build_clients.specs.declared.record.Way.{Way}
@@ -21,13 +21,9 @@ use Rattle.build_clients.specs.declared.record.Way.TheVariants.{Remote, Local, B
 use Rattle.build_clients.specs.declared.record.Cause.TheVariants as cause
 use Rattle.build_clients.specs.declared.record.JobOutcome.{JobOutcome}
 use Rattle.build_clients.specs.declared.record.JobOutcome.TheVariants as end
-use Rattle.build_clients.specs.Record.{Counts, Deeds, IsRecord, carried, known}
+use Rattle.build_clients.specs.Record.{Counts, Deeds, IsRecord, known}
 
 -- ---- what a daemon answers ----
-
--- the answer to a whole request: what preprocessing gives over the tree of its entries
-abbrev pub Answers : Job → Entries → Answer → Type 0
-Answers job entries a = a ≡ carried (outcome_over (tree_of entries) job)
 
 -- each exchange was answered as the daemon answers
 abbrev pub AreServed : List Exchange → Type 0

@@ -21,6 +21,7 @@ use Rattle.build_clients.specs.declared.record.Cause.TheVariants as cause
 use Rattle.build_clients.specs.declared.record.JobOutcome.{JobOutcome}
 use Rattle.build_clients.specs.declared.record.JobOutcome.TheVariants as end
 use Rattle.daemon_cpp.specs.Prep.{outcome_over}
+use Rattle.daemon_serve.specs.Served.{carried}
 use Rattle.closure_fixpoint.specs.Analysis.{IsRequestOf, Holds, NothingHolds}
 
 -- the three counts of faults of an end
@@ -69,11 +70,6 @@ Asked known job exchanges P =
 -- no exchange, or one that sent a beginning of the request
 abbrev pub Tried : Known → Job → List Exchange → Type 0
 Tried known job exchanges = (exchanges ≡ []) ⊎ ((e : Exchange) × (exchanges ≡ e ∷ []) × BeginsRequest known job e.sent)
-
--- a reply that isn't a refusal, with the outcome that it carries
-abbrev pub carried : Outcome → Answer
-carried (outcome.Text text) = answer.Text text
-carried (outcome.Diag words) = answer.Diag words
 
 -- the bytes begin no reply, or are no reply though they ended, or refuse for a reason from 2 to 9
 abbrev pub IsNoAnswer : List ℕ → Bool → Type 0

@@ -2,3 +2,4 @@ pub mod LastMember
 pub mod Outcome
 pub mod Paired
 pub mod Standing
+pub mod WholeTrees

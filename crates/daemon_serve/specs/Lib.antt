@@ -1,5 +1,7 @@
 -- Objects in memory that stand for a link and its other side.
+--     Served      what a daemon answers to a job and its entries
 --     MemWire     a wire's exchanges and calls, and how far the answer of the last exchange was given
 --     Scripted    answers that are written down
+pub mod Served
 pub mod MemWire
 pub mod Scripted

@@ -89,3 +89,24 @@ fn calls_fail_where_listed(rt: HostRuntime) -> Result<(), Fail> {
     assert_eq!(rt; wire.exchanges().len(), 2);
     Ok(())
 }
+
+#[test]
+fn the_daemon_answers_with_the_text(rt: HostRuntime) -> Result<(), Fail> {
+    let request =
+        b"DIST00000103CDIR00000002/wARGC00000001ARGV00000003a.cNFIL00000002NAME00000002/wMDIR00000000NAME00000006/w/a.cFILE00000000";
+    let reply = ServePeer.answer(rt.alloc(), request.as_slice())?;
+    assert_eq!(rt;
+        reply.as_slice(),
+        b"DONE00000103STAT00000000SERR00000000DOTI0000000d# 1 \"/w/a.c\"\n".as_slice()
+    );
+    Ok(())
+}
+
+#[test]
+fn the_daemon_refuses_by_the_reason(rt: HostRuntime) -> Result<(), Fail> {
+    let cut = ServePeer.answer(rt.alloc(), b"DIST".as_slice())?;
+    assert_eq!(rt; cut.as_slice(), b"RFSE00000009".as_slice());
+    let other = ServePeer.answer(rt.alloc(), b"XXXX".as_slice())?;
+    assert_eq!(rt; other.as_slice(), b"RFSE00000003".as_slice());
+    Ok(())
+}

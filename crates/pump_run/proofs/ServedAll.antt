@@ -6,7 +6,8 @@ use Rattle.io_edges.specs.Talk.{IsAnswered, EachAnswered}
 use Rattle.job_frames.specs.Daemon.{Daemon}
 use Rattle.closure_fixpoint.specs.declared.job_analysis.Refusal.TheVariants as refusal
 use Rattle.mirror_soundness.specs.Mirror.{EntriesMakeTree, MirrorIsEnough}
-use Rattle.build_clients.specs.Agree.{Answers, AreServed, EntriesAreEnough}
+use Rattle.daemon_serve.specs.Served.{Answers}
+use Rattle.build_clients.specs.Agree.{AreServed, EntriesAreEnough}
 use Rattle.build_clients.specs.Outside.{EndSeen}
 use Rattle.pump_run.specs.Run.{IsServed, EachServed, EachTells, EachAnsweredBy, IsDaemon, ServedByDaemon}
 

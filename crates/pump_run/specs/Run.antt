@@ -16,7 +16,8 @@ use Rattle.build_clients.specs.declared.record.Way.{Way}
 use Rattle.build_clients.specs.declared.record.Way.TheVariants.{Remote, Local, Broken}
 use Rattle.build_clients.specs.declared.record.Cause.TheVariants as cause
 use Rattle.build_clients.specs.declared.record.JobOutcome.{JobOutcome}
-use Rattle.build_clients.specs.Agree.{Answers, AreServed, AgreesWith, IsCalm}
+use Rattle.daemon_serve.specs.Served.{Answers}
+use Rattle.build_clients.specs.Agree.{AreServed, AgreesWith, IsCalm}
 use Rattle.build_clients.specs.Outside.{EndSeen}
 use Rattle.build_clients.specs.Record as record_of
 use Rattle.build_clients.specs.Record.{Known, IsRecord, known}
