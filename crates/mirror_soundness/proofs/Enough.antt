@@ -13,7 +13,7 @@ use Rattle.tree_model.specs.declared.walk.Located.{Located}
 use Rattle.job_words.specs.declared.job.Job.{Job}
 use Rattle.daemon_cpp.specs.Simple.{pieces_of, is_simple, is_flat}
 use Rattle.daemon_cpp.specs.Diagnostics.{NotBuilt}
-use Rattle.daemon_cpp.specs.Prep.{Source, Quote, World, Here, State, Step, world_of, absolute, limited, say, first_state, open_file, enter_file, run_pieces, run_job, prepared, and_then, complain, prep, depth_limit}
+use Rattle.daemon_cpp.specs.Prep.{World, Here, State, Step, world_of, absolute, limited, say, first_state, open_file, enter_file, run_pieces, run_job, prepared, and_then, complain, prep, depth_limit}
 use Rattle.closure_fixpoint.specs.declared.job_analysis.Refusal.TheVariants.{NoSource, Unbuilt}
 use Rattle.closure_fixpoint.specs.Analysis.{AreEntriesOf, Holds, found_files, found_from, source_of, targets_of, names_asked, body_found, is_unbuilt}
 use Rattle.mirror_soundness.specs.Mirror.{MirrorIsEnough}

@@ -1,3 +1,9 @@
+-- Lemmas.
+--     MadeTree        the entries of a job make a tree, which is a part of the whole tree
+--     SameSearches    searches over both trees find the same files
+--     SamePrep        preprocessing over worlds that agree where it asks
+--     Enough          preprocessing over the entries' tree
+--     Touches         the searches that succeed in preprocessing are those of the analysis
 pub mod MadeTree
 pub mod SameSearches
 pub mod SamePrep

@@ -1,12 +1,12 @@
 -- The entries of a job make a tree, which is a part of the whole tree.
-use Rattle.std.proofs.Common.{◌≡◌, ◌⊎◌, ◌∷◌, [], List, ℕ, Bool, true, false, ◌&&◌, ◌||◌, nat_eq, rules, arith, eq-eqb, Option, Some, None, IsSome, IsTrue, inl, inr, refl, sym, ap, subst, ◌∙◌}
+use Rattle.std.proofs.Common.{◌≡◌, ◌⊎◌, ◌∷◌, [], List, ℕ, Bool, true, false, ◌&&◌, ◌||◌, nat_eq, eq-eqb, Option, Some, IsSome, IsTrue, inl, inr, refl, sym, ap, subst, ◌∙◌}
 use Rattle.std.specs.List.{list_all, list_any}
 use lib.Pointwise.{pointwise}
 use Rattle.base_types.specs.Members.{Member}
-use Rattle.tree_model.specs.Paths.{Text, Path, spelled, is_canonical, IsCanonical, IsAtOrAbove}
-use Rattle.tree_model.specs.Entries.{Entries, Increasing, has_parent, is_dir_at, is_dir, links_fit, entry_fits, is_link_text, makes_tree}
+use Rattle.tree_model.specs.Paths.{Text, Path, spelled, is_canonical, IsAtOrAbove}
+use Rattle.tree_model.specs.Entries.{Entries, has_parent, is_dir_at, entry_fits, is_link_text, makes_tree}
 use Rattle.tree_model.specs.Trees.{FileTree, IsTree, Sub, tree_of, entry_at}
-use Rattle.tree_model.specs.Laws.{ListsMakeTrees, EntriesAreNodes, NodesAreEntries, TestsDecide, ParentsMakeTrees}
+use Rattle.tree_model.specs.Laws.{NodesAreEntries, TestsDecide, ParentsMakeTrees}
 use Rattle.tree_model.specs.declared.entry.Entry.{Entry}
 use Rattle.tree_model.specs.declared.entry.Entry.TheVariants.{Dir, File, Link}
 use Rattle.job_words.specs.declared.job.Job.{Job}

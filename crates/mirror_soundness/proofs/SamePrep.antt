@@ -1,14 +1,14 @@
 -- Preprocessing over two worlds that agree where it asks is the same.
-use Rattle.std.proofs.Common.{◌≡◌, ℕ, zero, suc, ◌∷◌, ◌++◌, [], List, Bool, true, false, ◌&&◌, ◌||◌, not, cond, map, nat_le, length, Option, Some, None, refl, sym, ap, subst, ◌∙◌, inl, inr}
+use Rattle.std.proofs.Common.{◌≡◌, ℕ, zero, suc, ◌∷◌, ◌++◌, [], List, Bool, true, false, ◌&&◌, not, cond, map, Option, Some, None, refl, sym, ap, subst, ◌∙◌, inl, inr}
 use Rattle.std.specs.List.{list_any, filter_map}
 use Rattle.base_types.specs.Members.{Member}
 use Rattle.tree_model.specs.Paths.{Text, Path, parent}
 use Rattle.tree_model.specs.declared.walk.Located.{Located}
-use Rattle.cpp_output.specs.Layout.{Event, put, text_limit}
+use Rattle.cpp_output.specs.Layout.{Event, put}
 use Rattle.daemon_cpp.specs.Simple.{Piece, Run, Include, pieces_of, is_simple, is_flat, is_include}
 use Rattle.cpp_output.specs.Laid.{after_events}
 use Rattle.daemon_cpp.specs.Diagnostics.{NotBuilt, Diagnostic}
-use Rattle.daemon_cpp.specs.Prep.{Ask, Source, Quote, World, Here, State, Step, Go, Stop, and_then, complain, limited, say, touch, Entering, found, run_piece, run_pieces, open_file, back_in, enter_file}
+use Rattle.daemon_cpp.specs.Prep.{Quote, World, Here, State, Step, Go, Stop, and_then, complain, say, touch, Entering, found, run_piece, run_pieces, open_file, back_in, enter_file}
 use Rattle.closure_fixpoint.specs.Analysis.{name_asked}
 
 -- goes on alike from each state that a step goes on in

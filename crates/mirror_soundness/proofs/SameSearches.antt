@@ -1,11 +1,11 @@
 -- The searches of a job give the same over the tree of its entries as over the whole tree.
-use Rattle.std.proofs.Common.{◌≡◌, ◌⊎◌, ◌∷◌, [], List, Bool, true, false, Option, Some, None, IsSome, IsTrue, inl, inr, refl, sym, ap, subst, ◌∙◌, unwrap_or}
+use Rattle.std.proofs.Common.{◌≡◌, ◌∷◌, [], Option, Some, None, IsTrue, sym, ap, ◌∙◌, unwrap_or}
 use Rattle.base_types.specs.Members.{Member}
-use Rattle.tree_model.specs.Paths.{Text, Path, parent}
+use Rattle.tree_model.specs.Paths.{Text, Path}
 use Rattle.tree_model.specs.Entries.{Entries, makes_tree}
 use Rattle.tree_model.specs.Trees.{FileTree, IsTree, Sub, tree_of, entry_at, body_at, body_of}
 use Rattle.tree_model.specs.Walk.{locate}
-use Rattle.tree_model.specs.Frame.{IsLocatedInPart, IsLocatedInNoPart, HoldsOfLocated, LocatedHolds}
+use Rattle.tree_model.specs.Frame.{IsLocatedInPart, IsLocatedInNoPart, HoldsOfLocated}
 use Rattle.tree_model.specs.Laws.{ListsMakeTrees, EntriesAreNodes}
 use Rattle.tree_model.specs.declared.entry.Entry.{Entry}
 use Rattle.tree_model.specs.declared.entry.Entry.TheVariants.{Dir}

@@ -1,8 +1,8 @@
 -- The searches that succeed in preprocessing are among those of the analysis.
-use Rattle.std.proofs.Common.{◌≡◌, ℕ, zero, suc, ◌∷◌, ◌++◌, [], List, Bool, true, false, not, ◌||◌, cond, map, Option, Some, None, refl, sym, ap, subst, ◌∙◌, inl, inr, ◌⊎◌}
+use Rattle.std.proofs.Common.{◌≡◌, ℕ, zero, suc, ◌∷◌, ◌++◌, [], List, Bool, true, false, not, cond, map, Option, Some, None, refl, sym, ap, subst, ◌∙◌, inl, inr}
 use Rattle.std.specs.List.{list_any, filter_map}
 use Rattle.base_types.specs.Members.{Member}
-use Rattle.tree_model.specs.Paths.{Text, Path, parent, IsAtOrAbove}
+use Rattle.tree_model.specs.Paths.{Text, Path, parent}
 use Rattle.tree_model.specs.Trees.{FileTree}
 use Rattle.tree_model.specs.Walk.{locate}
 use Rattle.tree_model.specs.declared.walk.Located.{Located}
@@ -11,14 +11,13 @@ use Rattle.cpp_output.specs.Layout.{Event, put, enter}
 use Rattle.cpp_output.specs.Laid.{after_events}
 use Rattle.daemon_cpp.specs.Simple.{Piece, Run, Include, pieces_of, is_simple, is_flat, is_include}
 use Rattle.daemon_cpp.specs.Diagnostics.{Diagnostic, NotBuilt}
-use Rattle.daemon_cpp.specs.Prep.{Source, Quote, World, Here, State, Step, Go, Stop, and_then, complain, limited, say, touch, Entering, found, run_piece, run_pieces, open_file, back_in, enter_file, presumed_name, world_of, absolute, first_state, prepared, prep, run_job, depth_limit}
+use Rattle.daemon_cpp.specs.Prep.{Quote, World, Here, State, Step, Go, Stop, and_then, complain, limited, say, touch, Entering, found, run_piece, run_pieces, open_file, back_in, enter_file, presumed_name, world_of, absolute, first_state, prepared, prep, run_job, depth_limit}
 use Rattle.closure_fixpoint.specs.declared.job_analysis.Refusal.TheVariants.{Unbuilt}
-use Rattle.closure_fixpoint.specs.Analysis.{IsNodeOf, Holds, found_files, found_from, source_of, targets_of, names_asked, name_asked, body_found, is_unbuilt}
+use Rattle.closure_fixpoint.specs.Analysis.{Holds, found_files, found_from, source_of, targets_of, names_asked, name_asked, body_found, is_unbuilt}
 use Rattle.mirror_soundness.specs.Mirror.{TouchesNodesAlone}
 use Rattle.mirror_soundness.proofs.MadeTree.{at_itself}
 use Rattle.mirror_soundness.proofs.SamePrep.{opens, opened_with, inside_of, say_here, found_here, flat_is_text}
-use Rattle.mirror_soundness.proofs.Enough.{given_by_member, none_fails, passes}
-use Rattle.mirror_soundness.proofs.MadeTree.{any_of_member}
+use Rattle.mirror_soundness.proofs.Enough.{given_by_member, none_fails}
 
 -- the searches that succeeded up to a step
 abbrev touched_in : Step → List Located

@@ -1,5 +1,5 @@
 -- What a daemon preprocesses over, the tree of the entries that it was sent, is enough.
-use Rattle.std.specs.Prelude.{◌≡◌, List, [], IsTrue}
+use Rattle.std.specs.Prelude.{◌≡◌, [], IsTrue}
 use Rattle.base_types.specs.Members.{Member}
 use Rattle.tree_model.specs.Paths.{Path}
 use Rattle.tree_model.specs.Entries.{Entries, makes_tree}

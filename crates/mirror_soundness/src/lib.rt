@@ -4,9 +4,20 @@
 
 ghost use Rattle.mirror_soundness.specs.Mirror.{EntriesMakeTree, MirrorIsEnough, TouchesNodesAlone};
 
+use tree_model::{
+    entries_of_trees, frame_law, lists_make_trees, parents_make_trees, tests_decide, walked_law,
+};
+
 /// A law, which takes no work.
 pub fn mirror_is_enough()
     ensures tree { EntriesMakeTree }
     ensures touched { TouchesNodesAlone }
     ensures enough { MirrorIsEnough }
-{}
+{
+    lists_make_trees();
+    entries_of_trees();
+    tests_decide();
+    parents_make_trees();
+    frame_law();
+    walked_law();
+}

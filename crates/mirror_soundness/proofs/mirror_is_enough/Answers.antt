@@ -1,0 +1,17 @@
+use Rattle.mirror_soundness.proofs.MadeTree.{makes_tree_of, part_of_whole}
+use Rattle.mirror_soundness.proofs.Enough.{is_enough}
+use Rattle.mirror_soundness.proofs.Touches.{touches_nodes}
+use Rattle.mirror_soundness.proofs.mirror_is_enough.Goals as goal
+
+pub returns-clause-tree : goal.returns-clause-tree
+returns-clause-tree c tree job entries whole are =
+    let made = makes_tree_of c.tests_decide.ensures tree job entries whole are c.parents_make_trees.ensures in
+    (made, part_of_whole c.tests_decide.ensures tree job entries whole are c.entries_of_trees.ensures.nodes)
+
+pub returns-clause-touched : goal.returns-clause-touched
+returns-clause-touched c = touches_nodes
+
+pub returns-clause-enough : goal.returns-clause-enough
+returns-clause-enough c =
+    is_enough c.lists_make_trees.ensures c.entries_of_trees.ensures.entries c.entries_of_trees.ensures.nodes c.tests_decide.ensures c.parents_make_trees.ensures
+    c.frame_law.ensures.found c.frame_law.ensures.not_found c.walked_law.ensures
