@@ -13,6 +13,8 @@ use io_edges::{FolderOuts, MemSpawner, Outs, StdSink, StdSource, Wire};
 use pump_run::{End, pump};
 use std::alloc::{AllocError, Global};
 use std::process::ExitCode;
+use std::sync::Wait;
+use std::thread::Threads;
 use std::{env, io};
 use tree_model::Tree;
 
@@ -40,7 +42,7 @@ fn main(rt: HostRuntime) -> io::Result<ExitCode> {
             println!(rt; "pump_program 0.1.0")?;
             Ok(ExitCode::SUCCESS)
         }
-        _ => run(&rt, words.as_slice()),
+        _ => run(&rt, &rt, words.as_slice()),
     }
 }
 
@@ -53,7 +55,12 @@ fn words_of<'a>(alloc: Global, arguments: &'a Vec<String>) -> Result<Vec<&'a str
         .collect(alloc)
 }
 
-fn run(rt: &HostRuntime, words: &[&str]) -> io::Result<ExitCode> {
+// Runs the words over the host's files, input and output.
+fn run<H: Threads + Wait + Sync>(
+    handles: &H,
+    rt: &HostRuntime,
+    words: &[&str],
+) -> io::Result<ExitCode> {
     let alloc = rt.alloc();
     // One client has one end.
     let mut ends = Vec::new(alloc);
@@ -62,7 +69,7 @@ fn run(rt: &HostRuntime, words: &[&str]) -> io::Result<ExitCode> {
     let mut report = StdSink::new(rt.clone()?);
     let mut spawner = MemSpawner::new(alloc, Vec::new(alloc));
     let status = pump(
-        rt,
+        handles,
         alloc,
         words,
         &mut list,
