@@ -1,2 +1,4 @@
--- The analysis of a job: the files that preprocessing it may open, found without preprocessing.
+-- The analysis of a job: the files that preprocessing it may open, found without preprocessing, and what is gathered of
+-- them.
 pub mod Analysis
+pub mod Gathering

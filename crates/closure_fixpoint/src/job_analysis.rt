@@ -4,10 +4,13 @@ ghost use Rattle.base_types.specs.Causes.{HasCause};
 ghost use Rattle.job_words.specs.Words.{IsJob};
 ghost use Rattle.closure_fixpoint.specs.Analysis.{AnalysisHolds};
 
+use crate::files::files_found;
+use crate::gather::{gather, request_of};
+use crate::nodes::{nodes_of, sorted};
 use base_types::Bytes;
 use job_words::Job;
 use std::alloc::Global;
-use tree_model::{Tree, TreeError};
+use tree_model::{Tree, TreeError, walked_law};
 
 /// Why an analysis is refused; the job is then done locally, and the report shows `local A1` to `local A8`.
 #[derive(Clone, Copy, Debug, PartialEq, Eq, Drop)]
@@ -50,5 +53,15 @@ pub fn analyse<T: Tree>(
     ensures cause { HasCause TreeError.Fault (T.faults tree.old) (T.faults tree.new) result }
     ensures never_large { IsErrOf result TreeError.Large → ⊥ }
 {
-    Err(TreeError::Memory)
+    walked_law();
+    let files = match files_found(alloc, tree, job)? {
+        Ok(files) => files,
+        Err(refusal) => return Ok(Analysed::Refused(refusal)),
+    };
+    let nodes = sorted(alloc, nodes_of(alloc, files.as_slice())?)?;
+    match gather(alloc, tree, &nodes) {
+        Ok(entries) => Ok(request_of(alloc, job, &entries)?),
+        Err(TreeError::Large) => Ok(Analysed::Refused(Refusal::Large)),
+        Err(error) => Err(error),
+    }
 }

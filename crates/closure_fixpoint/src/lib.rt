@@ -2,6 +2,12 @@
 //! the request that carries just these.
 #![tactic(auto)]
 
+mod files;
+mod gather;
 mod job_analysis;
+mod nodes;
 
 pub use job_analysis::{Analysed, Refusal, analyse};
+
+#[cfg(test)]
+mod tests;

@@ -1,0 +1,6 @@
+-- Lemmas for the analysis of a job.
+pub mod Steps
+pub mod Targets
+pub mod Orders
+pub mod Gathered
+pub mod Jobs
