@@ -93,7 +93,11 @@ fn job_in_line(alloc: Global, line: &[u8]) -> Result<Option<Job>, AllocError>
     if has_end_of_word(cwd) {
         return Ok(None);
     }
-    let source = if end < line.len() { &line[end + 1..] } else { &line[end..] };
+    let source = if end < line.len() {
+        &line[end + 1..]
+    } else {
+        &line[end..]
+    };
     let words = [Bytes::copy_of(alloc, source)?];
     jobs_keep_words();
     read_words(alloc, cwd, &words)

@@ -24,11 +24,19 @@ pub fn host_in<'a>(words: &[&'a str]) -> Option<&'a str>
 }
 
 // The six words are `order - --hosts HOST -j 1`.
-fn is_grammar(order: &str, steps: &str, hosts: &str, name: &str, clients: &str, number: &str) -> bool
+fn is_grammar(
+    order: &str,
+    steps: &str,
+    hosts: &str,
+    name: &str,
+    clients: &str,
+    number: &str,
+) -> bool
     ensures { result ≡ is_grammar order.now steps.now hosts.now name.now clients.now number.now }
 {
     (order == "order" && steps == "-")
-        && ((hosts == "--hosts" && is_host_name(name.as_bytes())) && (clients == "-j" && number == "1"))
+        && ((hosts == "--hosts" && is_host_name(name.as_bytes()))
+            && (clients == "-j" && number == "1"))
 }
 
 #[tactic(auto, using(std::proofs::lemmas::Bool::Decides::nat_tests), unfolding(crate::specs::Asked::is_host_name))]
@@ -48,7 +56,8 @@ fn has_host_bytes(name: &[u8]) -> bool
 fn is_host_byte(b: u8) -> bool
     ensures { result ≡ is_host_byte b }
 {
-    (97 <= b && b <= 122) || ((65 <= b && b <= 90) || ((48 <= b && b <= 57) || (45 <= b && b <= 46)))
+    (97 <= b && b <= 122)
+        || ((65 <= b && b <= 90) || ((48 <= b && b <= 57) || (45 <= b && b <= 46)))
 }
 
 /// A host by its name: distcc's port, and two jobs at a time on the own machine, else four.
