@@ -1,5 +1,5 @@
 -- Entries that make a tree.
-use Rattle.std.proofs.Common.{◌≡◌, [], Bool, true, false, ◌&&◌, if◌then◌else◌, Option, None, Some, refl, IsTrue}
+use Rattle.std.proofs.Common.{◌≡◌, [], Bool, true, false, ◌&&◌, if◌then◌else◌, None, Some, IsTrue}
 use Rattle.tree_model.specs.Entries.{Entries, makes_tree, mirror_error, is_increasing, parents_stand}
 use Rattle.tree_model.specs.declared.mem_tree.MirrorError.{MirrorError}
 use Rattle.tree_model.specs.declared.mem_tree.MirrorError.TheVariants as why
