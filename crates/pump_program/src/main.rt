@@ -2,6 +2,8 @@
 #![tactic(auto)]
 
 mod folder;
+#[cfg(test)]
+mod folder_tests;
 
 ghost use Rattle.std.specs.Prelude.{IfOk};
 ghost use Rattle.build_clients.specs.Outside.{seen_end};
