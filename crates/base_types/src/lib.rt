@@ -1,9 +1,14 @@
-//! What every crate stands on: a list of bytes and a list of any type, which contracts see as plain lists, and
-//! the definitions that all contracts cite (causes of faults, told contents, membership).
+//! What every crate stands on: a list of bytes and a list of any type, which contracts see as plain lists; the calls of
+//! objects in memory that fail where a list says so; and the definitions that all contracts cite (causes of faults, told
+//! contents, membership).
 #![tactic(auto)]
 
 mod bytes;
+mod calls;
+mod failing;
 mod list;
 
 pub use bytes::Bytes;
+pub use calls::{Calls, Counted};
+pub use failing::Failing;
 pub use list::List;

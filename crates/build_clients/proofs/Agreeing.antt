@@ -1,17 +1,15 @@
 -- Records and the whole tree, where hosts answer as daemons do.
-use Rattle.std.proofs.Common.{◌≡◌, ◌⊎◌, ℕ, ◌≤◌, List, [], ◌∷◌, ◌++◌, length, Bool, true, false, ◌&&◌, if◌then◌else◌, cond, Option, None, Some, refl, sym, ap, ◌∙◌, subst, inl, inr, arith, append-nil, length-append, nat_le, nat_eq, IsTrue}
-use Rattle.std.specs.List.{AllByRecursion, list_all}
-use Rattle.std.proofs.lemmas.Bool.{leb-true, and_parts, cases_lt}
-use lib.Pointwise.{pointwise}
+use Rattle.std.proofs.Common.{◌≡◌, ◌⊎◌, ℕ, ◌≤◌, List, [], ◌∷◌, ◌++◌, length, Some, refl, sym, ap, ◌∙◌, subst, inl, inr, arith, append-nil, IsTrue}
+use Rattle.std.specs.List.{AllByRecursion}
+use Rattle.std.proofs.lemmas.Bool.{cases_lt}
 use Rattle.base_types.specs.Members.{Member}
-use Rattle.tree_model.specs.Paths.{Text, Path, slash, spelled, spelled_below, names_of, path_of, is_name}
+use Rattle.tree_model.specs.Paths.{Text, Path}
 use Rattle.tree_model.specs.Entries.{Entries, makes_tree}
 use Rattle.tree_model.specs.Trees.{FileTree, IsTree, tree_of, body_of, body_limit}
 use Rattle.tree_model.specs.declared.entry.Entry.{Entry}
 use Rattle.tree_model.specs.declared.entry.Entry.TheVariants.{Dir, File, Link}
-use Rattle.pp_tokens.specs.Plain.{is_simple_name}
 use Rattle.job_words.specs.declared.job.Job.{Job}
-use Rattle.job_words.specs.Words.{IsJob, job_of, job_in, is_directory, is_below_root}
+use Rattle.job_words.specs.Words.{IsJob, IsShort, JobsAreShort}
 use Rattle.io_edges.specs.declared.wire.Exchange.{Exchange}
 use Rattle.io_edges.specs.Talk.{IsAnswered}
 use Rattle.job_frames.specs.declared.answer.Answer.{Answer}
@@ -42,47 +40,11 @@ record Fitting (dir : Text) (list : List Text) : Type 0 where
   few : length list ≤ 1000
   words : AreWords list
 
-nonempty : (path : Path) → spelled path ≡ [] → ⊥
-nonempty [] e = cc
-nonempty (name ∷ dir) e = let n : length (spelled_below dir ++ slash ∷ name) ≡ 0 = ap length e in let sum = length-append (spelled_below dir) (slash ∷ name) in omega (arith, n, sum)
-
-pointwise-nil : (xs : Text) → pointwise nat_eq xs [] ≡ true → xs ≡ []
-pointwise-nil [] e = refl
-pointwise-nil (x ∷ xs) e = absurd (cc)
-
-some-spelling : (text : Text) (path : Path) → pointwise nat_eq (spelled path) text ≡ true → 1 ≤ length text
-some-spelling [] path e = absurd (nonempty path (pointwise-nil (spelled path) e))
-some-spelling (b ∷ text) path e = omega arith
-
-directory-fits : (cwd : Text) → is_directory cwd ≡ true → (1 ≤ length cwd) × (length cwd ≤ 4096)
-unfolding is_directory path_of
-directory-fits cwd h = by_test (list_all is_name (names_of cwd)) (nat_le (length cwd) 4096) (pointwise nat_eq (spelled (names_of cwd)) cwd) refl refl h
-  where
-    by_test : (a b c : Bool) → nat_le (length cwd) 4096 ≡ b → pointwise nat_eq (spelled (names_of cwd)) cwd ≡ c → is_below_root (cond {A = Option Path} (a && (b && c)) (Some (names_of cwd)) None) ≡ true → (1 ≤ length cwd) × (length cwd ≤ 4096)
-    by_test true true true e f h = (some-spelling cwd (names_of cwd) f, leb-true (length cwd) 4096 e)
-    by_test true true false e f h = absurd (cc)
-    by_test true false c e f h = absurd (cc)
-    by_test false b c e f h = absurd (cc)
-
-name-fits : (name : Text) → is_simple_name name ≡ true → (1 ≤ length name) × (length name ≤ 4096)
-unfolding is_simple_name
-name-fits name h =
-    let first = and_parts (nat_le 1 (length name) && nat_le (length name) 255) _ h in
-    let bounds = and_parts (nat_le 1 (length name)) (nat_le (length name) 255) first.0 in
-    let high : length name ≤ 255 = leb-true (length name) 255 bounds.1 in
-    (leb-true 1 (length name) bounds.0, omega (arith, high))
-
-source-fits : (cwd source : Text) (job : Job) (test : Bool) → is_directory cwd && is_simple_name source ≡ test → (if test then Some (job_in cwd source) else None) ≡ Some job → Fitting cwd (source ∷ [])
-source-fits cwd source job true is e =
-    let both = and_parts (is_directory cwd) (is_simple_name source) is in
-    record { place = directory-fits cwd both.0; few = omega arith; words = (name-fits source both.1, tt) }
-source-fits cwd source job false is e = absurd (cc)
-
-words-fit : (cwd : Text) (words : List Text) (job : Job) → job_of cwd words ≡ Some job → Fitting cwd words
-unfolding job_of
-words-fit cwd [] job e = absurd (cc)
-words-fit cwd (source ∷ []) job e = source-fits cwd source job (is_directory cwd && is_simple_name source) refl e
-words-fit cwd (source ∷ second ∷ words) job e = absurd (cc)
+fitting : (cwd : Text) (words : List Text) → IsShort cwd words → Fitting cwd words
+fitting cwd [] short = absurd short
+fitting cwd (source ∷ []) (low, high, some, few) =
+    record { place = (low, high); few = omega arith; words = ((some, omega (arith, few)), tt) }
+fitting cwd (source ∷ second ∷ words) short = absurd short
 
 -- ---- a job's entries fit into a request ----
 
@@ -105,14 +67,14 @@ module _ (tree : FileTree) (budget : ℕ) (job : Job) (entries : Entries) (are :
   short : length (request_bytes job entries) ≤ most
   short = elim (cases_lt most (length (request_bytes job entries))) [ inl long ↦ absurd (none refusal.Request (entries, are, inr long)) | inr le ↦ le ]
 
-  fits-request : IsJob job → IsTrue (makes_tree entries) → FitsRequest job entries
-  fits-request is made =
-      let fitting = words-fit job.cwd job.words job is in
+  fits-request : JobsAreShort → IsJob job → IsTrue (makes_tree entries) → FitsRequest job entries
+  fits-request jobs is made =
+      let fits = fitting job.cwd job.words (jobs job.cwd job.words job is) in
       record {
         is_job = is;
-        place = fitting.place;
-        few_words = fitting.few;
-        words = fitting.words;
+        place = fits.place;
+        few_words = fits.few;
+        words = fits.words;
         tree = made;
         few = few;
         bodies = each-small entries entry-small;
@@ -186,13 +148,13 @@ said-answer apart job entries e says answered (inr (inr (n, low, high, refused))
 only-one : (a b : Exchange) (exchanges : List Exchange) → exchanges ≡ a ∷ [] → exchanges ≡ b ∷ [] → a ≡ b
 only-one a b exchanges e f = let same : a ∷ [] ≡ b ∷ [] = sym e ∙ f in cc
 
-module _ (whole_requests : RequestsAreWhole) (trees : TreesMakeRequests) (apart : RepliesAreApart) (enough : EntriesAreEnough) where
+module _ (jobs : JobsAreShort) (whole_requests : RequestsAreWhole) (trees : TreesMakeRequests) (apart : RepliesAreApart) (enough : EntriesAreEnough) where
   module _ (tree : FileTree) (budget : ℕ) (job : Job) (is_tree : IsTree tree) (is_job : IsJob job) (deeds : Deeds) (served : AreServed deeds.exchanges) where
     -- whatever the daemon answers to the request, it says it of the job's entries
     says : (sent : List ℕ) (none : NothingHolds tree job budget) (is : IsRequestOf tree job sent) (received : List ℕ) → Daemon Answers sent received → Said job is.0 received
     says sent none is received daemon =
         let made = (enough tree job budget is.0 is_tree none is.1).0 in
-        let request = trees job is.0 (fits-request tree budget job is.0 is.1 none is_job made) (short tree budget job is.0 is.1 none) in
+        let request = trees job is.0 (fits-request tree budget job is.0 is.1 none jobs is_job made) (short tree budget job is.0 is.1 none) in
         said job is.0 sent received (whole_requests job is.0 sent request is.2) daemon
 
     served-one : (e : Exchange) → deeds.exchanges ≡ e ∷ [] → IsAnswered (Daemon Answers) e

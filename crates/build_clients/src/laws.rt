@@ -2,6 +2,7 @@
 ghost use Rattle.build_clients.specs.Agree.{EntriesAreEnough, RecordsAgree, RecordsAreCalm};
 
 use job_frames::{reply_spellings, request_spellings, request_trees};
+use job_words::jobs_are_short;
 
 /// Where preprocessing over the entries of a job gives what it gives over the whole tree, and hosts answer as daemons
 /// do: each outcome that is recorded is that of preprocessing over the whole tree; and a job in which no count of faults
@@ -10,6 +11,7 @@ pub fn records_agree()
     ensures agree { EntriesAreEnough → RecordsAgree }
     ensures calm { EntriesAreEnough → RecordsAreCalm }
 {
+    jobs_are_short();
     request_spellings();
     request_trees();
     reply_spellings();

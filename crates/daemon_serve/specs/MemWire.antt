@@ -1,10 +1,7 @@
 -- What a wire in memory keeps.
-use Rattle.std.specs.Prelude.{◌≡◌, ℕ, ◌+◌, ◌-◌, ◌^◌, ◌≤◌, min, List, [], ◌∷◌, take, length, true, false, Result, IsErrOf}
+use Rattle.std.specs.Prelude.{◌≡◌, ℕ, ◌+◌, ◌-◌, ◌^◌, ◌≤◌, min, List, [], ◌∷◌, take, length, true, false}
 use Rattle.std.specs.List.{AllByRecursion}
-use Rattle.base_types.specs.Members.{Member}
 use Rattle.io_edges.specs.declared.wire.Exchange.{Exchange}
-use Rattle.io_edges.specs.declared.wire.LinkFault.{LinkFault}
-use Rattle.io_edges.specs.declared.wire.LinkFault.TheVariants.{Down}
 use Rattle.io_edges.specs.declared.wire.LinkState.{LinkState}
 use Rattle.io_edges.specs.declared.wire.LinkState.TheVariants.{Closed, Sending, Taking}
 use Rattle.io_edges.specs.Talk.{IsAnswered}
@@ -31,14 +28,9 @@ dial_made calls = record calls { dials = counted calls.dials; exchange = calls.d
 abbrev pub call_made : Calls → Calls
 call_made calls = record calls { made = counted calls.made }
 
--- the call that was made last is one that fails
-abbrev pub IsDue : Calls → Type 0
-IsDue calls = Member (calls.exchange, calls.made) calls.failing
-
--- a call answers that the link is down exactly where it is due, with the counts after it
-pub record FailsAsListed {T : Type 0} (calls : Calls) (result : Result T LinkFault) : Type 0 where
-  pub only_listed : IsErrOf result Down → IsDue calls
-  pub each_listed : IsDue calls → IsErrOf result Down
+-- the call that was made last, by the numbers of its exchange and of the call in it
+abbrev pub last_call : Calls → ℕ × ℕ
+last_call calls = (calls.exchange, calls.made)
 
 -- what contracts see of a wire in memory
 pub record Line : Type 0 where

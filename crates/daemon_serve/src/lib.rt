@@ -2,7 +2,7 @@
 #![tactic(auto)]
 
 mod answerer;
-mod failing;
+mod exchange_calls;
 mod last_exchange;
 mod mem_wire;
 mod pieces;
@@ -13,6 +13,3 @@ pub use answerer::Answerer;
 pub use mem_wire::MemWire;
 pub use scripted::Scripted;
 pub use serve_peer::ServePeer;
-
-#[cfg(test)]
-mod tests;

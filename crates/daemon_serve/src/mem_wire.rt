@@ -1,13 +1,14 @@
 // A wire whose other side is an answerer in memory.
 ghost use Rattle.std.specs.Prelude.{◌≡◌, ◌≤◌, ◌<◌, ℕ, [], ◌++◌, ◌∷◌, take, length, Some, IfOk, OnOk, OnErr, All, cond, nat_eq};
 ghost use Rattle.std.specs.Io.{ReadsAtMost};
+ghost use Rattle.base_types.specs.Calls.{FailsAsListed};
 ghost use Rattle.base_types.specs.Causes.{HasCause};
 ghost use Rattle.base_types.specs.Told.{added};
 ghost use Rattle.io_edges.specs.Talk.{dialled, sending, finishing, taking, ending, on_current, EachAnswered};
-ghost use Rattle.daemon_serve.specs.MemWire.{calls_of, dial_made, call_made, FailsAsListed};
+ghost use Rattle.daemon_serve.specs.MemWire.{calls_of, dial_made, call_made, last_call};
 
 use crate::answerer::Answerer;
-use crate::failing::Failing;
+use crate::exchange_calls::ExchangeCalls;
 use crate::last_exchange::{ask, send_on, take_on};
 use crate::pieces::Pieces;
 use base_types::Bytes;
@@ -21,7 +22,7 @@ pub struct MemWire<P: Answerer> {
     alloc: Global,
     peer: P,
     pieces: Pieces,
-    failing: Failing,
+    calls: ExchangeCalls,
     exchanges: Vec<Exchange>,
     // What the other side answered, and how much of it was given.
     answer: Bytes,
@@ -34,7 +35,7 @@ impl<P: Answerer> Model for MemWire<P> {
 
     ghost Value = { Line };
 
-    ghost view = { λ w. record { talk = w.exchanges.items; state = w.state; faults = w.failing.faults; calls = calls_of w.failing.dials w.failing.exchange w.failing.made w.failing.list.items } };
+    ghost view = { λ w. record { talk = w.exchanges.items; state = w.state; faults = w.calls.failing.faults; calls = calls_of w.calls.dials w.calls.exchange w.calls.made w.calls.failing.fails } };
 
     ghost invariant = { λ w. WireHolds P.may w.exchanges.items w.answer w.given w.state };
 }
@@ -54,7 +55,7 @@ impl<P: Answerer> MemWire<P> {
             alloc,
             peer,
             pieces: Pieces::new(pieces),
-            failing: Failing::new(failing),
+            calls: ExchangeCalls::new(failing),
             exchanges: Vec::new(alloc),
             answer: Bytes::new(alloc),
             given: 0,
@@ -87,10 +88,10 @@ impl<P: Answerer> Wire for MemWire<P> {
         ensures still { OnErr result (⟦<MemWire<P> as Wire>⟧.state self.new ≡ ⟦<MemWire<P> as Wire>⟧.state self.old) }
         ensures answered { EachAnswered P.may (⟦<MemWire<P> as Wire>⟧.talk self.new) }
         ensures cause { HasCause LinkFault.Down (⟦<MemWire<P> as Wire>⟧.faults self.old) (⟦<MemWire<P> as Wire>⟧.faults self.new) result }
-        ensures listed { FailsAsListed self.new.calls result }
+        ensures listed { FailsAsListed LinkFault.Down self.new.calls.failing (last_call self.new.calls) result }
         ensures counted { self.new.calls ≡ dial_made self.old.calls }
     {
-        if self.failing.dial_fails() {
+        if self.calls.dial_fails() {
             return Err(LinkFault::Down);
         }
         if begin(self.alloc, &mut self.exchanges, host).is_err() {
@@ -107,10 +108,10 @@ impl<P: Answerer> Wire for MemWire<P> {
         ensures still { ⟦<MemWire<P> as Wire>⟧.state self.new ≡ ⟦<MemWire<P> as Wire>⟧.state self.old }
         ensures answered { EachAnswered P.may (⟦<MemWire<P> as Wire>⟧.talk self.new) }
         ensures cause { HasCause LinkFault.Down (⟦<MemWire<P> as Wire>⟧.faults self.old) (⟦<MemWire<P> as Wire>⟧.faults self.new) result }
-        ensures listed { FailsAsListed self.new.calls result }
+        ensures listed { FailsAsListed LinkFault.Down self.new.calls.failing (last_call self.new.calls) result }
         ensures counted { self.new.calls ≡ call_made self.old.calls }
     {
-        if self.failing.next_fails() {
+        if self.calls.next_fails() {
             return Err(LinkFault::Down);
         }
         if send_on(&mut self.exchanges, piece).is_err() {
@@ -127,10 +128,10 @@ impl<P: Answerer> Wire for MemWire<P> {
         ensures still { OnErr result (⟦<MemWire<P> as Wire>⟧.state self.new ≡ ⟦<MemWire<P> as Wire>⟧.state self.old) }
         ensures answered { EachAnswered P.may (⟦<MemWire<P> as Wire>⟧.talk self.new) }
         ensures cause { HasCause LinkFault.Down (⟦<MemWire<P> as Wire>⟧.faults self.old) (⟦<MemWire<P> as Wire>⟧.faults self.new) result }
-        ensures listed { FailsAsListed self.new.calls result }
+        ensures listed { FailsAsListed LinkFault.Down self.new.calls.failing (last_call self.new.calls) result }
         ensures counted { self.new.calls ≡ call_made self.old.calls }
     {
-        if self.failing.next_fails() {
+        if self.calls.next_fails() {
             return Err(LinkFault::Down);
         }
         match ask(self.alloc, &mut self.peer, &mut self.exchanges) {
@@ -153,10 +154,10 @@ impl<P: Answerer> Wire for MemWire<P> {
         ensures still { ⟦<MemWire<P> as Wire>⟧.state self.new ≡ ⟦<MemWire<P> as Wire>⟧.state self.old }
         ensures answered { EachAnswered P.may (⟦<MemWire<P> as Wire>⟧.talk self.new) }
         ensures cause { HasCause LinkFault.Down (⟦<MemWire<P> as Wire>⟧.faults self.old) (⟦<MemWire<P> as Wire>⟧.faults self.new) result }
-        ensures listed { FailsAsListed self.new.calls result }
+        ensures listed { FailsAsListed LinkFault.Down self.new.calls.failing (last_call self.new.calls) result }
         ensures counted { self.new.calls ≡ call_made self.old.calls }
     {
-        if self.failing.next_fails() {
+        if self.calls.next_fails() {
             return Err(LinkFault::Down);
         }
         let bound = self.pieces.next_bound();

@@ -1,8 +1,6 @@
--- What a call of the outside does to a told content, and which calls of an object in memory fail.
-use Rattle.std.specs.Prelude.{◌≡◌, ℕ, List, Option, Result, MatchResult, take, IsErrOf}
+-- What a call of the outside does to a told content.
+use Rattle.std.specs.Prelude.{◌≡◌, ℕ, List, Option, Result, MatchResult, take}
 use Rattle.std.specs.Io.KnownBytes.{prepend_known}
-use Rattle.base_types.specs.Causes.{raised}
-use Rattle.base_types.specs.Members.{Member}
 use Rattle.base_types.specs.Told.{added}
 
 -- a take gives the front of what is left, and a refused one leaves it; what isn't told stays so
@@ -14,13 +12,3 @@ TakesFront before now result room =
 abbrev pub PutsPiece : {E : Type 0} → Option (List ℕ) → Option (List ℕ) → Result (Unit {0}) E → List ℕ → Type 0
 PutsPiece before now result piece =
     MatchResult result (λ _. now ≡ added piece before) (λ _. (n : ℕ) × (now ≡ added (take n piece) before))
-
--- after so many calls, the number of the next one stands on the list
-abbrev pub IsDue : ℕ → List ℕ → Type 0
-IsDue calls fails = Member (raised calls) fails
-
--- a call is counted, and it answers the fault exactly where its number stands on the list
-pub record FailsAsListed {T E : Type 0} (fault : E) (fails : List ℕ) (before now : ℕ) (result : Result T E) : Type 0 where
-  pub counted : now ≡ raised before
-  pub only_listed : IsErrOf result fault → IsDue before fails
-  pub each_listed : IsDue before fails → IsErrOf result fault

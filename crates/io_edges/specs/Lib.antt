@@ -1,5 +1,5 @@
 -- What the objects of the outside tell and do.
---     Edges     contents that are read and written, and calls that fail as a list says
+--     Edges     contents that are read and written
 --     Talk      the exchanges of a wire
 --     Daemons   what an object in memory starts
 pub mod Edges

@@ -2,7 +2,6 @@
 //! objects that implement them, in memory and over the host.
 #![tactic(auto)]
 
-mod calls;
 mod folder_outs;
 mod outs;
 mod sink;
@@ -12,7 +11,6 @@ mod std_sink;
 mod std_source;
 mod wire;
 
-pub use calls::Counted;
 pub use folder_outs::FolderOuts;
 pub use outs::{MemOuts, OutFault, Outs};
 pub use sink::{MemSink, Sink, WriteFault};
@@ -21,6 +19,3 @@ pub use spawner::{MemSpawner, SpawnFault, Spawner};
 pub use std_sink::StdSink;
 pub use std_source::StdSource;
 pub use wire::{Exchange, Host, LinkFault, LinkState, Wire};
-
-#[cfg(test)]
-mod tests;

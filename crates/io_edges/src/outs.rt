@@ -1,11 +1,10 @@
 // Named bodies that are written, and the same in memory.
 ghost use Rattle.std.specs.Prelude.{◌≡◌, ◌≤◌, ℕ, List, [], ◌∷◌, Some, None, Option, OnOk, OnErr, IfErr, ◌++◌};
-ghost use Rattle.base_types.specs.Causes.{HasCause};
+ghost use Rattle.base_types.specs.Calls.{FailsAsListed};
+ghost use Rattle.base_types.specs.Causes.{HasCause, raised};
 ghost use Rattle.base_types.specs.Told.{added};
-ghost use Rattle.io_edges.specs.Edges.{FailsAsListed};
 
-use crate::calls::{Calls, Counted};
-use base_types::Bytes;
+use base_types::{Bytes, Calls, Counted};
 use std::alloc::{AllocError, Global};
 
 #[derive(Clone, Copy, Debug, PartialEq, Eq, Drop)]
@@ -67,7 +66,7 @@ impl MemOuts {
 impl Counted for MemOuts {
     ghost calls = { λ s. s.calls.made };
 
-    ghost fails = { λ s. s.calls.fails.items };
+    ghost fails = { λ s. s.calls.fails };
 }
 
 impl Outs for MemOuts {
@@ -79,7 +78,8 @@ impl Outs for MemOuts {
         ensures ok { OnOk result (⟦<MemOuts as Outs>⟧.kept self.new ≡ added ((name.now, body.now) ∷ []) (⟦<MemOuts as Outs>⟧.kept self.old)) }
         ensures err { OnErr result (⟦<MemOuts as Outs>⟧.kept self.new ≡ ⟦<MemOuts as Outs>⟧.kept self.old) }
         ensures cause { HasCause OutFault.Fault (⟦<MemOuts as Outs>⟧.faults self.old) (⟦<MemOuts as Outs>⟧.faults self.new) result }
-        ensures listed { FailsAsListed OutFault.Fault (⟦<MemOuts as Counted>⟧.fails self.old) (⟦<MemOuts as Counted>⟧.calls self.old) (⟦<MemOuts as Counted>⟧.calls self.new) result }
+        ensures counted { ⟦<MemOuts as Counted>⟧.calls self.new ≡ raised (⟦<MemOuts as Counted>⟧.calls self.old) }
+        ensures listed { FailsAsListed OutFault.Fault (⟦<MemOuts as Counted>⟧.fails self.old) (⟦<MemOuts as Counted>⟧.calls self.new) result }
         ensures same_list { ⟦<MemOuts as Counted>⟧.fails self.new ≡ ⟦<MemOuts as Counted>⟧.fails self.old }
     {
         if self.calls.next_fails() {

@@ -1,10 +1,10 @@
 // Bytes that are written, and the same in memory.
 ghost use Rattle.std.specs.Prelude.{◌≡◌, ◌≤◌, ℕ, List, [], length, Some, None, Option};
-ghost use Rattle.base_types.specs.Causes.{HasCause};
-ghost use Rattle.io_edges.specs.Edges.{PutsPiece, FailsAsListed};
+ghost use Rattle.base_types.specs.Calls.{FailsAsListed};
+ghost use Rattle.base_types.specs.Causes.{HasCause, raised};
+ghost use Rattle.io_edges.specs.Edges.{PutsPiece};
 
-use crate::calls::{Calls, Counted};
-use base_types::Bytes;
+use base_types::{Bytes, Calls, Counted};
 use std::alloc::Global;
 
 #[derive(Clone, Copy, Debug, PartialEq, Eq, Drop)]
@@ -61,7 +61,7 @@ impl MemSink {
 impl Counted for MemSink {
     ghost calls = { λ s. s.calls.made };
 
-    ghost fails = { λ s. s.calls.fails.items };
+    ghost fails = { λ s. s.calls.fails };
 }
 
 impl Sink for MemSink {
@@ -72,7 +72,8 @@ impl Sink for MemSink {
     fn put(&mut self, piece: &[u8]) -> Result<(), WriteFault>
         ensures bytes { PutsPiece (⟦<MemSink as Sink>⟧.held self.old) (⟦<MemSink as Sink>⟧.held self.new) result piece.now }
         ensures cause { HasCause WriteFault.Fault (⟦<MemSink as Sink>⟧.faults self.old) (⟦<MemSink as Sink>⟧.faults self.new) result }
-        ensures listed { FailsAsListed WriteFault.Fault (⟦<MemSink as Counted>⟧.fails self.old) (⟦<MemSink as Counted>⟧.calls self.old) (⟦<MemSink as Counted>⟧.calls self.new) result }
+        ensures counted { ⟦<MemSink as Counted>⟧.calls self.new ≡ raised (⟦<MemSink as Counted>⟧.calls self.old) }
+        ensures listed { FailsAsListed WriteFault.Fault (⟦<MemSink as Counted>⟧.fails self.old) (⟦<MemSink as Counted>⟧.calls self.new) result }
         ensures same_list { ⟦<MemSink as Counted>⟧.fails self.new ≡ ⟦<MemSink as Counted>⟧.fails self.old }
     {
         if self.calls.next_fails() {

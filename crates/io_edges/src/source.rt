@@ -2,11 +2,11 @@
 ghost use Rattle.std.specs.Prelude.{◌≡◌, ◌≤◌, ◌<◌, ℕ, List, length, drop, take, Some, None, Option, IfOk, true, false};
 ghost use Rattle.std.specs.Io.{ReadsAtMost};
 ghost use Rattle.std.specs.Io.KnownBytes.{IsAtEnd};
-ghost use Rattle.base_types.specs.Causes.{HasCause};
-ghost use Rattle.io_edges.specs.Edges.{TakesFront, FailsAsListed};
+ghost use Rattle.base_types.specs.Calls.{FailsAsListed};
+ghost use Rattle.base_types.specs.Causes.{HasCause, raised};
+ghost use Rattle.io_edges.specs.Edges.{TakesFront};
 
-use crate::calls::{Calls, Counted};
-use base_types::Bytes;
+use base_types::{Bytes, Calls, Counted};
 
 #[derive(Clone, Copy, Debug, PartialEq, Eq, Drop)]
 pub enum ReadFault {
@@ -59,7 +59,7 @@ impl MemSource {
 impl Counted for MemSource {
     ghost calls = { λ s. s.calls.made };
 
-    ghost fails = { λ s. s.calls.fails.items };
+    ghost fails = { λ s. s.calls.fails };
 }
 
 impl Source for MemSource {
@@ -73,7 +73,8 @@ impl Source for MemSource {
         ensures bytes { TakesFront (⟦<MemSource as Source>⟧.left self.old) (⟦<MemSource as Source>⟧.left self.new) result room.new }
         ensures end { IfOk result (λ n. n ≡ 0 → IsAtEnd (⟦<MemSource as Source>⟧.left self.new)) }
         ensures cause { HasCause ReadFault.Fault (⟦<MemSource as Source>⟧.faults self.old) (⟦<MemSource as Source>⟧.faults self.new) result }
-        ensures listed { FailsAsListed ReadFault.Fault (⟦<MemSource as Counted>⟧.fails self.old) (⟦<MemSource as Counted>⟧.calls self.old) (⟦<MemSource as Counted>⟧.calls self.new) result }
+        ensures counted { ⟦<MemSource as Counted>⟧.calls self.new ≡ raised (⟦<MemSource as Counted>⟧.calls self.old) }
+        ensures listed { FailsAsListed ReadFault.Fault (⟦<MemSource as Counted>⟧.fails self.old) (⟦<MemSource as Counted>⟧.calls self.new) result }
         ensures same_list { ⟦<MemSource as Counted>⟧.fails self.new ≡ ⟦<MemSource as Counted>⟧.fails self.old }
     {
         if self.calls.next_fails() {

@@ -1,12 +1,11 @@
 // What starts daemons and stops them.
 ghost use Rattle.std.specs.Prelude.{◌≡◌, ◌≤◌, ◌<◌, ℕ, List, ◌∷◌, [], ◌++◌, Bool, true, false, IfOk, OnOk, OnErr, length, drop};
-ghost use Rattle.base_types.specs.Causes.{HasCause};
-ghost use Rattle.io_edges.specs.Edges.{FailsAsListed};
+ghost use Rattle.base_types.specs.Calls.{FailsAsListed};
+ghost use Rattle.base_types.specs.Causes.{HasCause, raised};
 ghost use Rattle.io_edges.specs.Daemons.{localhost, starts_of, hosts_of};
 
-use crate::calls::{Calls, Counted};
 use crate::wire::Host;
-use base_types::Bytes;
+use base_types::{Bytes, Calls, Counted};
 use std::alloc::{AllocError, Global};
 
 #[derive(Clone, Copy, Debug, PartialEq, Eq, Drop)]
@@ -97,7 +96,7 @@ impl MemSpawner {
 impl Counted for MemSpawner {
     ghost calls = { λ s. s.calls.made };
 
-    ghost fails = { λ s. s.calls.fails.items };
+    ghost fails = { λ s. s.calls.fails };
 }
 
 impl Spawner for MemSpawner {
@@ -120,7 +119,8 @@ impl Spawner for MemSpawner {
         ensures running_err { OnErr result (⟦<MemSpawner as Spawner>⟧.running self.new ≡ ⟦<MemSpawner as Spawner>⟧.running self.old) }
         ensures asked_err { OnErr result (⟦<MemSpawner as Spawner>⟧.asked self.new ≡ ⟦<MemSpawner as Spawner>⟧.asked self.old) }
         ensures cause { HasCause SpawnFault.Fault (⟦<MemSpawner as Spawner>⟧.faults self.old) (⟦<MemSpawner as Spawner>⟧.faults self.new) result }
-        ensures listed { FailsAsListed SpawnFault.Fault (⟦<MemSpawner as Counted>⟧.fails self.old) (⟦<MemSpawner as Counted>⟧.calls self.old) (⟦<MemSpawner as Counted>⟧.calls self.new) result }
+        ensures counted { ⟦<MemSpawner as Counted>⟧.calls self.new ≡ raised (⟦<MemSpawner as Counted>⟧.calls self.old) }
+        ensures listed { FailsAsListed SpawnFault.Fault (⟦<MemSpawner as Counted>⟧.fails self.old) (⟦<MemSpawner as Counted>⟧.calls self.new) result }
         ensures same_list { ⟦<MemSpawner as Counted>⟧.fails self.new ≡ ⟦<MemSpawner as Counted>⟧.fails self.old }
     {
         if self.calls.next_fails() {
@@ -140,7 +140,8 @@ impl Spawner for MemSpawner {
         ensures running_err { OnErr result (⟦<MemSpawner as Spawner>⟧.running self.new ≡ ⟦<MemSpawner as Spawner>⟧.running self.old) }
         ensures asked { ⟦<MemSpawner as Spawner>⟧.asked self.new ≡ true }
         ensures cause { HasCause SpawnFault.Fault (⟦<MemSpawner as Spawner>⟧.faults self.old) (⟦<MemSpawner as Spawner>⟧.faults self.new) result }
-        ensures listed { FailsAsListed SpawnFault.Fault (⟦<MemSpawner as Counted>⟧.fails self.old) (⟦<MemSpawner as Counted>⟧.calls self.old) (⟦<MemSpawner as Counted>⟧.calls self.new) result }
+        ensures counted { ⟦<MemSpawner as Counted>⟧.calls self.new ≡ raised (⟦<MemSpawner as Counted>⟧.calls self.old) }
+        ensures listed { FailsAsListed SpawnFault.Fault (⟦<MemSpawner as Counted>⟧.fails self.old) (⟦<MemSpawner as Counted>⟧.calls self.new) result }
         ensures same_list { ⟦<MemSpawner as Counted>⟧.fails self.new ≡ ⟦<MemSpawner as Counted>⟧.fails self.old }
     {
         self.asked = true;

@@ -10,8 +10,6 @@ mod laws;
 mod machine;
 mod reader;
 mod replies;
-#[cfg(test)]
-mod tests;
 mod writers;
 
 pub use answer::Answer;

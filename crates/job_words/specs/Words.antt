@@ -1,5 +1,5 @@
 -- The job that a working directory and compile words give: words are so far one simple name, the source.
-use Rattle.std.specs.Prelude.{◌≡◌, List, [], ◌∷◌, ◌++◌, Bool, true, false, ◌&&◌, ◌==◌, if◌then◌else◌, Option, Some, None, codes}
+use Rattle.std.specs.Prelude.{◌≡◌, ◌≤◌, List, [], ◌∷◌, ◌++◌, Bool, true, false, ◌&&◌, ◌==◌, if◌then◌else◌, Option, Some, None, length, codes}
 use Rattle.std.specs.List.{list_any, before_last}
 use Rattle.tree_model.specs.Paths.{Text, Path, path_of}
 use Rattle.pp_tokens.specs.Plain.{is_simple_name}
@@ -40,3 +40,13 @@ IsJob job = job_of job.cwd job.words ≡ Some job
 -- what a reading gives keeps the working directory and the words, and is the reading of these
 abbrev pub JobsKeepWords : Type 0
 JobsKeepWords = (cwd : Text) (words : List Text) (job : Job) → job_of cwd words ≡ Some job → (job.cwd ≡ cwd) × (job.words ≡ words)
+
+-- a working directory of 1 to 4,096 bytes, and one word of 1 to 255
+abbrev pub IsShort : Text → List Text → Type 0
+IsShort cwd [] = ⊥
+IsShort cwd (source ∷ []) = (1 ≤ length cwd) × (length cwd ≤ 4096) × (1 ≤ length source) × (length source ≤ 255)
+IsShort cwd (source ∷ second ∷ words) = ⊥
+
+-- no job is read from more, or from nothing
+abbrev pub JobsAreShort : Type 0
+JobsAreShort = (cwd : Text) (words : List Text) (job : Job) → job_of cwd words ≡ Some job → IsShort cwd words

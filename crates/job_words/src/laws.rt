@@ -1,7 +1,12 @@
 // Laws of jobs.
-ghost use Rattle.job_words.specs.Words.{JobsKeepWords};
+ghost use Rattle.job_words.specs.Words.{JobsKeepWords, JobsAreShort};
 
 /// A job that was read keeps the working directory and the words that it was read from.
 pub fn jobs_keep_words()
     ensures { JobsKeepWords }
+{}
+
+/// A job is read only from a working directory of 1 to 4,096 bytes and one word of 1 to 255.
+pub fn jobs_are_short()
+    ensures { JobsAreShort }
 {}

@@ -6,5 +6,5 @@ mod laws;
 mod read;
 
 pub use job::Job;
-pub use laws::jobs_keep_words;
+pub use laws::{jobs_are_short, jobs_keep_words};
 pub use read::read_words;

@@ -9,7 +9,7 @@ ghost use Rattle.pump_run.specs.Asked.{jobs_of, listed, not_built, line_of, job_
 
 use base_types::Bytes;
 use io_edges::{ReadFault, Source};
-use job_words::{Job, jobs_keep_words, read_words};
+use job_words::{Job, jobs_are_short, jobs_keep_words, read_words};
 use std::alloc::{AllocError, Global};
 
 // The longest list, in bytes.
@@ -131,4 +131,6 @@ fn place_of(bytes: &[u8], mark: u8) -> usize
 /// A law, which takes no work: a list of more bytes than the limit isn't in its grammar, whatever follows.
 pub fn long_lists_are_refused()
     ensures { (bytes more : List ℕ) → 16777216 < length bytes → jobs_of (bytes ++ more) ≡ Err not_built }
-{}
+{
+    jobs_are_short();
+}

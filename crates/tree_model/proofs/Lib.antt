@@ -3,7 +3,6 @@
 --     OrderLemmas    entries whose paths increase
 --     TreeLemmas     the tree of a list of entries
 --     JudgeLemmas    judging each path behind those before it
---     Listed         searching a list of numbers
 --     MemberLemmas   membership in lists
 --     FrameParts     walks in a part of a tree
 --     FrameLooked    walks over lookups that agree at the paths looked up
@@ -17,7 +16,6 @@ pub mod PathLemmas
 pub mod OrderLemmas
 pub mod TreeLemmas
 pub mod JudgeLemmas
-pub mod Listed
 pub mod MemberLemmas
 pub mod FrameParts
 pub mod FrameLooked

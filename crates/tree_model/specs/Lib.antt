@@ -2,7 +2,6 @@
 --     Paths      canonical paths and their spelling
 --     Entries    lists of nodes in order of their paths' spellings
 --     Trees      a tree: a finite map from paths to nodes
---     Calls      which calls of an object in memory fail
 --     Laws       laws of paths and trees
 --     Walk       walks through a tree, and the files that texts locate
 --     Frame      laws of walks
@@ -10,7 +9,6 @@
 pub mod Paths
 pub mod Entries
 pub mod Trees
-pub mod Calls
 pub mod Laws
 pub mod Walk
 pub mod Frame

@@ -2,7 +2,6 @@
 //! POSIX pathname resolution, and a tree in memory.
 #![tactic(auto)]
 
-mod calls;
 mod entry;
 mod frame;
 mod laws;
@@ -12,7 +11,6 @@ mod path;
 mod tree;
 mod walk;
 
-pub use calls::Counted;
 pub use entry::{Entry, Node};
 pub use frame::{frame_law, leads_law, looked_law, walked_law};
 pub use laws::{
@@ -24,8 +22,3 @@ pub use order::{entry_spelled, judge_path};
 pub use path::CanonPath;
 pub use tree::{Frozen, Tree, TreeError, Unnamed};
 pub use walk::{Located, locate};
-
-#[cfg(test)]
-mod tests;
-#[cfg(test)]
-mod walk_tests;

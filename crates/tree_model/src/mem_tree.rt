@@ -2,17 +2,16 @@
 ghost use Rattle.std.specs.Prelude.{◌≡◌, None, Some, IfOk, IfErr, IfSome, OnOk, IsErrOf, Err, IsTrue};
 ghost use Rattle.std.specs.Option.{option_map};
 ghost use Rattle.std.proofs.Common.{ap};
+ghost use Rattle.base_types.specs.Calls.{FailsAsListed};
 ghost use Rattle.base_types.specs.Causes.{HasCause, raised};
-ghost use Rattle.tree_model.specs.Calls.{FailsAsListed};
 ghost use Rattle.tree_model.specs.Entries.{links_fit, makes_tree, mirror_error};
 ghost use Rattle.tree_model.specs.Trees as trees;
 ghost use Rattle.tree_model.specs.Trees.{tree_of, node_at, body_at, IsNode, IsBody, IsTooLarge, IsTree, IsTree-prop, NamesOnly, NamesOnly-prop, told_whole};
 ghost use Rattle.tree_model.specs.declared.entry.Entry.TheVariants.{Dir};
 
-use crate::calls::{Calls, Counted};
 use crate::order::{entry_spelled, have_parents, increase};
 use crate::{CanonPath, Entry, Frozen, Node, Tree, TreeError};
-use base_types::Bytes;
+use base_types::{Bytes, Calls, Counted};
 use std::alloc::Global;
 use std::marker::PhantomData;
 
@@ -111,7 +110,7 @@ fn copied(alloc: Global, bytes: &Bytes) -> Result<Bytes, TreeError>
 impl<F: Frozen> Counted for MemTree<F> {
     ghost calls = { λ m. m.calls.made };
 
-    ghost fails = { λ m. m.calls.fails.items };
+    ghost fails = { λ m. m.calls.fails };
 }
 
 impl<F: Frozen> Tree for MemTree<F> {
@@ -134,7 +133,8 @@ impl<F: Frozen> Tree for MemTree<F> {
         ensures never_large { IsErrOf result TreeError.Large → ⊥ }
         ensures cause { HasCause TreeError.Fault (⟦<MemTree<F> as Tree>⟧.faults self.old) (⟦<MemTree<F> as Tree>⟧.faults self.new) result }
         ensures no_read { ⟦<MemTree<F> as Tree>⟧.reads self.new ≡ ⟦<MemTree<F> as Tree>⟧.reads self.old }
-        ensures listed { FailsAsListed TreeError.Fault (⟦<MemTree<F> as Counted>⟧.fails self.old) (⟦<MemTree<F> as Counted>⟧.calls self.old) (⟦<MemTree<F> as Counted>⟧.calls self.new) result }
+        ensures counted { ⟦<MemTree<F> as Counted>⟧.calls self.new ≡ raised (⟦<MemTree<F> as Counted>⟧.calls self.old) }
+        ensures listed { FailsAsListed TreeError.Fault (⟦<MemTree<F> as Counted>⟧.fails self.old) (⟦<MemTree<F> as Counted>⟧.calls self.new) result }
         ensures same_list { ⟦<MemTree<F> as Counted>⟧.fails self.new ≡ ⟦<MemTree<F> as Counted>⟧.fails self.old }
     {
         if self.calls.next_fails() {
@@ -158,7 +158,8 @@ impl<F: Frozen> Tree for MemTree<F> {
         ensures large { IfSome (⟦<MemTree<F> as Tree>⟧.told self.old) (λ tree. IsErrOf result TreeError.Large → IsTooLarge tree path.now) }
         ensures cause { HasCause TreeError.Fault (⟦<MemTree<F> as Tree>⟧.faults self.old) (⟦<MemTree<F> as Tree>⟧.faults self.new) result }
         ensures one_read { ⟦<MemTree<F> as Tree>⟧.reads self.new ≡ raised (⟦<MemTree<F> as Tree>⟧.reads self.old) }
-        ensures listed { FailsAsListed TreeError.Fault (⟦<MemTree<F> as Counted>⟧.fails self.old) (⟦<MemTree<F> as Counted>⟧.calls self.old) (⟦<MemTree<F> as Counted>⟧.calls self.new) result }
+        ensures counted { ⟦<MemTree<F> as Counted>⟧.calls self.new ≡ raised (⟦<MemTree<F> as Counted>⟧.calls self.old) }
+        ensures listed { FailsAsListed TreeError.Fault (⟦<MemTree<F> as Counted>⟧.fails self.old) (⟦<MemTree<F> as Counted>⟧.calls self.new) result }
         ensures same_list { ⟦<MemTree<F> as Counted>⟧.fails self.new ≡ ⟦<MemTree<F> as Counted>⟧.fails self.old }
     {
         self.reads = self.reads.saturating_add(1);

@@ -1,0 +1,3 @@
+-- Lemmas.
+--     Listed    searching a list by a test that tells its members apart
+pub mod Listed
