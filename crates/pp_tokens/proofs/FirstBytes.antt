@@ -43,7 +43,7 @@ no_entry f b u ((k ∷ ks) ∷ ps) passes zero_fails all =
     not_holds true h = absurd (cc)
 
 -- what begins with no quote is not quoted
-not_quoted : (q b : ℕ) (u : List ℕ) → is_plain q ≡ false → is_plain b ≡ true → is_quoted q (b ∷ u) ≡ false
+pub not_quoted : (q b : ℕ) (u : List ℕ) → is_plain q ≡ false → is_plain b ≡ true → is_quoted q (b ∷ u) ≡ false
 not_quoted q b u fails plain = let e : (b == q) ≡ false = apart is_plain b q plain fails in rw e refl
 
 -- the text is empty, or begins with a byte that neither goes on with an identifier nor is a quote
@@ -173,7 +173,7 @@ run_of p (x ∷ xs) = by_test (p x) refl (run_of p xs)
         record { after = x ∷ xs; split = rw run refl; each = rw run refl; stops = λ b bs e'. (let s : x ≡ b = cc in subst (λ c. p c ≡ false) s e) }
 
 -- a text with a byte in it that fails isn't all of them
-some_fails : (p : ℕ → Bool) (xs : List ℕ) (b : ℕ) (bs : List ℕ) → p b ≡ false → list_all p (xs ++ (b ∷ bs)) ≡ false
+pub some_fails : (p : ℕ → Bool) (xs : List ℕ) (b : ℕ) (bs : List ℕ) → p b ≡ false → list_all p (xs ++ (b ∷ bs)) ≡ false
 some_fails p [] b bs h = rw h refl
 some_fails p (x ∷ xs) b bs h = and_fails (p x) _ (some_fails p xs b bs h)
 
@@ -189,6 +189,22 @@ one_word b start =
     let w6 : (b == 13) ≡ false = apart is_identifier_start b 13 start refl in
     rw (w1, w2, w3, w4, w5, w6, start) refl
 
+-- what begins an identifier is no quote
+pub start_plain : (b : ℕ) → is_identifier_start b ≡ true → is_plain b ≡ true
+start_plain b start =
+    let q : (b == 34) ≡ false = apart is_identifier_start b 34 start refl in
+    let a : (b == 39) ≡ false = apart is_identifier_start b 39 start refl in
+    rw (q, a) refl
+
+-- an identifier as a whole
+pub word_is : (b : ℕ) (t : List ℕ) → is_identifier_start b ≡ true → list_all is_identifier_byte t ≡ true → part_of (b ∷ t) ≡ Some (token Ident)
+word_is b [] start h = one_word b start
+word_is b (c ∷ t) start h =
+    let plain = start_plain b start in
+    let same : b ∷ ((c ∷ t) ++ []) ≡ b ∷ c ∷ t = ap (λ (l : List ℕ). b ∷ l) (append-nil (c ∷ t)) in
+    word_part b c t start (ap is_character (sym same) ∙ word_no_character b (c ∷ t) [] plain h tt) (ap is_string (sym same) ∙ word_no_string b (c ∷ t) [] plain h tt)
+    ∙ ap (λ q. cond q (Some (token Ident)) None) h
+
 -- an identifier with no quote right behind it is what stands in front of its text
 pub word_stands : (b : ℕ) (bs : List ℕ) → is_identifier_start b ≡ true
     → is_quote (get_or (drop (length (take_while is_identifier_byte bs)) bs) 0 0) ≡ false
@@ -197,20 +213,10 @@ word_stands b bs start behind =
     let r = run_of is_identifier_byte bs in
     let t = take_while is_identifier_byte bs in
     ap (λ (l : List ℕ). first_part false (b ∷ l)) r.split
-    ∙ stands_first false (token Ident) (b ∷ t) r.after (λ e. cc) (inr (λ e. absurd (cc), is t r.each, longest r))
+    ∙ stands_first false (token Ident) (b ∷ t) r.after (λ e. cc) (inr (λ e. absurd (cc), word_is b t start r.each, longest r))
   where
     plain : is_plain b ≡ true
-    plain =
-        let q : (b == 34) ≡ false = apart is_identifier_start b 34 start refl in
-        let a : (b == 39) ≡ false = apart is_identifier_start b 39 start refl in
-        rw (q, a) refl
-
-    is : (t : List ℕ) → list_all is_identifier_byte t ≡ true → part_of (b ∷ t) ≡ Some (token Ident)
-    is [] h = one_word b start
-    is (c ∷ t) h =
-        let same : b ∷ ((c ∷ t) ++ []) ≡ b ∷ c ∷ t = ap (λ (l : List ℕ). b ∷ l) (append-nil (c ∷ t)) in
-        word_part b c t start (ap is_character (sym same) ∙ word_no_character b (c ∷ t) [] plain h tt) (ap is_string (sym same) ∙ word_no_string b (c ∷ t) [] plain h tt)
-        ∙ ap (λ q. cond q (Some (token Ident)) None) h
+    plain = start_plain b start
 
     ends : (t : List ℕ) (m : ℕ) (ms : List ℕ) → list_all is_identifier_byte t ≡ true → EndsWord (m ∷ ms) → part_of (b ∷ (t ++ (m ∷ ms))) ≡ None
     ends [] m ms all stop =

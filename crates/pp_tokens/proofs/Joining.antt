@@ -3,19 +3,9 @@ use Rattle.std.specs.Prelude.{◌≡◌, Bool, true, false, cond, List, [], ◌�
 use Rattle.std.proofs.Common.{sym, ◌∙◌, ap, append_assoc}
 use Rattle.std.proofs.lemmas.List.{append-nil}
 use Rattle.pp_tokens.specs.declared.token.Token.{Token}
-use Rattle.pp_tokens.specs.Phases.{Cell, bytes}
-use Rattle.pp_tokens.specs.Lines.{Part, newline, white, comment, open_comment, token, Element, cut_at_newlines, onto_first, line_of, line_tokens}
-
--- The lines behind those that are finished: current has the tokens of the present line so far, begun tells
--- whether anything stands on it yet, and space whether white space stands before the next token.
-unfoldable pub joined : Bool → List Token → Bool → List Element → List (List Token)
-joined begun current space [] = cond begun (current ∷ []) []
-joined begun current space (e ∷ es) =
-    elim e.part [
-      | newline ↦ current ∷ joined false [] true es
-      | token k ↦ joined true (current ++ (record { kind = k; text = bytes e.cells; line = line_of e.cells; space = space } ∷ [])) false es
-      | _ ↦ joined true current true es
-    ]
+use Rattle.pp_tokens.specs.Gathered.{joined}
+use Rattle.pp_tokens.specs.Phases.{Cell}
+use Rattle.pp_tokens.specs.Lines.{Part, newline, white, comment, open_comment, token, Element, cut_at_newlines, onto_first, line_tokens}
 
 -- the same from the lines that the elements are cut into
 abbrev onto : Bool → List Token → Bool → List (List Element) → List (List Token)

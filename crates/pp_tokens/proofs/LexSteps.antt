@@ -1,140 +1,261 @@
--- One step of the lexer over plain lines.
-use Rattle.std.specs.Prelude.{◌≡◌, ℕ, zero, suc, ◌+◌, ◌≤◌, ◌<◌, Bool, true, false, cond, List, [], ◌∷◌, ◌++◌, map, length, take, drop, get_or, None, refl, ◌==◌}
-use Rattle.std.proofs.Common.{sym, ◌∙◌, ap, arith, append_assoc, drop-drop, subst}
-use Rattle.std.proofs.lemmas.List.{take-map}
-use Rattle.pp_tokens.specs.declared.token.Kind.{Kind}
+-- The lexer's steps: what is gathered of a text, and what is left of it.
+use Rattle.std.specs.Prelude.{◌≡◌, ℕ, zero, ◌+◌, ◌≤◌, ◌<◌, Bool, true, false, cond, List, [], ◌∷◌, ◌++◌, length, take, drop, None, Some, Option, refl}
+use Rattle.std.proofs.Common.{sym, ◌∙◌, ap, arith, append_assoc, drop-drop, length-drop, inl, inr}
+use Rattle.std.proofs.Math.Seq.{take-append_seam}
+use Rattle.std.proofs.lemmas.List.{append-nil, length-append, drop_all}
 use Rattle.pp_tokens.specs.declared.token.Token.{Token}
 use Rattle.pp_tokens.specs.declared.due.Before.{Before}
 use Rattle.pp_tokens.specs.declared.due.Before.TheVariants.{Nothing}
-use Rattle.pp_tokens.specs.Phases.{Cell, cell, bytes, numbered}
-use Rattle.pp_tokens.specs.Lines.{Part, newline, white, token, Element, header_due, words_after, cut_at_newlines, line_of, line_tokens, unended_line, first_part, elements, file_of, lexed}
-use Rattle.pp_tokens.specs.Plain.{is_plain_body}
-use Rattle.pp_tokens.specs.Text.{after_word, is_due, no_newline, IsPlainFront, text_file}
-use Rattle.pp_tokens.proofs.Reading.{cut_off, next_element, drop_one_more}
-use Rattle.pp_tokens.proofs.PlainLines.{numbered_bytes, numbered_past}
-use Rattle.pp_tokens.proofs.Bodies.{plain_source}
-use Rattle.pp_tokens.proofs.Joining.{joined, lines_joined}
+use Rattle.pp_tokens.specs.declared.lexer.Place.{Place}
+use Rattle.pp_tokens.specs.declared.lexer.Gathering.{Gathering}
+use Rattle.pp_tokens.specs.Phases.{Cell, cell, bytes}
+use Rattle.pp_tokens.specs.Lined.{lined, spliced_up_to}
+use Rattle.pp_tokens.specs.Lines.{Part, newline, white, comment, open_comment, token, Element, header_due, words_after, line_of, unended_line, first_part, elements, file_of, or_else, Stands}
+use Rattle.pp_tokens.specs.Seen.{seen_lines, seen_file, last_end, Ascends, EachWithin}
+use Rattle.pp_tokens.specs.Text.{after_word, is_due}
+use Rattle.pp_tokens.specs.Gathered.{newlines, joined, present_tokens, file_with, before_with, IsGathered, IsPart, GathersNothing, EndsLine, EndsLastLine, AddsToken, AddsGap, Gathers}
+use Rattle.pp_tokens.proofs.Reading.{cut_off, next_element, drop_one_more, first_stands, some_length}
+use Rattle.pp_tokens.proofs.LinedRests.{lined_bytes, lined_past, cut_bytes, cut_line}
+use Rattle.pp_tokens.proofs.Joining.{lines_joined}
+use Rattle.pp_tokens.proofs.Places.{ascends_last, ascends_more, ascends_line, last_of_more, within_more, all_dropped, same_lines, line_more, token_more}
 use Rattle.pp_tokens.proofs.DueWords.{after_words, one_word_more, due_is}
-use Rattle.pp_tokens.proofs.Rests.{PlainRest, plain_front, token_rest, white_rest, newline_rest}
+
+-- WHAT STANDS FIRST
+
+-- it isn't empty, and lies within the text
+pub first_within : (due : Bool) (xs : List ℕ) (p : Part) (n : ℕ) → 0 < length xs → ◌≡◌ {A = Part × ℕ} (p, n) (first_part due xs) → (0 < n) × (n ≤ length xs)
+first_within due [] p n some is = absurd (omega arith)
+first_within due (b ∷ bs) p n some is =
+    let front = first_stands due (b ∷ bs) (λ e. cc) in
+    let size : n ≡ length front.front = ap (λ f. f.1) is ∙ front.size in
+    (omega (arith, size, some_length front.front front.some), omega (arith, size, ap length front.split, length-append front.front front.rest))
+
+-- it is a part as a whole, or a header name
+pub first_is_part : (due : Bool) (xs : List ℕ) (p : Part) (n : ℕ) → 0 < length xs → ◌≡◌ {A = Part × ℕ} (p, n) (first_part due xs) → IsPart p (take n xs)
+first_is_part due [] p n some is = absurd (omega arith)
+first_is_part due (b ∷ bs) p n some found =
+    let f = first_stands due (b ∷ bs) (λ e. cc) in
+    let size : n ≡ length f.front = ap (λ g. g.1) found ∙ f.size in
+    let front : take n (b ∷ bs) ≡ f.front = (λ i. take (size i) (f.split i)) ∙ take-append_seam f.front f.rest in
+    let part : p ≡ (first_part due (b ∷ bs)).0 = ap (λ g. g.0) found in
+    rw (front, part) (by_stand due (first_part due (b ∷ bs)).0 f.front f.rest f.stands)
+  where
+    by_stand : (due : Bool) (part : Part) (t after : List ℕ) → Stands due part t after → IsPart part t
+    by_stand due part t after (inl (d, is, header)) = inr (is, header)
+    by_stand due part t after (inr (none, is, longest)) = inl is
 
 -- the first element of what is left, and the elements behind it
-part_first : (words : List (List ℕ)) (due : Bool) (line n : ℕ) (p : Part) (xs : List ℕ) → 0 < length xs → header_due words ≡ due
+part_first : (words : List (List ℕ)) (due : Bool) (splices : List ℕ) (at line n : ℕ) (p : Part) (xs : List ℕ) → 0 < length xs → header_due words ≡ due
     → first_part due xs ≡ (p, n) → 0 < n
-    → elements zero words (numbered line xs)
-    ≡ cut_off (p, n) (numbered line xs) ∷ elements zero (words_after words (cut_off (p, n) (numbered line xs))) (drop n (numbered line xs))
-unfolding numbered
-part_first words due line n p [] some same is moves = absurd (omega arith)
-part_first words due line n p (b ∷ bs) some same is moves =
-    let cs = numbered (cond (b == 10) (line + 1) line) bs in
-    let text : bytes (cell b line ∷ cs) ≡ b ∷ bs = ap (λ (l : List ℕ). b ∷ l) (numbered_bytes (cond (b == 10) (line + 1) line) bs) in
-    let found : first_part (header_due words) (bytes (cell b line ∷ cs)) ≡ (p, n) = rw (same, text) is in
-    next_element words (cell b line) cs (p, n) found
-    ∙ ap (λ (r : List Cell). cut_off (p, n) (cell b line ∷ cs) ∷ elements zero (words_after words (cut_off (p, n) (cell b line ∷ cs))) r) (sym (drop_one_more n (cell b line) cs moves))
+    → elements zero words (lined splices at line xs)
+    ≡ cut_off (p, n) (lined splices at line xs) ∷ elements zero (words_after words (cut_off (p, n) (lined splices at line xs))) (drop n (lined splices at line xs))
+unfolding lined
+part_first words due splices at line n p [] some same is moves = absurd (omega arith)
+part_first words due splices at line n p (b ∷ bs) some same is moves =
+    let whole = lined splices at line (b ∷ bs) in
+    let c = cell b (line + spliced_up_to splices at) in
+    let cs = drop 1 whole in
+    let text : bytes (c ∷ cs) ≡ b ∷ bs = lined_bytes splices at line (b ∷ bs) in
+    let found : first_part (header_due words) (bytes (c ∷ cs)) ≡ (p, n) = rw (same, text) is in
+    next_element words c cs (p, n) found
+    ∙ ap (λ (r : List Cell). cut_off (p, n) (c ∷ cs) ∷ elements zero (words_after words (cut_off (p, n) (c ∷ cs))) r) (sym (drop_one_more n c cs moves))
 
--- the bytes and the line of an element
-cut_bytes : (n line : ℕ) (xs : List ℕ) → bytes (take n (numbered line xs)) ≡ take n xs
-cut_bytes n line xs = sym (take-map (λ (d : Cell). d.byte) n (numbered line xs)) ∙ ap (take n) (numbered_bytes line xs)
+-- ONE PART MORE IS GATHERED
 
-cut_line : (n line : ℕ) (xs : List ℕ) → 0 < n → 0 < length xs → line_of (take n (numbered line xs)) ≡ line
-unfolding numbered
-cut_line zero line xs h k = absurd (omega arith)
-cut_line (suc n) line [] h k = absurd (omega arith)
-cut_line (suc n) line (b ∷ bs) h k = refl
+abbrev element : Part → List Cell → Element
+element p cs = record { part = p; cells = cs }
 
-past_newline : (line : ℕ) (xs : List ℕ) → 0 < length xs → get_or xs 0 0 ≡ 10 → drop 1 (numbered line xs) ≡ numbered (line + 1) (drop 1 xs)
-unfolding numbered
-past_newline line [] some e = absurd (omega arith)
-past_newline line (b ∷ bs) some e = rw e refl
+pub line_gathered : (text spelling : List ℕ) (line : ℕ) (old new : Gathering) → IsGathered text old → EndsLine old new → Gathers text old new newline spelling line
+unfolding joined unended_line
+line_gathered text spelling line old new g e =
+    let places = old.places.items in
+    let ends = old.ends.items in
+    let ended : List ℕ = ends ++ (length places ∷ []) in
+    record {
+      gathered = record { ascends = rw (e.places, e.ends) (ascends_line 0 ends (length places) g.ascends); within = rw e.places g.within };
+      before = e.before;
+      file = λ cells es same is.
+          (let none : drop (last_end 0 ended) places ≡ [] = rw (last_of_more 0 ends (length places)) (all_dropped places) in
+          rw (e.places, e.ends, e.unended, e.begun, e.space, line_more text places 0 ends g.ascends, none)
+          (ap (λ (ls : List (List Token)). record { lines = ls; unended = or_else old.unended (unended_line es) })
+          (append_assoc (seen_lines text places 0 ends) (present_tokens text old ∷ []) (joined false [] true es))));
+    }
 
--- what a lexer over plain lines keeps
-abbrev pub all_elements : List ℕ → List Element
-all_elements body = elements zero [] (numbered 1 body)
+pub token_gathered : (text : List ℕ) (place : Place) (old new : Gathering) → IsGathered text old → place.start + place.length ≤ length text → place.space ≡ old.space
+    → AddsToken old new place (take place.length (drop place.start text))
+    → Gathers text old new (token place.kind) (take place.length (drop place.start text)) place.line
+unfolding joined unended_line
+token_gathered text place old new g fits spaced e =
+    let places = old.places.items in
+    let ends = old.ends.items in
+    let last = ascends_last 0 ends (length places) g.ascends in
+    let longer : length places ≤ length (places ++ (place ∷ [])) = omega (arith, length-append places (place ∷ [])) in
+    record {
+      gathered = record {
+        ascends = rw (e.places, e.ends) (ascends_more 0 ends (length places) (length (places ++ (place ∷ []))) longer g.ascends);
+        within = rw e.places (within_more text places place g.within fits);
+      };
+      before = e.before;
+      file = λ cells es same is.
+          rw (e.places, e.ends, e.unended, e.begun, e.space, same_lines text places place 0 ends g.ascends, token_more text places place (last_end 0 ends) last.1)
+          (λ i. record {
+            lines = seen_lines text places 0 ends
+                ++ joined true (present_tokens text old ++ (record { kind = place.kind; text = sym same i; line = sym is i; space = spaced i } ∷ [])) false es;
+            unended = or_else old.unended (unended_line es);
+          });
+    }
 
-pub record LexState (body : List ℕ) (lines : List (List Token)) (current : List Token) (begun space : Bool) (before : Before) (at line : ℕ) : Type 0 where
+-- the line of the comment, where the part is one that never ends
+abbrev IsGap : Part → Option ℕ → ℕ → Type 0
+IsGap white o line = o ≡ None
+IsGap comment o line = o ≡ None
+IsGap open_comment o line = o ≡ Some line
+IsGap newline o line = ⊥
+IsGap (token k) o line = ⊥
+
+none_first : (o p : Option ℕ) → or_else (or_else o None) p ≡ or_else o p
+none_first None p = refl
+none_first (Some x) p = refl
+
+some_first : (o p : Option ℕ) (x : ℕ) → or_else (or_else o (Some x)) p ≡ or_else o (Some x)
+some_first None p x = refl
+some_first (Some y) p x = refl
+
+gap_file : (text : List ℕ) (part : Part) (unended : Option ℕ) (line : ℕ) (old new : Gathering) → IsGap part unended line → AddsGap old new unended → (cells : List Cell) (es : List Element) → line_of cells ≡ line
+    → file_with text new es ≡ file_with text old (element part cells ∷ es)
+unfolding joined unended_line
+gap_file text newline unended line old new gap e cells es is = absurd gap
+gap_file text (token k) unended line old new gap e cells es is = absurd gap
+gap_file text white unended line old new gap e cells es is =
+    rw (e.places, e.ends, e.first, e.begun, e.space, gap, none_first old.unended (unended_line es)) refl
+gap_file text comment unended line old new gap e cells es is =
+    rw (e.places, e.ends, e.first, e.begun, e.space, gap, none_first old.unended (unended_line es)) refl
+gap_file text open_comment unended line old new gap e cells es is =
+    rw (e.places, e.ends, e.first, e.begun, e.space, gap, some_first old.unended (unended_line es) line, is) refl
+
+gap_before : (part : Part) (unended : Option ℕ) (line : ℕ) (before : Before) (spelling : List ℕ) → IsGap part unended line → before ≡ before_with part before spelling
+gap_before newline unended line before spelling gap = absurd gap
+gap_before (token k) unended line before spelling gap = absurd gap
+gap_before white unended line before spelling gap = refl
+gap_before comment unended line before spelling gap = refl
+gap_before open_comment unended line before spelling gap = refl
+
+gap_gathered : (text spelling : List ℕ) (part : Part) (unended : Option ℕ) (line : ℕ) (old new : Gathering) → IsGap part unended line → IsGathered text old → AddsGap old new unended
+    → Gathers text old new part spelling line
+gap_gathered text spelling part unended line old new gap g e = record {
+  gathered = record { ascends = rw (e.places, e.ends) g.ascends; within = rw e.places g.within };
+  before = e.before ∙ gap_before part unended line old.before spelling gap;
+  file = λ cells es same is. gap_file text part unended line old new gap e cells es is;
+}
+
+pub white_gathered : (text spelling : List ℕ) (line : ℕ) (old new : Gathering) → IsGathered text old → AddsGap old new None → Gathers text old new white spelling line
+white_gathered text spelling line old new g e = gap_gathered text spelling white None line old new refl g e
+
+pub comment_gathered : (text spelling : List ℕ) (line : ℕ) (old new : Gathering) → IsGathered text old → AddsGap old new None → Gathers text old new comment spelling line
+comment_gathered text spelling line old new g e = gap_gathered text spelling comment None line old new refl g e
+
+pub open_gathered : (text spelling : List ℕ) (line : ℕ) (old new : Gathering) → IsGathered text old → AddsGap old new (Some line) → Gathers text old new open_comment spelling line
+open_gathered text spelling line old new g e = gap_gathered text spelling open_comment (Some line) line old new refl g e
+
+-- THE WHOLE TEXT
+
+-- at a place, where base is its line without the splices: what is gathered with what is left is the file
+pub record LexState (text splices : List ℕ) (g : Gathering) (at base : ℕ) : Type 0 where
   pub words : List (List ℕ)
-  pub seen : after_words Nothing words ≡ before
-  pub rest : PlainRest before (drop at body)
-  pub lines_are : map (line_tokens true) (cut_at_newlines (all_elements body)) ≡ lines ++ joined begun current space (elements zero words (numbered line (drop at body)))
-  pub unended_is : unended_line (all_elements body) ≡ unended_line (elements zero words (numbered line (drop at body)))
+  pub seen : after_words Nothing words ≡ g.before
+  pub file : file_of (elements zero [] (lined splices 0 1 text)) ≡ file_with text g (elements zero words (lined splices at base (drop at text)))
 
-pub lex_start : (body : List ℕ) → is_plain_body body ≡ true → LexState body [] [] false true Nothing 0 1
-unfolding after_words
-lex_start body plain = record { words = []; seen = refl; rest = plain; lines_are = lines_joined (all_elements body); unended_is = refl }
+pub nothing_gathered : (text : List ℕ) (g : Gathering) → GathersNothing g → IsGathered text g
+unfolding Ascends EachWithin
+nothing_gathered text g n = record { ascends = rw (n.places, n.ends) (omega arith); within = rw n.places tt }
 
-module _ (body : List ℕ) (lines : List (List Token)) (current : List Token) (begun space : Bool) (before : Before) (at line n : ℕ) (state : LexState body lines current begun space before at line)
-    (some : 0 < length (drop at body)) (moves : 0 < n) where
-  pub lex_front : IsPlainFront (is_due before) (drop at body)
-  lex_front = plain_front before (drop at body) some state.rest
+pub lex_start : (text splices : List ℕ) (g : Gathering) → GathersNothing g → LexState text splices g 0 1
+unfolding after_words file_of seen_lines last_end
+lex_start text splices g n =
+    let es = elements zero [] (lined splices 0 1 text) in
+    record {
+      words = [];
+      seen = sym n.before;
+      file = rw (n.places, n.ends, n.unended, n.begun, n.space)
+          (ap (λ (ls : List (List Token)). record { lines = ls; unended = unended_line es }) (lines_joined es));
+    }
 
-  same_due : header_due state.words ≡ is_due before
-  same_due = due_is state.words ∙ ap is_due state.seen
+-- the words behind one part more, and what stands on the line
+words_with : Part → List (List ℕ) → List ℕ → List (List ℕ)
+words_with newline words spelling = []
+words_with white words spelling = words
+words_with comment words spelling = words
+words_with open_comment words spelling = words
+words_with (token k) words spelling = words ++ (spelling ∷ [])
 
-  pub lex_token : (k : Kind) → first_part (is_due before) (drop at body) ≡ (token k, n) → no_newline (take n (drop at body)) ≡ true
-      → LexState body lines (current ++ (record { kind = k; text = take n (drop at body); line = line; space = space } ∷ [])) true false (after_word before (take n (drop at body))) (at + n) line
-  unfolding joined words_after unended_line
-  lex_token k is inner =
-      let xs = drop at body in
-      let first = part_first state.words (is_due before) line n (token k) xs some same_due is moves in
-      let behind : drop n (numbered line xs) ≡ numbered line (drop (at + n) body) = numbered_past n line xs inner ∙ ap (numbered line) (drop-drop n at body) in
-      let texts : bytes (take n (numbered line xs)) ≡ take n xs = cut_bytes n line xs in
-      let same_line : line_of (take n (numbered line xs)) ≡ line = cut_line n line xs moves some in
-      record {
-        words = state.words ++ (take n xs ∷ []);
-        seen = one_word_more Nothing state.words (take n xs) ∙ ap (λ b. after_word b (take n xs)) state.seen;
-        rest = subst (PlainRest (after_word before (take n xs))) (drop-drop n at body) (token_rest before xs k n some state.rest is inner);
-        lines_are = state.lines_are ∙ ap (λ es. lines ++ joined begun current space es) first
-            ∙ (λ i. lines ++ joined true (current ++ (record { kind = k; text = texts i; line = same_line i; space = space } ∷ [])) false (elements zero (state.words ++ (texts i ∷ [])) (behind i)));
-        unended_is = state.unended_is ∙ ap unended_line first ∙ rw (cut_bytes n line xs, behind) refl;
-      }
+words_are : (part : Part) (words : List (List ℕ)) (cells : List Cell) → words_after words (element part cells) ≡ words_with part words (bytes cells)
+unfolding words_after words_with
+words_are newline words cells = refl
+words_are white words cells = refl
+words_are comment words cells = refl
+words_are open_comment words cells = refl
+words_are (token k) words cells = refl
 
-  pub lex_white : first_part (is_due before) (drop at body) ≡ (white, n) → no_newline (take n (drop at body)) ≡ true → LexState body lines current true true before (at + n) line
-  unfolding joined words_after unended_line
-  lex_white is inner =
-      let xs = drop at body in
-      let first = part_first state.words (is_due before) line n white xs some same_due is moves in
-      let behind : drop n (numbered line xs) ≡ numbered line (drop (at + n) body) = numbered_past n line xs inner ∙ ap (numbered line) (drop-drop n at body) in
-      record {
-        words = state.words;
-        seen = state.seen;
-        rest = subst (PlainRest before) (drop-drop n at body) (white_rest before xs n some state.rest is inner);
-        lines_are = state.lines_are ∙ ap (λ es. lines ++ joined begun current space es) first ∙ rw behind refl;
-        unended_is = state.unended_is ∙ ap unended_line first ∙ rw behind refl;
-      }
+before_is : (part : Part) (words : List (List ℕ)) (spelling : List ℕ) (before : Before) → after_words Nothing words ≡ before → after_words Nothing (words_with part words spelling) ≡ before_with part before spelling
+unfolding after_words words_with
+before_is newline words spelling before h = refl
+before_is white words spelling before h = h
+before_is comment words spelling before h = h
+before_is open_comment words spelling before h = h
+before_is (token k) words spelling before h = one_word_more Nothing words spelling ∙ ap (λ b. after_word b spelling) h
 
-  pub lex_newline : first_part (is_due before) (drop at body) ≡ (newline, n) → n ≡ 1 → get_or (drop at body) 0 0 ≡ 10 → LexState body (lines ++ (current ∷ [])) [] false true Nothing (at + n) (line + 1)
-  unfolding joined words_after unended_line after_words
-  lex_newline is one ten =
-      let xs = drop at body in
-      let first = part_first state.words (is_due before) line n newline xs some same_due is moves in
-      let next : drop 1 xs ≡ drop (at + n) body = drop-drop 1 at body ∙ ap (λ m. drop (at + m) body) (sym one) in
-      let behind : drop n (numbered line xs) ≡ numbered (line + 1) (drop (at + n) body) =
-      ap (λ m. drop m (numbered line xs)) one ∙ past_newline line xs some ten ∙ ap (numbered (line + 1)) next in
-      record {
-        words = [];
-        seen = refl;
-        rest = subst (λ (l : List ℕ). is_plain_body l ≡ true) next (newline_rest before xs some state.rest ten);
-        lines_are = state.lines_are ∙ ap (λ es. lines ++ joined begun current space es) first ∙ rw behind (sym (append_assoc lines (current ∷ []) _));
-        unended_is = state.unended_is ∙ ap unended_line first ∙ rw behind refl;
-      }
+pub lex_step : (text splices : List ℕ) (old new : Gathering) (at base n : ℕ) (part : Part) → LexState text splices old at base → at < length text
+    → ◌≡◌ {A = Part × ℕ} (part, n) (first_part (is_due old.before) (drop at text))
+    → Gathers text old new part (take n (drop at text)) (base + spliced_up_to splices at)
+    → LexState text splices new (at + n) (base + newlines (take n (drop at text)))
+lex_step text splices old new at base n part state below is step =
+    let xs = drop at text in
+    let some : 0 < length xs = omega (arith, length-drop at text) in
+    let moves : 0 < n = (first_within (is_due old.before) xs part n some is).0 in
+    let due : header_due state.words ≡ is_due old.before = due_is state.words ∙ ap is_due state.seen in
+    let all = lined splices at base xs in
+    let cells = take n all in
+    let first = part_first state.words (is_due old.before) splices at base n part xs some due (sym is) moves in
+    let spelling : bytes cells ≡ take n xs = cut_bytes n splices at base xs in
+    let behind : drop n all ≡ lined splices (at + n) (base + newlines (take n xs)) (drop (at + n) text) =
+    lined_past n splices at base xs ∙ ap (lined splices (at + n) (base + newlines (take n xs))) (drop-drop n at text) in
+    let words : words_after state.words (element part cells) ≡ words_with part state.words (take n xs) =
+    words_are part state.words cells ∙ ap (words_with part state.words) spelling in
+    record {
+      words = words_with part state.words (take n xs);
+      seen = before_is part state.words (take n xs) old.before state.seen ∙ sym step.before;
+      file = state.file ∙ ap (file_with text old) first
+          ∙ sym (step.file cells (elements zero (words_after state.words (element part cells)) (drop n all)) spelling (cut_line n splices at base xs moves some))
+          ∙ (λ i. file_with text new (elements zero (words i) (behind i)));
+    }
 
 -- at the end the file is what was gathered
-pub lex_end : (body : List ℕ) (lines : List (List Token)) (current : List Token) (begun space : Bool) (before : Before) (at line : ℕ) → length body ≤ at → LexState body lines current begun space before at line
-    → text_file body ≡ record { lines = lines ++ cond begun (current ∷ []) []; unended = None }
-unfolding text_file file_of joined unended_line elements numbered
-lex_end body lines current begun space before at line past state =
-    let none : drop at body ≡ [] = past_all at body past in
-    let gathered : map (line_tokens true) (cut_at_newlines (all_elements body)) ≡ lines ++ cond begun (current ∷ []) [] =
-    state.lines_are ∙ ap (λ (r : List ℕ). lines ++ joined begun current space (elements zero state.words (numbered line r))) none in
-    let closed : unended_line (all_elements body) ≡ None = state.unended_is ∙ ap (λ (r : List ℕ). unended_line (elements zero state.words (numbered line r))) none in
-    (λ i. record { lines = gathered i; unended = closed i })
-  where
-    past_all : (n : ℕ) (xs : List ℕ) → length xs ≤ n → drop n xs ≡ []
-    past_all zero [] h = refl
-    past_all zero (x ∷ xs) h = absurd (omega arith)
-    past_all (suc n) [] h = refl
-    past_all (suc n) (x ∷ xs) h = past_all n xs (omega arith)
+or_none : (o : Option ℕ) → or_else o None ≡ o
+or_none None = refl
+or_none (Some x) = refl
 
--- phases 1 and 2 leave a plain body as it is
-pub lexed_plain : (trigraphs : Bool) (body : List ℕ) → is_plain_body body ≡ true → text_file body ≡ lexed trigraphs body
-unfolding text_file lexed
-lexed_plain trigraphs body plain = sym (ap (λ (cs : List Cell). file_of (elements zero [] cs)) (plain_source trigraphs body plain))
+pub lex_end : (text splices : List ℕ) (old new : Gathering) (at base : ℕ) → length text ≤ at → IsGathered text old → LexState text splices old at base → EndsLastLine old new
+    → (seen_file text new.places.items new.ends.items new.unended ≡ file_of (elements zero [] (lined splices 0 1 text))) × IsGathered text new
+unfolding joined unended_line elements lined
+lex_end text splices old new at base past g state e =
+    (sym (state.file ∙ gathered ∙ sym seen), record { ascends = rw (e.places, e.ends) (ascends old.begun); within = rw e.places g.within })
+  where
+    places : List Place
+    places = old.places.items
+
+    ends : List ℕ
+    ends = old.ends.items
+
+    gathered : file_with text old (elements zero state.words (lined splices at base (drop at text))) ≡ file_with text old []
+    gathered = ap (λ (r : List ℕ). file_with text old (elements zero state.words (lined splices at base r))) (drop_all at text past)
+
+    ascends : (t : Bool) → Ascends 0 (cond t (ends ++ (length places ∷ [])) ends) (length places)
+    ascends true = ascends_line 0 ends (length places) g.ascends
+    ascends false = g.ascends
+
+    lines : (t : Bool) → seen_lines text places 0 (cond t (ends ++ (length places ∷ [])) ends) ≡ seen_lines text places 0 ends ++ cond t (present_tokens text old ∷ []) []
+    lines true = line_more text places 0 ends g.ascends
+    lines false = sym (append-nil (seen_lines text places 0 ends))
+
+    seen : seen_file text new.places.items new.ends.items new.unended ≡ file_with text old []
+    seen = rw (e.places, e.ends, e.unended, lines old.begun, or_none old.unended) refl

@@ -1,12 +1,13 @@
 -- Numbers and single bytes that stand in front of a text.
 use Rattle.std.specs.Prelude.{◌≡◌, ℕ, ◌+◌, ◌≤◌, ◌<◌, Bool, true, false, cond, List, [], ◌∷◌, ◌++◌, length, Some, None, option_map, zero, suc, refl, ◌==◌, drop, eqb}
 use Rattle.std.proofs.Math.Numerals.{one-add}
-use Rattle.std.proofs.Common.{get_or, drop-cons, add-one, sym, ◌∙◌, ap, inr, arith}
-use Rattle.std.proofs.lemmas.Bool.{leb-true, ne_eqb}
+use Rattle.std.proofs.Common.{get_or, drop-cons, add-one, sym, ◌∙◌, ap, inl, inr, arith}
+use Rattle.std.proofs.lemmas.Bool.{eqb-true, leb-true, ne_eqb}
 use Rattle.pp_tokens.specs.declared.token.Kind.TheVariants.{Number}
 use Rattle.pp_tokens.specs.Grammar.{is_digit, is_identifier_start, is_identifier, is_number, number_goes_on, continues_number, is_string, is_character, is_punctuator, kind_of, number_length}
+use Rattle.pp_tokens.specs.Text.{begins_number}
 use Rattle.pp_tokens.specs.Lines.{Part, token, part_of, is_comment, is_open_comment, NoLonger, first_part}
-use Rattle.pp_tokens.proofs.Headers.{and_fails, both_hold}
+use Rattle.pp_tokens.proofs.Headers.{and_fails, both_hold, either_holds}
 use Rattle.pp_tokens.proofs.Reading.{stands_first}
 use Rattle.pp_tokens.proofs.FirstBytes.{apart, no_comment, no_open_comment, no_punctuator, digit_no_start}
 
@@ -118,6 +119,53 @@ number_stands b bs d =
     longest : (r : NumberRun b bs) → NoLonger part_of (b ∷ r.front) r.after
     longest r [] rest some e = absurd (some refl)
     longest r (m ∷ ms) rest some e = ends r.front m ms (r.stops m ms rest e)
+
+-- a text of two bytes and more that begins with `.` and a digit is a number or nothing
+point_part : (c : ℕ) (u : List ℕ) → is_digit c ≡ true → part_of (46 ∷ c ∷ u) ≡ cond (number_goes_on 46 (c ∷ u)) (Some (token Number)) None
+unfolding part_of kind_of is_identifier is_number is_string is_character is_punctuator is_comment is_open_comment
+point_part c u d =
+    let point : (c == 46) ≡ false = apart is_digit c 46 d refl in
+    rw (d, point) (by_test (number_goes_on 46 (c ∷ u)))
+  where
+    by_test : (t : Bool) → option_map token (cond t (Some Number) None) ≡ cond t (Some (token Number)) None
+    by_test true = refl
+    by_test false = refl
+
+-- a number that begins with `.` in front of any text is what stands there
+pub point_stands : (c : ℕ) (bs : List ℕ) → is_digit c ≡ true → first_part false (46 ∷ c ∷ bs) ≡ (token Number, suc (number_length 46 (c ∷ bs)))
+unfolding number_goes_on number_length
+point_stands c bs d =
+    let r = number_run c bs in
+    ap (λ (l : List ℕ). first_part false (46 ∷ c ∷ l)) r.split
+    ∙ stands_first false (token Number) (46 ∷ c ∷ r.front) r.after (λ e. cc) (inr (λ e. absurd (cc), is r, longest r))
+    ∙ ap (λ n. (token Number, suc (suc n))) r.size
+    ∙ ap (λ t. (token Number, suc (cond t (suc (number_length c bs)) 0))) (sym on)
+  where
+    on : continues_number 46 c ≡ true
+    on = rw (digit_starts_none c d, d) refl
+
+    is : (r : NumberRun c bs) → part_of (46 ∷ c ∷ r.front) ≡ Some (token Number)
+    is r = point_part c r.front d ∙ rw (on, r.goes_on) refl
+
+    longest : (r : NumberRun c bs) → NoLonger part_of (46 ∷ c ∷ r.front) r.after
+    longest r [] rest some e = absurd (some refl)
+    longest r (m ∷ ms) rest some e = point_part c (r.front ++ (m ∷ ms)) d ∙ rw (on, r.stops m ms rest e) refl
+
+pub number_first : (text : List ℕ) → begins_number (get_or text 0 0) (get_or text 1 0) ≡ true
+    → first_part false text ≡ (token Number, suc (number_length (get_or text 0 0) (drop 1 text)))
+number_first [] h = absurd (cc)
+number_first (b ∷ bs) h =
+    elim (either_holds (is_digit b) _ h) [
+      | inl d ↦ number_stands b bs d
+      | inr p ↦
+          (let both = both_hold (b == 46) (is_digit (get_or bs 0 0)) p in
+          ap (λ k. first_part false (k ∷ bs)) (eqb-true b 46 both.0) ∙ behind_point bs both.1
+          ∙ ap (λ k. (token Number, suc (number_length k bs))) (sym (eqb-true b 46 both.0)))
+    ]
+  where
+    behind_point : (bs : List ℕ) → is_digit (get_or bs 0 0) ≡ true → first_part false (46 ∷ bs) ≡ (token Number, suc (number_length 46 bs))
+    behind_point [] d = absurd (cc)
+    behind_point (c ∷ cs) d = point_stands c cs d
 
 -- a byte that makes no part with others stands alone
 pub single_stands : (b : ℕ) (bs : List ℕ) (p : Part) → part_of (b ∷ []) ≡ Some p → ((c : ℕ) (u : List ℕ) → part_of (b ∷ c ∷ u) ≡ None) → first_part false (b ∷ bs) ≡ (p, 1)

@@ -164,7 +164,7 @@ cut_at : (xs front rest : List ℕ) (n : ℕ) → xs ≡ front ++ rest → n ≡
 cut_at xs front rest n split size =
     (sym (rw (size, split) (take-append_seam front rest)), sym (rw (size, split) (drop-append_seam front rest)))
 
-some_length : (xs : List ℕ) → xs ≢ [] → 0 < length xs
+pub some_length : (xs : List ℕ) → xs ≢ [] → 0 < length xs
 some_length [] h = absurd (h refl)
 some_length (x ∷ xs) h = omega arith
 

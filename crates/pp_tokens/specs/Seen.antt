@@ -26,3 +26,8 @@ Ascends from (end ∷ ends) last = (from ≤ end) × Ascends end ends last
 unfoldable pub EachWithin : List ℕ → List Place → Type 0
 EachWithin text [] = Unit {0}
 EachWithin text (p ∷ ps) = (p.start + p.length ≤ length text) × EachWithin text ps
+
+-- where the line behind these begins
+unfoldable pub last_end : ℕ → List ℕ → ℕ
+last_end from [] = from
+last_end from (end ∷ ends) = last_end end ends

@@ -1,13 +1,13 @@
 -- What the lexer's own functions tell of a text. No public contract rests on these.
-use Rattle.std.specs.Prelude.{◌≡◌, ◌≤◌, ℕ, zero, suc, Bool, true, false, not, ◌&&◌, ◌||◌, List, [], ◌∷◌, ◌==◌, length, take, drop, get_or, take_while, codes, bytes_eq, if◌then◌else◌}
-use Rattle.std.specs.List.{list_all}
+use Rattle.std.specs.Prelude.{ℕ, suc, Bool, true, false, not, ◌&&◌, ◌||◌, List, [], ◌∷◌, ◌==◌, codes, bytes_eq, nat_eq, if◌then◌else◌, Option, None, Some}
+use Rattle.std.specs.List.{list_all, list_any, starts_with}
+use Rattle.std.specs.Option.{option_map}
 use Rattle.pp_tokens.specs.declared.part.What.{What}
 use Rattle.pp_tokens.specs.declared.part.What.TheVariants.{Newline, White, Comment, OpenComment, Token}
 use Rattle.pp_tokens.specs.declared.due.Before.{Before}
 use Rattle.pp_tokens.specs.declared.due.Before.TheVariants.{Nothing, Hash, Include, Condition, Probe, Probed, Other}
-use Rattle.pp_tokens.specs.Grammar.{is_digit, is_identifier_start, is_identifier_byte, is_header}
-use Rattle.pp_tokens.specs.Phases.{numbered}
-use Rattle.pp_tokens.specs.Lines.{Part, newline, white, comment, open_comment, token, is_hash, LexedFile, elements, file_of}
+use Rattle.pp_tokens.specs.Grammar.{is_digit}
+use Rattle.pp_tokens.specs.Lines.{Part, newline, white, comment, open_comment, token, is_hash}
 use Rattle.pp_tokens.specs.Plain.{is_text_mark}
 
 -- the part that the code's enum tells
@@ -46,36 +46,61 @@ is_due Other = false
 abbrev pub is_quote : ℕ → Bool
 is_quote b = (b == 34) || (b == 39)
 
--- how many bytes stand before the next `"`
-abbrev pub quoted_length : List ℕ → ℕ
-quoted_length bs = length (take_while (λ b. not (b == 34)) bs)
+-- the first delimiter of a header name (6.4.7)
+abbrev pub opens_header : ℕ → Bool
+opens_header b = (b == 60) || (b == 34)
 
--- The front of a text is one that plain bodies have: a newline, a space, a mark, a number, a `#` that is no `##`,
--- a word with no quote right behind it, and where a header name is due, one between two `"`.
-pub record PlainFront (due : Bool) (b : ℕ) (bs : List ℕ) : Type 0 where
-  pub known : ((b == 10) || ((b == 32) || (is_text_mark b || (is_digit b || ((b == 35) || ((due && (b == 34)) || is_identifier_start b)))))) ≡ true
-  pub lone : b ≡ 35 → (get_or bs 0 0 == 35) ≡ false
-  pub closed : (due && (b == 34)) ≡ true → is_header (b ∷ take (suc (quoted_length bs)) bs) ≡ true
-  pub within : (due && (b == 34)) ≡ true → suc (quoted_length bs) ≤ length bs
-  pub apart : is_identifier_start b ≡ true → is_quote (get_or (drop (length (take_while is_identifier_byte bs)) bs) 0 0) ≡ false
+-- a number begins with these two bytes: with a digit, or with `.` and a digit (6.4.8)
+abbrev pub begins_number : ℕ → ℕ → Bool
+begins_number a b = is_digit a || ((a == 46) && is_digit b)
 
--- the text isn't empty, and its front is plain
-abbrev pub IsPlainFront : Bool → List ℕ → Type 0
-IsPlainFront due [] = ⊥
-IsPlainFront due (b ∷ bs) = PlainFront due b bs
+-- a comment begins with these two bytes: with `/*` or `//` (6.4.9)
+abbrev pub begins_comment : ℕ → ℕ → Bool
+begins_comment a b = (a == 47) && ((b == 42) || (b == 47))
+
+-- how many bytes lead up to the end of a comment, its `*/` included; none where it never ends (6.4.9)
+unfoldable pub comment_length : List ℕ → Option ℕ
+comment_length [] = None
+comment_length (b ∷ bs) =
+    if starts_with nat_eq (b ∷ bs) (codes "*/") then Some 2 else option_map suc (comment_length bs)
+
+-- a punctuator that also stands twice and before `=`, as in `<<` and `<=` (6.4.6)
+abbrev pub is_doubled : ℕ → Bool
+is_doubled a = list_any (λ m. a == m) (codes "<>&|+-")
+
+-- a punctuator that also stands before `=` (6.4.6)
+abbrev pub takes_equals : ℕ → Bool
+takes_equals a = is_doubled a || list_any (λ m. a == m) (codes "*/%^!=")
+
+-- an operator of one byte, but `.` (6.4.6)
+abbrev pub is_operator : ℕ → Bool
+is_operator a = takes_equals a || list_any (λ m. a == m) (codes "~?:")
+
+-- a punctuator of one byte (6.4.6)
+abbrev pub is_single : ℕ → Bool
+is_single a = is_text_mark a || (is_operator a || ((a == 46) || (a == 35)))
+
+-- `->`, `##` or a digraph of two bytes (6.4.6)
+abbrev pub is_mixed : ℕ → ℕ → Bool
+is_mixed a b =
+    ((a == 45) && (b == 62))
+    || (((a == 35) && (b == 35))
+    || (((a == 60) && ((b == 58) || (b == 37))) || (((a == 37) && ((b == 58) || (b == 62))) || ((a == 58) && (b == 62)))))
+
+-- a punctuator of two bytes (6.4.6)
+abbrev pub is_pair : ℕ → ℕ → Bool
+is_pair a b = ((b == 61) && takes_equals a) || (((b == a) && is_doubled a) || is_mixed a b)
+
+-- a punctuator of three bytes (6.4.6)
+abbrev pub is_triple : ℕ → ℕ → ℕ → Bool
+is_triple a b c =
+    ((a == 60) && ((b == 60) && (c == 61)))
+    || (((a == 62) && ((b == 62) && (c == 61))) || ((a == 46) && ((b == 46) && (c == 46))))
+
+-- the punctuator of four bytes (6.4.6)
+abbrev pub is_quadruple : ℕ → ℕ → ℕ → ℕ → Bool
+is_quadruple a b c d = (a == 37) && ((b == 58) && ((c == 37) && (d == 58)))
 
 -- no line ends within the text
 abbrev pub no_newline : List ℕ → Bool
 no_newline = list_all (λ b. not (b == 10))
-
--- a newline is its one byte, and no other part of plain bodies has one, or is a comment
-abbrev pub IsPlainPart : What → ℕ → List ℕ → Type 0
-IsPlainPart Newline n bytes = (n ≡ 1) × (get_or bytes 0 0 ≡ 10)
-IsPlainPart White n bytes = no_newline (take n bytes) ≡ true
-IsPlainPart Comment n bytes = ⊥
-IsPlainPart OpenComment n bytes = ⊥
-IsPlainPart (Token k) n bytes = no_newline (take n bytes) ≡ true
-
--- the file of a text that translation phases 1 and 2 leave as it is
-unfoldable pub text_file : List ℕ → LexedFile
-text_file text = file_of (elements zero [] (numbered 1 text))

@@ -1,15 +1,18 @@
 // The lexer: a body's logical lines of tokens.
-ghost use Rattle.std.specs.Prelude.{◌≡◌, ◌≤◌, ◌∷◌, length, get_or, IfOk, IsTrue, None, slice_get, option_map, option_and_then};
+ghost use Rattle.std.specs.Prelude.{◌≡◌, ◌≤◌, ◌+◌, ◌∷◌, [], zero, length, take, drop, get_or, IfOk, slice_get, option_map, option_and_then};
 ghost use Rattle.std.specs.Option.{option_map_or};
-ghost use Rattle.pp_tokens.specs.Lines.{lexed};
-ghost use Rattle.pp_tokens.specs.Plain.{is_plain_body};
-ghost use Rattle.pp_tokens.specs.Seen.{seen_file, Ascends, EachWithin};
-ghost use Rattle.pp_tokens.specs.Text.{text_file};
+ghost use Rattle.pp_tokens.specs.Gathered.{newlines, GathersNothing, EndsLine, AddsToken, AddsGap, EndsLastLine, IsGathered, IsPart, Gathers};
+ghost use Rattle.pp_tokens.specs.Lined.{lined, spliced_up_to, Rising};
+ghost use Rattle.pp_tokens.specs.Lines.{elements, file_of, lexed};
+ghost use Rattle.pp_tokens.specs.Seen.{seen_file};
+ghost use Rattle.pp_tokens.specs.Text.{part_told};
 ghost use Rattle.pp_tokens.specs.Tokens.{token_seen};
 
 use crate::due::{Before, after_word, is_due};
 use crate::part::{What, next_part};
+use crate::source::{SourceText, read_source};
 use crate::token::{Kind, TokenRef};
+use crate::unpaired::Unpaired;
 use std::alloc::{AllocError, Global};
 use std::marker::Model;
 
@@ -45,72 +48,185 @@ impl Model for Lexed {
     ghost invariant = { λ l. Ascends 0 l.ends.items (length l.places.items) × EachWithin l.text.items l.places.items };
 }
 
-// The places of the tokens of a text, and for each logical line how many there are up to its end.
-fn gather(alloc: Global, text: &[u8]) -> Result<(Vec<Place>, Vec<usize>), AllocError>
-    requires small { length text.now ≤ 16777216 }
-    requires plain { IsTrue (is_plain_body text.now) }
-    ensures lines { IfOk result (λ r. seen_file text.now r.0.items r.1.items None ≡ text_file text.now) }
-    ensures ascends { IfOk result (λ r. Ascends 0 r.1.items (length r.0.items)) }
-    ensures within { IfOk result (λ r. EachWithin text.now r.0.items) }
+// `size` bytes of a text, from a place on.
+fn stretch(text: &[u8], at: usize, size: usize) -> &[u8]
+    requires { at + size ≤ length text.now }
+    ensures { result.now ≡ take size (drop at text.now) }
 {
-    let mut places = Vec::new(alloc);
-    let mut ends = Vec::new(alloc);
-    let mut before = Before::Nothing;
-    let mut begun = false;
-    let mut space = true;
-    let mut line = 1u32;
-    let mut at = 0usize;
-    while at < text.len() {
-        let (_, rest) = text.split_at(at);
-        let (what, length) = next_part(rest, is_due(before));
+    let (_, rest) = text.split_at(at);
+    let (part, _) = rest.split_at(size);
+    part
+}
+
+// What is gathered of a text's logical lines so far: its finished lines as `Lexed` has them, and of the line that
+// isn't finished what stands on it, whether anything does, and whether white space stands before the next token.
+#[derive(Drop)]
+struct Gathering {
+    places: Vec<Place>,
+    ends: Vec<usize>,
+    unended: Option<u32>,
+    before: Before,
+    begun: bool,
+    space: bool,
+}
+
+impl Gathering {
+    fn new(alloc: Global) -> Gathering
+        ensures { GathersNothing result }
+    {
+        Gathering {
+            places: Vec::new(alloc),
+            ends: Vec::new(alloc),
+            unended: None,
+            before: Before::Nothing,
+            begun: false,
+            space: true,
+        }
+    }
+
+    fn end_line(&mut self) -> Result<(), AllocError>
+        ensures { IfOk result (λ u. EndsLine self.old self.new) }
+    {
+        self.ends.push(self.places.len())?;
+        self.before = Before::Nothing;
+        self.begun = false;
+        self.space = true;
+        Ok(())
+    }
+
+    fn add_token(&mut self, place: Place, spelling: &[u8]) -> Result<(), AllocError>
+        ensures { IfOk result (λ u. AddsToken self.old self.new place spelling.now) }
+    {
+        self.places.push(place)?;
+        self.before = after_word(self.before, spelling);
+        self.begun = true;
+        self.space = false;
+        Ok(())
+    }
+
+    // White space or a comment, with its line where it is one that never ends.
+    fn add_gap(&mut self, unended: Option<u32>)
+        ensures { AddsGap self.old self.new unended }
+    {
+        if self.unended.is_none() {
+            self.unended = unended;
+        }
+        self.begun = true;
+        self.space = true;
+    }
+
+    // One part more of the text, from a place on, and its line.
+    fn add(
+        &mut self,
+        text: &[u8],
+        what: What,
+        at: usize,
+        size: usize,
+        line: u32,
+    ) -> Result<(), AllocError>
+        requires small { length text.now ≤ 16777217 }
+        requires within { at + size ≤ length text.now }
+        requires gathered { IsGathered text.now self.old }
+        ensures { IfOk result (λ u. Gathers text.now self.old self.new (part_told what) (take size (drop at text.now)) line) }
+    {
         match what {
-            What::Newline => {
-                ends.push(places.len())?;
-                before = Before::Nothing;
-                begun = false;
-                space = true;
-                line += 1;
-            }
+            What::Newline => self.end_line(),
             What::Token(kind) => {
-                let (spelling, _) = rest.split_at(length);
-                places.push(Place {
+                let place = Place {
                     start: at as u32,
-                    length: length as u32,
+                    length: size as u32,
                     line,
                     kind,
-                    space,
-                })?;
-                before = after_word(before, spelling);
-                begun = true;
-                space = false;
+                    space: self.space,
+                };
+                self.add_token(place, stretch(text, at, size))
             }
-            _ => {
-                begun = true;
-                space = true;
+            What::White | What::Comment => {
+                self.add_gap(None);
+                Ok(())
+            }
+            What::OpenComment => {
+                self.add_gap(Some(line));
+                Ok(())
             }
         }
-        at += length;
     }
-    if begun {
-        ends.push(places.len())?;
+
+    // The last line needs no newline.
+    fn end_last_line(&mut self) -> Result<(), AllocError>
+        ensures { IfOk result (λ u. EndsLastLine self.old self.new) }
+    {
+        if self.begun { self.end_line() } else { Ok(()) }
     }
-    Ok((places, ends))
+}
+
+// How many splices stand at a place or before it, where at least `passed` are known to.
+fn splices_passed(splices: &[u32], passed: usize, at: usize) -> usize
+    requires rising { Rising 0 splices.now }
+    requires passed { passed ≤ spliced_up_to splices.now at }
+    ensures { result ≡ spliced_up_to splices.now at }
+{
+    let mut count = passed;
+    while count < splices.len() && splices[count] as usize <= at {
+        count += 1;
+    }
+    count
+}
+
+// How many newlines a part has: a newline is one, and of the others only a comment may have any.
+fn newlines(what: What, part: &[u8]) -> usize
+    requires part { IsPart (part_told what) part.now }
+    ensures { result ≡ newlines part.now }
+{
+    match what {
+        What::Newline => 1,
+        What::Comment | What::OpenComment => part.iter().filter(|b| **b == b'\n').count(),
+        What::White | What::Token(_) => 0,
+    }
+}
+
+// What is gathered of a whole text.
+fn gather(alloc: Global, text: &[u8], splices: &[u32]) -> Result<Gathering, AllocError>
+    requires small { length text.now + length splices.now ≤ 16777217 }
+    requires rising { Rising 0 splices.now }
+    ensures file { IfOk result (λ g. seen_file text.now g.places.items g.ends.items g.unended ≡ file_of (elements zero [] (lined splices.now 0 1 text.now))) }
+    ensures gathered { IfOk result (λ g. IsGathered text.now g) }
+{
+    let mut gathering = Gathering::new(alloc);
+    let mut unpaired = Unpaired::new();
+    // The line of a place is `base`, one more than the newlines before it, and the splices up to it.
+    let mut base = 1usize;
+    let mut passed = 0usize;
+    let mut at = 0usize;
+    while at < text.len() {
+        passed = splices_passed(splices, passed, at);
+        let (what, size) = next_part(text, at, is_due(gathering.before), &mut unpaired);
+        gathering.add(text, what, at, size, (base + passed) as u32)?;
+        base += newlines(what, stretch(text, at, size));
+        at += size;
+    }
+    gathering.end_last_line()?;
+    Ok(gathering)
 }
 
 /// The tokens of a file's body, of at most 16 MiB, with trigraphs read where that is asked for (ISO C 5.1.1.2,
 /// phases 1 to 3). Time is linear in the body; the only error is want of memory.
 pub fn lex(alloc: Global, body: &[u8], trigraphs: bool) -> Result<Lexed, AllocError>
     requires small { length body.now ≤ 16777216 }
-    requires plain { IsTrue (is_plain_body body.now) }
     ensures { IfOk result (λ l. l ≡ lexed trigraphs body.now) }
 {
-    let text = Vec::from_slice(alloc, body)?;
-    let (places, ends) = gather(alloc, body)?;
+    let SourceText { text, splices } = read_source(alloc, body, trigraphs)?;
+    let Gathering {
+        places,
+        ends,
+        unended,
+        ..
+    } = gather(alloc, &text, &splices)?;
     Ok(Lexed {
         text,
         places,
         ends,
-        unended: None,
+        unended,
     })
 }
 
@@ -168,61 +284,5 @@ impl Lexed {
         ensures { result ≡ self.now.unended }
     {
         self.unended
-    }
-}
-
-#[cfg(test)]
-mod tests {
-    use super::*;
-    use crate::plain::is_plain;
-    use std::test::Fail;
-
-    #[test]
-    fn reads_plain_bodies(rt: HostRuntime) -> Result<(), Fail> {
-        let body = b"#include \"a-b.h\"\n\n  int x1[08e], _y;\nint z;\n".as_slice();
-        assert!(rt; is_plain(body));
-        let lexed = lex(rt.alloc(), body, true)?;
-        assert_eq!(rt; lexed.line_count(), 4);
-        assert_eq!(rt; lexed.open_comment(), None);
-        let counts = [3, 0, 8, 3, 0];
-        for (line, count) in counts.iter().enumerate() {
-            assert_eq!(rt; lexed.token_count(line), *count, "line {line}");
-        }
-        for (line, place, kind, text, number, space) in [
-            (0, 0, Kind::Punct, b"#".as_slice(), 1, true),
-            (0, 1, Kind::Ident, b"include".as_slice(), 1, false),
-            (0, 2, Kind::Header, b"\"a-b.h\"".as_slice(), 1, true),
-            (2, 0, Kind::Ident, b"int".as_slice(), 3, true),
-            (2, 1, Kind::Ident, b"x1".as_slice(), 3, true),
-            (2, 2, Kind::Punct, b"[".as_slice(), 3, false),
-            (2, 3, Kind::Number, b"08e".as_slice(), 3, false),
-            (2, 4, Kind::Punct, b"]".as_slice(), 3, false),
-            (2, 5, Kind::Punct, b",".as_slice(), 3, false),
-            (2, 6, Kind::Ident, b"_y".as_slice(), 3, true),
-            (2, 7, Kind::Punct, b";".as_slice(), 3, false),
-            (3, 0, Kind::Ident, b"int".as_slice(), 4, true),
-            (3, 2, Kind::Punct, b";".as_slice(), 4, false),
-        ] {
-            let token = lexed.token(line, place).expect(&rt, "the token is there");
-            assert_eq!(rt; token.kind, kind, "line {line}, place {place}");
-            assert_eq!(rt; token.text, text, "line {line}, place {place}");
-            assert_eq!(rt; token.line, number, "line {line}, place {place}");
-            assert_eq!(rt; token.space, space, "line {line}, place {place}");
-            let owned = token.to_token(rt.alloc())?;
-            assert_eq!(rt; owned.text.as_slice(), text);
-        }
-        assert!(rt; lexed.token(2, 8).is_none());
-        assert!(rt; lexed.token(4, 0).is_none());
-        Ok(())
-    }
-
-    #[test]
-    fn reads_an_empty_body(rt: HostRuntime) -> Result<(), Fail> {
-        let body = b"".as_slice();
-        assert!(rt; is_plain(body));
-        let lexed = lex(rt.alloc(), body, false)?;
-        assert_eq!(rt; lexed.line_count(), 0);
-        assert!(rt; lexed.token(0, 0).is_none());
-        Ok(())
     }
 }

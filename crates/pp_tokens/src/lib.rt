@@ -1,12 +1,17 @@
 //! Preprocessing tokens: translation phases 1 to 3 of ISO C (5.1.1.2, 6.4).
 #![tactic(auto)]
 
+mod comment;
 mod due;
 mod law;
 mod lexer;
+mod marks;
 mod part;
 mod plain;
+mod quoted;
+mod source;
 mod token;
+mod unpaired;
 
 pub use base_types::{Bytes, List};
 pub use law::one_reading;

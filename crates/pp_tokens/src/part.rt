@@ -1,11 +1,16 @@
 // What stands first in a text (ISO C 6.4), and how long it is.
-ghost use Rattle.std.specs.Prelude.{◌≡◌, ◌≤◌, ◌<◌, length, take_while, not, ◌==◌};
-ghost use Rattle.pp_tokens.specs.Grammar.{is_digit, is_identifier_byte, number_length, continues_number};
+ghost use Rattle.std.specs.Prelude.{◌≡◌, ◌≤◌, ◌<◌, ◌⊎◌, true, false, drop, get_or, length, take_while, not, ◌==◌};
+ghost use Rattle.pp_tokens.specs.Grammar.{is_digit, is_identifier_byte, is_identifier_start, is_white};
 ghost use Rattle.pp_tokens.specs.Lines.{first_part};
 ghost use Rattle.pp_tokens.specs.Plain.{is_text_mark};
-ghost use Rattle.pp_tokens.specs.Text.{part_told, quoted_length, IsPlainFront, IsPlainPart};
+ghost use Rattle.pp_tokens.specs.Text.{part_told, is_quote, opens_header, begins_number};
+ghost use Rattle.pp_tokens.specs.Unpaired.{KnowsUnpaired};
 
+use crate::comment::slash_part;
+use crate::marks::{byte_at, mark_part, number_part};
+use crate::quoted::{header_at, quoted_at, word_at};
 use crate::token::Kind;
+use crate::unpaired::Unpaired;
 
 /// What a stretch of a text is.
 #[derive(Clone, Copy, Debug, PartialEq, Eq, Drop)]
@@ -20,46 +25,15 @@ pub enum What {
 pub fn is_identifier_byte(b: u8) -> bool
     ensures { result ≡ is_identifier_byte b }
 {
-    b.is_ascii_alphanumeric() || b == b'_' || b == b'$' || b >= 128
+    is_identifier_start(b) || is_digit(b)
 }
 
 // How many bytes at the front go on with an identifier.
-fn word_length(bytes: &[u8]) -> usize
+pub fn word_length(bytes: &[u8]) -> usize
     ensures run { result ≡ length (take_while is_identifier_byte bytes.now) }
     ensures within { result ≤ length bytes.now }
 {
     bytes.iter().take_while(|b| is_identifier_byte(**b)).count()
-}
-
-// How many bytes at the front stand before the next double quote.
-fn quoted_length(bytes: &[u8]) -> usize
-    ensures run { result ≡ quoted_length bytes.now }
-    ensures within { result ≤ length bytes.now }
-{
-    bytes.iter().take_while(|b| !(**b == b'"')).count()
-}
-
-// Whether a byte may stand in a number behind another.
-fn continues_number(last: u8, b: u8) -> bool
-    ensures { result ≡ continues_number last b }
-{
-    let exponent = last == b'e' || last == b'E' || last == b'p' || last == b'P';
-    is_identifier_byte(b) || b == b'.' || ((b == b'+' || b == b'-') && exponent)
-}
-
-// How many bytes at the front go on with a number, behind a byte of it.
-fn number_length(first: u8, bytes: &[u8]) -> usize
-    ensures run { result ≡ number_length first bytes.now }
-    ensures within { result ≤ length bytes.now }
-{
-    let mut last = first;
-    for (i, b) in bytes.iter().enumerate() {
-        if !continues_number(last, *b) {
-            return i;
-        }
-        last = *b;
-    }
-    bytes.len()
 }
 
 pub fn is_digit(b: u8) -> bool
@@ -82,29 +56,117 @@ pub fn is_text_mark(b: u8) -> bool
         || b == b']'
 }
 
-/// What stands first in a text, and how long it is. A header name is read only where one is due.
-pub fn next_part(rest: &[u8], due: bool) -> (What, usize)
-    requires plain { IsPlainFront due rest.now }
-    ensures part { (part_told result.0, result.1) ≡ first_part due rest.now }
-    ensures plain { IsPlainPart result.0 result.1 rest.now }
-    ensures within { result.1 ≤ length rest.now }
-    ensures moves { 0 < result.1 }
+// Whether a byte begins an identifier.
+fn is_identifier_start(b: u8) -> bool
+    ensures { result ≡ is_identifier_start b }
 {
-    let (front, behind) = rest.split_at(1);
-    let first = front[0];
-    if due && first == b'"' {
-        (What::Token(Kind::Header), quoted_length(behind) + 2)
+    b.is_ascii_alphabetic() || b == b'_' || b == b'$' || b >= 128
+}
+
+fn is_white(b: u8) -> bool
+    ensures { result ≡ is_white b }
+{
+    b == b' ' || b == b'\t' || b == 11 || b == 12 || b == b'\r'
+}
+
+fn is_quote(b: u8) -> bool
+    ensures { result ≡ is_quote b }
+{
+    b == b'"' || b == b'\''
+}
+
+// Whether a byte is the first delimiter of header names.
+fn opens_header(b: u8) -> bool
+    ensures { result ≡ opens_header b }
+{
+    b == b'<' || b == b'"'
+}
+
+// Whether two bytes begin a number.
+fn begins_number(a: u8, b: u8) -> bool
+    ensures { result ≡ begins_number a b }
+{
+    is_digit(a) || (a == b'.' && is_digit(b))
+}
+
+// What begins with no quote and no identifier's byte.
+#[inline(always)]
+fn unquoted_part(rest: &[u8]) -> (What, usize)
+    requires some { 0 < length rest.now }
+    requires word { is_identifier_start (get_or rest.now 0 0) ≡ false }
+    requires quote { is_quote (get_or rest.now 0 0) ≡ false }
+    ensures { (part_told result.0, result.1) ≡ first_part false rest.now }
+{
+    let first = rest[0];
+    if is_white(first) {
+        (What::White, 1)
     } else if first == b'\n' {
         (What::Newline, 1)
-    } else if first == b' ' {
-        (What::White, 1)
-    } else if is_text_mark(first) {
-        (What::Token(Kind::Punct), 1)
-    } else if first == b'#' {
-        (What::Token(Kind::Punct), 1)
-    } else if is_digit(first) {
-        (What::Token(Kind::Number), number_length(first, behind) + 1)
+    } else if first == b'/' {
+        slash_part(rest)
+    } else if begins_number(first, byte_at(rest, 1)) {
+        number_part(rest)
     } else {
-        (What::Token(Kind::Ident), word_length(behind) + 1)
+        mark_part(rest)
+    }
+}
+
+// What stands first from a place on where no header name is due.
+#[inline(always)]
+fn other_part(text: &[u8], at: usize, unpaired: &mut Unpaired) -> (What, usize)
+    requires at { at < length text.now }
+    requires known { KnowsUnpaired unpaired.old text.now at }
+    ensures part { (part_told result.0, result.1) ≡ first_part false (drop at text.now) }
+    ensures known { KnowsUnpaired unpaired.new text.now at }
+{
+    if is_identifier_start(text[at]) {
+        word_at(text, at, unpaired)
+    } else if is_quote(text[at]) {
+        quoted_at(text, at, unpaired)
+    } else {
+        let (_, rest) = text.split_at(at);
+        unquoted_part(rest)
+    }
+}
+
+// What stands first where a header name is due and one of its delimiters stands.
+fn delimited_part(text: &[u8], at: usize, unpaired: &mut Unpaired) -> (What, usize)
+    requires at { at < length text.now }
+    requires known { KnowsUnpaired unpaired.old text.now at }
+    requires delimiter { opens_header (get_or text.now at 0) ≡ true }
+    ensures part { (part_told result.0, result.1) ≡ first_part true (drop at text.now) }
+    ensures known { KnowsUnpaired unpaired.new text.now at }
+{
+    match header_at(text, at, unpaired) {
+        Some(length) => (What::Token(Kind::Header), length),
+        None => other_part(text, at, unpaired),
+    }
+}
+
+// What stands first where a header name is due.
+fn due_part(text: &[u8], at: usize, unpaired: &mut Unpaired) -> (What, usize)
+    requires at { at < length text.now }
+    requires known { KnowsUnpaired unpaired.old text.now at }
+    ensures part { (part_told result.0, result.1) ≡ first_part true (drop at text.now) }
+    ensures known { KnowsUnpaired unpaired.new text.now at }
+{
+    if opens_header(text[at]) {
+        delimited_part(text, at, unpaired)
+    } else {
+        other_part(text, at, unpaired)
+    }
+}
+
+/// What stands first in a text from a place on, and how long it is. A header name is read only where one is due.
+pub fn next_part(text: &[u8], at: usize, due: bool, unpaired: &mut Unpaired) -> (What, usize)
+    requires at { at < length text.now }
+    requires known { KnowsUnpaired unpaired.old text.now at }
+    ensures part { (part_told result.0, result.1) ≡ first_part due (drop at text.now) }
+    ensures known { KnowsUnpaired unpaired.new text.now at }
+{
+    if due {
+        due_part(text, at, unpaired)
+    } else {
+        other_part(text, at, unpaired)
     }
 }

@@ -3,6 +3,7 @@ ghost use Rattle.std.specs.Prelude.{◌≡◌, ◌≤◌, ◌&&◌, codes, bytes
 ghost use Rattle.std.specs.List.{list_all};
 ghost use Rattle.pp_tokens.specs.Plain.{is_word_byte, is_text_byte, is_name_byte, is_simple_name, is_include_line, is_plain_line, is_plain_body};
 
+use crate::comment::line_length;
 use crate::part::{is_digit, is_text_mark};
 
 // Whether a byte is a letter, a digit or `_`.
@@ -77,14 +78,6 @@ fn is_plain_line(line: &[u8]) -> bool
     is_text_line(line) || is_include_line(line)
 }
 
-// How many bytes stand before the next line feed.
-fn line_length(rest: &[u8]) -> usize
-    ensures run { result ≡ length (take_while (λ b. not (b == 10)) rest.now) }
-    ensures within { result ≤ length rest.now }
-{
-    rest.iter().take_while(|b| !(**b == b'\n')).count()
-}
-
 /// Whether a body is plain: it is empty or ends with a line feed, and each of its lines is either exactly
 /// `#include "NAME"` with a simple name, or made of letters, digits, `_`, spaces and `; , ( ) { } [ ]` alone.
 /// Time is linear in the body.
@@ -105,54 +98,4 @@ pub fn is_plain(body: &[u8]) -> bool
         rest = next;
     }
     true
-}
-
-#[cfg(test)]
-mod tests {
-    use super::*;
-
-    #[test]
-    fn tells_plain_bodies(rt: HostRuntime) {
-        for (body, plain) in [
-            (b"".as_slice(), true),
-            (b"\n".as_slice(), true),
-            (
-                b"int main() { return 0; }\n#include \"a.h\"\n".as_slice(),
-                true,
-            ),
-            (b"int x;".as_slice(), false),
-            (b"#include <a.h>\n".as_slice(), false),
-            (b"#include \"a/b.h\"\n".as_slice(), false),
-            (b"#include \"\"\n".as_slice(), false),
-            (b"#include \"..\"\n".as_slice(), false),
-            (b"# include \"a.h\"\n".as_slice(), false),
-            (b"#include \"a.h\" \n".as_slice(), false),
-            (b"int x = 1;\n".as_slice(), false),
-            (b"int x; \\\n".as_slice(), false),
-            (b"int x;\r\n".as_slice(), false),
-            (b"\tint x;\n".as_slice(), false),
-        ] {
-            assert_eq!(rt; is_plain(body), plain, "{body:?}");
-        }
-    }
-
-    #[test]
-    fn tells_simple_names(rt: HostRuntime) {
-        for (name, simple) in [
-            (b"a".as_slice(), true),
-            (b".a".as_slice(), true),
-            (b"...".as_slice(), true),
-            (b"a-b_C.9".as_slice(), true),
-            (b"".as_slice(), false),
-            (b".".as_slice(), false),
-            (b"..".as_slice(), false),
-            (b"-a".as_slice(), false),
-            (b"a b".as_slice(), false),
-            (b"a/b".as_slice(), false),
-        ] {
-            assert_eq!(rt; is_simple_name(name), simple, "{name:?}");
-        }
-        assert!(rt; is_simple_name([b'a'; 255].as_slice()));
-        assert!(rt; !is_simple_name([b'a'; 256].as_slice()));
-    }
 }

@@ -1,9 +1,15 @@
-use Rattle.std.proofs.Common.{◌∙◌, ap, List, ℕ, None}
+use Rattle.std.proofs.Common.{◌∙◌, ap, sym, List, [], ℕ, zero}
+use Rattle.pp_tokens.specs.Phases.{Cell}
+use Rattle.pp_tokens.specs.Lined.{lined}
+use Rattle.pp_tokens.specs.Lines.{elements, file_of, lexed}
 use Rattle.pp_tokens.specs.Seen.{seen_file}
-use Rattle.pp_tokens.proofs.LexSteps.{lexed_plain}
 use Rattle.pp_tokens.proofs.lexer.lex.Goals as goal
 
 pub returns : goal.returns
+unfolding lexed
 returns c =
-    ap (λ (text : List ℕ). seen_file text c.in_ok-places.places.items c.in_ok-places.ends.items None) c.in_ok-text.ensures.items
-    ∙ c.in_ok-places.ensures.lines ∙ lexed_plain c.args.trigraphs c.args.body.now c.requires.plain
+    let g = c.in_ok-places.field-0 in
+    ap (λ (text : List ℕ). seen_file text g.places.items g.ends.items g.unended) (sym c.deref.ensures.value)
+    ∙ c.in_ok-places.ensures.file
+    ∙ (λ i. file_of (elements zero [] (lined (c.deref-2.ensures.value i) 0 1 (c.deref.ensures.value i))))
+    ∙ ap (λ (cells : List Cell). file_of (elements zero [] cells)) c.in_ok-text.ensures.source

@@ -1,0 +1,115 @@
+-- What the lexer has gathered of a text so far, and the file that comes of it with what is left. No public contract rests on
+-- these.
+use Rattle.std.specs.Prelude.{◌≡◌, ℕ, Bool, true, false, cond, List, [], ◌∷◌, ◌++◌, map, length, drop, Option, Some, None, ◌==◌, ◌⊎◌}
+use Rattle.std.specs.List.{count_by}
+use Rattle.pp_tokens.specs.declared.token.Token.{Token}
+use Rattle.pp_tokens.specs.declared.token.Kind.TheVariants.{Header}
+use Rattle.pp_tokens.specs.Grammar.{is_header}
+use Rattle.pp_tokens.specs.declared.due.Before.{Before}
+use Rattle.pp_tokens.specs.declared.due.Before.TheVariants.{Nothing}
+use Rattle.pp_tokens.specs.declared.lexer.Place.{Place}
+use Rattle.pp_tokens.specs.declared.lexer.Gathering.{Gathering}
+use Rattle.pp_tokens.specs.Phases.{Cell, bytes}
+use Rattle.pp_tokens.specs.Lines.{Part, newline, white, comment, open_comment, token, Element, LexedFile, line_of, unended_line, or_else, part_of}
+use Rattle.pp_tokens.specs.Seen.{token_at, seen_lines, last_end, Ascends, EachWithin}
+use Rattle.pp_tokens.specs.Text.{after_word}
+
+-- how many newlines stand in a text
+abbrev pub newlines : List ℕ → ℕ
+newlines = count_by (λ b. b == 10)
+
+-- the text is this part as a whole, or a header name
+abbrev pub IsPart : Part → List ℕ → Type 0
+IsPart part text = (part_of text ≡ Some part) ⊎ ((part ≡ token Header) × (is_header text ≡ true))
+
+-- a part that may hold newlines
+abbrev pub is_long : Part → Bool
+is_long newline = true
+is_long white = false
+is_long comment = true
+is_long open_comment = true
+is_long (token k) = false
+
+-- The lines behind those that are finished: current has the tokens of the present line so far, begun tells
+-- whether anything stands on it yet, and space whether white space stands before the next token.
+unfoldable pub joined : Bool → List Token → Bool → List Element → List (List Token)
+joined begun current space [] = cond begun (current ∷ []) []
+joined begun current space (e ∷ es) =
+    elim e.part [
+      | newline ↦ current ∷ joined false [] true es
+      | token k ↦ joined true (current ++ (record { kind = k; text = bytes e.cells; line = line_of e.cells; space = space } ∷ [])) false es
+      | _ ↦ joined true current true es
+    ]
+
+-- the tokens so far of the line that isn't finished
+abbrev pub present_tokens : List ℕ → Gathering → List Token
+present_tokens text g = map (token_at text) (drop (last_end 0 g.ends.items) g.places.items)
+
+-- the file, where these elements are what is left of it
+abbrev pub file_with : List ℕ → Gathering → List Element → LexedFile
+file_with text g es = record {
+  lines = seen_lines text g.places.items 0 g.ends.items ++ joined g.begun (present_tokens text g) g.space es;
+  unended = or_else g.unended (unended_line es);
+}
+
+-- each place lies within the text, and each line ends at one of them
+pub record IsGathered (text : List ℕ) (g : Gathering) : Type 0 where
+  pub ascends : Ascends 0 g.ends.items (length g.places.items)
+  pub within : EachWithin text g.places.items
+
+-- nothing is gathered yet
+pub record GathersNothing (g : Gathering) : Type 0 where
+  pub places : g.places.items ≡ []
+  pub ends : g.ends.items ≡ []
+  pub unended : g.unended ≡ None
+  pub before : g.before ≡ Nothing
+  pub begun : g.begun ≡ false
+  pub space : g.space ≡ true
+
+-- the present line is finished
+pub record EndsLine (old new : Gathering) : Type 0 where
+  pub places : new.places.items ≡ old.places.items
+  pub ends : new.ends.items ≡ old.ends.items ++ (length old.places.items ∷ [])
+  pub unended : new.unended ≡ old.unended
+  pub before : new.before ≡ Nothing
+  pub begun : new.begun ≡ false
+  pub space : new.space ≡ true
+
+-- the present line is finished where anything stands on it
+pub record EndsLastLine (old new : Gathering) : Type 0 where
+  pub places : new.places.items ≡ old.places.items
+  pub ends : new.ends.items ≡ cond old.begun (old.ends.items ++ (length old.places.items ∷ [])) old.ends.items
+  pub unended : new.unended ≡ old.unended
+
+-- the present line has a token more, of this spelling
+pub record AddsToken (old new : Gathering) (place : Place) (spelling : List ℕ) : Type 0 where
+  pub places : new.places.items ≡ old.places.items ++ (place ∷ [])
+  pub ends : new.ends.items ≡ old.ends.items
+  pub unended : new.unended ≡ old.unended
+  pub before : new.before ≡ after_word old.before spelling
+  pub begun : new.begun ≡ true
+  pub space : new.space ≡ false
+
+-- the present line has white space or a comment more
+pub record AddsGap (old new : Gathering) (unended : Option ℕ) : Type 0 where
+  pub places : new.places.items ≡ old.places.items
+  pub ends : new.ends.items ≡ old.ends.items
+  pub first : new.unended ≡ or_else old.unended unended
+  pub before : new.before ≡ old.before
+  pub begun : new.begun ≡ true
+  pub space : new.space ≡ true
+
+-- what stands on the line behind one part more
+abbrev pub before_with : Part → Before → List ℕ → Before
+before_with newline before spelling = Nothing
+before_with white before spelling = before
+before_with comment before spelling = before
+before_with open_comment before spelling = before
+before_with (token k) before spelling = after_word before spelling
+
+-- one part more is gathered: whatever is left, it is the same file
+pub record Gathers (text : List ℕ) (old new : Gathering) (part : Part) (spelling : List ℕ) (line : ℕ) : Type 0 where
+  pub gathered : IsGathered text new
+  pub before : new.before ≡ before_with part old.before spelling
+  pub file : (cells : List Cell) (es : List Element) → bytes cells ≡ spelling → line_of cells ≡ line
+      → file_with text new es ≡ file_with text old (record { part = part; cells = cells } ∷ es)

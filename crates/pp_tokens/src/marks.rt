@@ -1,0 +1,140 @@
+// Numbers, punctuators and other bytes that stand first in a text (ISO C 6.4.6, 6.4.8).
+ghost use Rattle.std.specs.Prelude.{◌≡◌, ◌≤◌, ◌<◌, [], ◌∷◌, true, false, ◌&&◌, ◌||◌, ◌==◌, length, get_or};
+ghost use Rattle.pp_tokens.specs.Grammar.{is_digit, is_identifier_byte, is_identifier_start, is_white, is_newline, is_punctuator, continues_number, number_length};
+ghost use Rattle.pp_tokens.specs.Lines.{Part, first_part};
+ghost use Rattle.pp_tokens.specs.Text.{part_told, is_quote, begins_number, begins_comment, is_single, is_operator, takes_equals, is_doubled, is_mixed, is_pair, is_triple, is_quadruple};
+
+use crate::part::{What, is_digit, is_identifier_byte, is_text_mark};
+use crate::token::Kind;
+
+/// The byte at a place, 0 past the end of the text.
+pub fn byte_at(text: &[u8], at: usize) -> u8
+    ensures { result ≡ get_or text.now at 0 }
+{
+    if at < text.len() { text[at] } else { 0 }
+}
+
+// Whether a byte may stand in a number behind another.
+fn continues_number(last: u8, b: u8) -> bool
+    ensures { result ≡ continues_number last b }
+{
+    let exponent = last == b'e' || last == b'E' || last == b'p' || last == b'P';
+    is_identifier_byte(b) || b == b'.' || ((b == b'+' || b == b'-') && exponent)
+}
+
+// How many bytes at the front go on with a number, behind a byte of it.
+pub fn number_length(first: u8, bytes: &[u8]) -> usize
+    ensures run { result ≡ number_length first bytes.now }
+    ensures within { result ≤ length bytes.now }
+{
+    let mut last = first;
+    for (i, b) in bytes.iter().enumerate() {
+        if !continues_number(last, *b) {
+            return i;
+        }
+        last = *b;
+    }
+    bytes.len()
+}
+
+/// What begins with a digit, or with a `.` and a digit: a number.
+pub fn number_part(rest: &[u8]) -> (What, usize)
+    requires some { 0 < length rest.now }
+    requires number { begins_number (get_or rest.now 0 0) (get_or rest.now 1 0) ≡ true }
+    ensures { (part_told result.0, result.1) ≡ first_part false rest.now }
+{
+    let (_, behind) = rest.split_at(1);
+    (
+        What::Token(Kind::Number),
+        number_length(rest[0], behind) + 1,
+    )
+}
+
+// Whether a byte is a punctuator.
+fn is_single(a: u8) -> bool
+    ensures { result ≡ is_single a }
+{
+    is_text_mark(a) || is_operator(a) || a == b'.' || a == b'#'
+}
+
+fn is_operator(a: u8) -> bool
+    ensures { result ≡ is_operator a }
+{
+    takes_equals(a) || a == b'~' || a == b'?' || a == b':'
+}
+
+// Whether a byte is a punctuator, and one with `=` too.
+fn takes_equals(a: u8) -> bool
+    ensures { result ≡ takes_equals a }
+{
+    is_doubled(a) || a == b'*' || a == b'/' || a == b'%' || a == b'^' || a == b'!' || a == b'='
+}
+
+// Whether a byte is a punctuator, and one twice and with `=` too.
+fn is_doubled(a: u8) -> bool
+    ensures { result ≡ is_doubled a }
+{
+    a == b'<' || a == b'>' || a == b'&' || a == b'|' || a == b'+' || a == b'-'
+}
+
+// Whether two bytes are `->`, `##` or a digraph.
+fn is_mixed(a: u8, b: u8) -> bool
+    ensures { result ≡ is_mixed a b }
+{
+    (a == b'-' && b == b'>')
+        || (a == b'#' && b == b'#')
+        || (a == b'<' && (b == b':' || b == b'%'))
+        || (a == b'%' && (b == b':' || b == b'>'))
+        || (a == b':' && b == b'>')
+}
+
+// Whether two bytes are a punctuator.
+fn is_pair(a: u8, b: u8) -> bool
+    ensures { result ≡ is_pair a b }
+{
+    (b == b'=' && takes_equals(a)) || (b == a && is_doubled(a)) || is_mixed(a, b)
+}
+
+// Whether three bytes are a punctuator.
+fn is_triple(a: u8, b: u8, c: u8) -> bool
+    ensures { result ≡ is_triple a b c }
+{
+    (a == b'<' && b == b'<' && c == b'=')
+        || (a == b'>' && b == b'>' && c == b'=')
+        || (a == b'.' && b == b'.' && c == b'.')
+}
+
+// Whether four bytes are a punctuator.
+fn is_quadruple(a: u8, b: u8, c: u8, d: u8) -> bool
+    ensures { result ≡ is_quadruple a b c d }
+{
+    a == b'%' && b == b':' && c == b'%' && d == b':'
+}
+
+/// What begins with a byte that is no white space and no newline, and begins no identifier, literal, number or
+/// comment: the longest punctuator, or the byte alone.
+pub fn mark_part(rest: &[u8]) -> (What, usize)
+    requires some { 0 < length rest.now }
+    requires white { is_white (get_or rest.now 0 0) ≡ false }
+    requires newline { is_newline (get_or rest.now 0 0) ≡ false }
+    requires word { is_identifier_start (get_or rest.now 0 0) ≡ false }
+    requires quote { is_quote (get_or rest.now 0 0) ≡ false }
+    requires number { begins_number (get_or rest.now 0 0) (get_or rest.now 1 0) ≡ false }
+    requires comment { begins_comment (get_or rest.now 0 0) (get_or rest.now 1 0) ≡ false }
+    ensures { (part_told result.0, result.1) ≡ first_part false rest.now }
+{
+    let a = rest[0];
+    let b = byte_at(rest, 1);
+    let c = byte_at(rest, 2);
+    if is_quadruple(a, b, c, byte_at(rest, 3)) {
+        (What::Token(Kind::Punct), 4)
+    } else if is_triple(a, b, c) {
+        (What::Token(Kind::Punct), 3)
+    } else if is_pair(a, b) {
+        (What::Token(Kind::Punct), 2)
+    } else if is_single(a) {
+        (What::Token(Kind::Punct), 1)
+    } else {
+        (What::Token(Kind::Other), 1)
+    }
+}

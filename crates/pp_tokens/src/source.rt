@@ -1,0 +1,171 @@
+// Translation phases 1 and 2 (ISO C 5.1.1.2): newlines, trigraphs and spliced lines.
+ghost use Rattle.std.specs.Prelude.{◌≡◌, ℕ, ◌+◌, ◌≤◌, ◌<◌, ◌∷◌, ◌++◌, [], length, take, not, true, IfOk, IsSome};
+ghost use Rattle.std.specs.List.{list_all};
+ghost use Rattle.memchr.specs.Find.{IsFirstByte};
+ghost use Rattle.pp_tokens.specs.Lined.{lined, Rising};
+ghost use Rattle.pp_tokens.specs.Phases.{ended, trigraph, source_text};
+ghost use Rattle.pp_tokens.specs.Pieces.{newline_length, front_trigraph, front_character, is_kept, IsFront};
+
+use memchr::{memchr2, memchr3};
+use std::alloc::{AllocError, Global};
+
+/// A body after phases 1 and 2: its bytes, and the places of its splices in rising order. A splice is kept as the offset in
+/// the text at which the next byte stands.
+#[derive(Drop)]
+pub struct SourceText {
+    pub text: Vec<u8>,
+    pub splices: Vec<u32>,
+}
+
+// What stands at the front of what is left of a body.
+#[derive(Clone, Copy, Drop)]
+enum Piece {
+    // A byte of the text.
+    Byte(u8),
+    // A backslash and the newline behind it.
+    Splice,
+}
+
+// A body up to the newline that ends it, which needn't stand there.
+fn without_last_newline(body: &[u8]) -> &[u8]
+    requires { 0 < length body.now }
+    ensures ended { ended body.now ≡ result.now ++ (10 ∷ []) }
+    ensures within { length result.now ≤ length body.now }
+{
+    let (front, last) = body.split_at(body.len() - 1);
+    if last[0] == b'\n' { front } else { body }
+}
+
+// Where the next byte stands that may be other than a byte of the text.
+fn find_special(rest: &[u8], trigraphs: bool) -> Option<usize>
+    ensures { IsFirstByte (λ b. not (is_kept trigraphs b)) rest.now result }
+{
+    if trigraphs {
+        memchr3(b'\r', b'\\', b'?', rest)
+    } else {
+        memchr2(b'\r', b'\\', rest)
+    }
+}
+
+// How many bytes at the front are sure to be bytes of the text.
+fn run_length(rest: &[u8], trigraphs: bool) -> usize
+    ensures within { result ≤ length rest.now }
+    ensures kept { list_all (is_kept trigraphs) (take result rest.now) ≡ true }
+{
+    match find_special(rest, trigraphs) {
+        Some(length) => length,
+        None => rest.len(),
+    }
+}
+
+// How many bytes the newline at the front has. The one that ends the body stands behind the rest.
+#[tactic(auto, using(crate::proofs::NewlineLengths::newline_at))]
+fn newline_length(rest: &[u8]) -> usize
+    ensures value { result ≡ newline_length (rest.now ++ (10 ∷ [])) }
+    ensures within { result ≤ length rest.now + 1 }
+{
+    if rest.is_empty() || rest[0] == b'\n' {
+        1
+    } else if rest[0] == b'\r' && (rest.len() == 1 || rest[1] == b'\n') {
+        2
+    } else {
+        0
+    }
+}
+
+// What `??` and this byte stand for.
+fn trigraph(third: u8) -> Option<u8>
+    ensures { result ≡ trigraph third }
+{
+    match third {
+        b'=' => Some(b'#'),
+        b'(' => Some(b'['),
+        b'/' => Some(b'\\'),
+        b')' => Some(b']'),
+        b'\'' => Some(b'^'),
+        b'<' => Some(b'{'),
+        b'!' => Some(b'|'),
+        b'>' => Some(b'}'),
+        b'-' => Some(b'~'),
+        _ => None,
+    }
+}
+
+// What the trigraph at the front stands for.
+fn front_trigraph(rest: &[u8]) -> Option<u8>
+    ensures value { result ≡ front_trigraph rest.now }
+    ensures within { IsSome result → 3 ≤ length rest.now }
+{
+    if rest.len() < 3 || rest[0] != b'?' || rest[1] != b'?' {
+        return None;
+    }
+    trigraph(rest[2])
+}
+
+// The character at the front, where no newline stands, and how many bytes it has.
+fn front_character(rest: &[u8], trigraphs: bool) -> (u8, usize)
+    requires { 0 < length rest.now }
+    ensures value { result ≡ front_character trigraphs rest.now }
+    ensures moves { 0 < result.1 }
+    ensures within { result.1 ≤ length rest.now }
+{
+    if trigraphs {
+        if let Some(character) = front_trigraph(rest) {
+            return (character, 3);
+        }
+    }
+    (rest[0], 1)
+}
+
+// What stands at the front, and how many bytes it has. The newline that ends the body stands behind the rest.
+fn front_piece(rest: &[u8], trigraphs: bool) -> (Piece, usize)
+    ensures front { (line : ℕ) → IsFront trigraphs line (rest.now ++ (10 ∷ [])) result.0 result.1 }
+    ensures moves { 0 < result.1 }
+    ensures within { result.1 ≤ length rest.now + 1 }
+{
+    let newline = newline_length(rest);
+    if newline > 0 {
+        return (Piece::Byte(b'\n'), newline);
+    }
+    let (character, length) = front_character(rest, trigraphs);
+    let (_, behind) = rest.split_at(length);
+    let next = newline_length(behind);
+    if character == b'\\' && next > 0 {
+        return (Piece::Splice, length + next);
+    }
+    (Piece::Byte(character), length)
+}
+
+/// Reads a body of at most 16 MiB, with trigraphs replaced where that is asked for. A missing last newline is added. Time is
+/// linear in the body; the only error is want of memory.
+pub fn read_source(alloc: Global, body: &[u8], trigraphs: bool) -> Result<SourceText, AllocError>
+    requires { length body.now ≤ 16777216 }
+    ensures source { IfOk result (λ s. lined s.splices.items 0 1 s.text.items ≡ source_text trigraphs body.now) }
+    ensures rising { IfOk result (λ s. Rising 0 s.splices.items) }
+    ensures small { IfOk result (λ s. length s.text.items + length s.splices.items ≤ 16777217) }
+{
+    let mut splices = Vec::new(alloc);
+    if body.is_empty() {
+        return Ok(SourceText {
+            text: Vec::new(alloc),
+            splices,
+        });
+    }
+    let mut text = Vec::with_capacity(alloc, body.len() + 1)?;
+    let lines = without_last_newline(body);
+    let mut at = 0usize;
+    // The newline that ends the body stands behind the lines, where the last turn reads it.
+    while at <= lines.len() {
+        let (_, rest) = lines.split_at(at);
+        let run = run_length(rest, trigraphs);
+        let (kept, behind) = rest.split_at(run);
+        text.extend_from_slice(kept)?;
+        let (piece, length) = front_piece(behind, trigraphs);
+        match piece {
+            Piece::Byte(byte) => text.push(byte)?,
+            Piece::Splice => splices.push(text.len() as u32)?,
+        }
+        at += run + length;
+    }
+    Ok(SourceText { text, splices })
+}
