@@ -1,0 +1,7 @@
+mod Lines
+mod Steps
+mod Outlines
+mod OneOutline
+mod OpenFronts
+mod StackSteps
+mod Whole

@@ -1,0 +1,5 @@
+use Rattle.directive_scan.proofs.OneOutline.{only_outline}
+use Rattle.directive_scan.proofs.law.one_outline.Goals as goal
+
+pub returns : goal.returns
+returns c = only_outline

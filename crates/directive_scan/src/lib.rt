@@ -1,0 +1,14 @@
+//! The directives of a file (ISO C 6.10), and how its conditionals nest.
+#![tactic(auto)]
+
+mod conditional;
+mod directive;
+mod law;
+mod outline;
+mod scanner;
+
+pub use conditional::{BranchName, Malformed};
+pub use directive::{Directive, HeaderName, Piece, Target};
+pub use law::{nesting_told, one_outline, outline_holds};
+pub use outline::malformed;
+pub use scanner::scan;

@@ -1,0 +1,252 @@
+// The pieces of a lexed file.
+ghost use Rattle.std.specs.Prelude as seen;
+ghost use Rattle.std.specs.Prelude.{◌≡◌, ◌++◌, ◌-◌, ◌∷◌, [], length, take, drop, unwrap_or, slice_get, IfOk, OnOk};
+ghost use Rattle.directive_scan.specs.Directives.{header_name, target_of, pragma_of, directive_named, directive_of, onto_run, line_before, pieces};
+ghost use Rattle.directive_scan.specs.Gathered.{line_at, hash_of, joined};
+
+use crate::directive::{Directive, HeaderName, Piece, Target};
+use base_types::{Bytes, List};
+use pp_tokens::{Kind, Lexed, Token};
+use std::alloc::{AllocError, Global};
+
+// The pieces of the lines so far: those that are at an end, and the run of the last lines, where these are text.
+#[derive(Drop)]
+struct Gathered {
+    ended: List<Piece>,
+    run: Option<List<Token>>,
+}
+
+/// The pieces of a lexed file: its directives, and the runs of text lines between them (ISO C 6.10). Time is linear in
+/// the tokens and lines; the only error is want of memory.
+pub fn scan(alloc: Global, lexed: &Lexed) -> Result<List<Piece>, AllocError>
+    ensures { IfOk result (λ ps. ps ≡ pieces lexed.now.lines) }
+{
+    let mut gathered = Gathered {
+        ended: List::new(alloc),
+        run: None,
+    };
+    for line in 0..lexed.line_count() {
+        gathered = with_line(alloc, lexed, line, gathered)?;
+    }
+    all_ended(gathered)
+}
+
+// What is gathered with one more line.
+fn with_line(
+    alloc: Global,
+    lexed: &Lexed,
+    line: usize,
+    gathered: Gathered,
+) -> Result<Gathered, AllocError>
+    ensures { IfOk result (λ g. (others : seen.List Piece) → joined g.ended g.run others ≡ joined gathered.ended gathered.run (line_before (line_at lexed.now line) others)) }
+{
+    match hash_at(lexed, line) {
+        Some(at) => with_directive(alloc, lexed, line, at, gathered),
+        None => with_text(alloc, lexed, line, gathered),
+    }
+}
+
+// The physical line of the `#` that begins a line; None where the line is text.
+#[tactic(auto, unfolding(crate::specs::Gathered::hash_of))]
+fn hash_at(lexed: &Lexed, line: usize) -> Option<u32>
+    ensures { result ≡ hash_of (line_at lexed.now line) }
+{
+    let first = lexed.token(line, 0)?;
+    if first.text == b"#".as_slice() || first.text == b"%:".as_slice() {
+        Some(first.line)
+    } else {
+        None
+    }
+}
+
+// A directive ends the run.
+fn with_directive(
+    alloc: Global,
+    lexed: &Lexed,
+    line: usize,
+    at: u32,
+    gathered: Gathered,
+) -> Result<Gathered, AllocError>
+    ensures { IfOk result (λ g. (others : seen.List Piece) → joined g.ended g.run others ≡ joined gathered.ended gathered.run (Piece.Line at (directive_of (drop 1 (line_at lexed.now line))) ∷ others)) }
+{
+    let what = directive_at(alloc, lexed, line)?;
+    let mut ended = all_ended(gathered)?;
+    ended.push(Piece::Line { at, what })?;
+    Ok(Gathered { ended, run: None })
+}
+
+// A line of text goes on with the run, or begins one.
+fn with_text(
+    alloc: Global,
+    lexed: &Lexed,
+    line: usize,
+    gathered: Gathered,
+) -> Result<Gathered, AllocError>
+    ensures { IfOk result (λ g. (others : seen.List Piece) → joined g.ended g.run others ≡ joined gathered.ended gathered.run (onto_run (line_at lexed.now line) others)) }
+{
+    let Gathered { ended, run } = gathered;
+    let mut tokens = match run {
+        Some(run) => run.into_vec(),
+        None => Vec::new(alloc),
+    };
+    add_tokens(alloc, lexed, line, 0, &mut tokens)?;
+    Ok(Gathered {
+        ended,
+        run: Some(List::of(tokens)),
+    })
+}
+
+// The pieces, with the run at an end.
+fn all_ended(gathered: Gathered) -> Result<List<Piece>, AllocError>
+    ensures { IfOk result (λ ps. ps ≡ joined gathered.ended gathered.run []) }
+{
+    let Gathered { mut ended, run } = gathered;
+    match run {
+        Some(tokens) => {
+            ended.push(Piece::Run { tokens })?;
+            Ok(ended)
+        }
+        None => Ok(ended),
+    }
+}
+
+// The directive on a line, by its tokens behind the `#`.
+#[tactic(auto, unfolding(crate::specs::Directives::directive_of))]
+fn directive_at(alloc: Global, lexed: &Lexed, line: usize) -> Result<Directive, AllocError>
+    ensures { IfOk result (λ what. what ≡ directive_of (drop 1 (line_at lexed.now line))) }
+{
+    match lexed.token(line, 1) {
+        Some(name) => named_at(alloc, lexed, line, name.text),
+        None => Ok(Directive::Null),
+    }
+}
+
+// The directive on a line, by its name.
+#[tactic(auto, unfolding(crate::specs::Directives::directive_named))]
+fn named_at(alloc: Global, lexed: &Lexed, line: usize, name: &[u8]) -> Result<Directive, AllocError>
+    ensures { IfOk result (λ what. what ≡ directive_named name.now (drop 2 (line_at lexed.now line))) }
+{
+    if name == b"include".as_slice() {
+        Ok(Directive::Include(target_at(alloc, lexed, line)?))
+    } else if name == b"include_next".as_slice() {
+        Ok(Directive::Next(target_at(alloc, lexed, line)?))
+    } else if name == b"define".as_slice() {
+        Ok(Directive::Define(behind_name(alloc, lexed, line)?))
+    } else if name == b"undef".as_slice() {
+        Ok(Directive::Undef(behind_name(alloc, lexed, line)?))
+    } else if name == b"if".as_slice() {
+        Ok(Directive::If(behind_name(alloc, lexed, line)?))
+    } else if name == b"ifdef".as_slice() {
+        Ok(Directive::Ifdef(behind_name(alloc, lexed, line)?))
+    } else if name == b"ifndef".as_slice() {
+        Ok(Directive::Ifndef(behind_name(alloc, lexed, line)?))
+    } else if name == b"elif".as_slice() {
+        Ok(Directive::Elif(behind_name(alloc, lexed, line)?))
+    } else if name == b"else".as_slice() {
+        Ok(Directive::Else)
+    } else if name == b"endif".as_slice() {
+        Ok(Directive::Endif)
+    } else if name == b"line".as_slice() {
+        Ok(Directive::Line(behind_name(alloc, lexed, line)?))
+    } else if name == b"error".as_slice() {
+        Ok(Directive::Error(behind_name(alloc, lexed, line)?))
+    } else if name == b"warning".as_slice() {
+        Ok(Directive::Warning)
+    } else if name == b"pragma".as_slice() {
+        pragma_at(alloc, lexed, line)
+    } else {
+        Ok(Directive::Unknown)
+    }
+}
+
+// What an include names.
+#[tactic(auto, unfolding(crate::specs::Directives::target_of))]
+fn target_at(alloc: Global, lexed: &Lexed, line: usize) -> Result<Target, AllocError>
+    ensures { IfOk result (λ target. target ≡ target_of (drop 2 (line_at lexed.now line))) }
+{
+    match lexed.token(line, 2) {
+        Some(first) => {
+            if first.kind == Kind::Header {
+                return Ok(Target::Plain(header_name(alloc, first.text)?));
+            }
+            Ok(Target::Computed(behind_name(alloc, lexed, line)?))
+        }
+        None => Ok(Target::Computed(List::new(alloc))),
+    }
+}
+
+// The header name that a spelling is.
+fn header_name(alloc: Global, text: &[u8]) -> Result<HeaderName, AllocError>
+    ensures { IfOk result (λ header. header ≡ header_name text.now) }
+{
+    let name = Bytes::copy_of(alloc, between(text))?;
+    Ok(HeaderName {
+        angle: text.starts_with(b"<"),
+        name,
+    })
+}
+
+// What stands between the first byte and the last one.
+fn between(text: &[u8]) -> &[u8]
+    ensures { result.now ≡ take (length text.now - 2) (drop 1 text.now) }
+{
+    match text {
+        [_, name @ .., _] => name,
+        _ => &[],
+    }
+}
+
+// A pragma.
+#[tactic(auto, unfolding(crate::specs::Directives::pragma_of))]
+fn pragma_at(alloc: Global, lexed: &Lexed, line: usize) -> Result<Directive, AllocError>
+    ensures { IfOk result (λ what. what ≡ pragma_of (drop 2 (line_at lexed.now line))) }
+{
+    match lexed.token(line, 2) {
+        Some(first) => {
+            if first.text == b"once".as_slice() {
+                return Ok(Directive::Once);
+            }
+            Ok(Directive::Pragma(behind_name(alloc, lexed, line)?))
+        }
+        None => Ok(Directive::Pragma(List::new(alloc))),
+    }
+}
+
+// The tokens of a line behind its `#` and the directive's name.
+fn behind_name(alloc: Global, lexed: &Lexed, line: usize) -> Result<List<Token>, AllocError>
+    ensures { IfOk result (λ ts. ts ≡ drop 2 (line_at lexed.now line)) }
+{
+    Ok(List::of(tokens_from(alloc, lexed, line, 2)?))
+}
+
+// The tokens of a line from a place on.
+fn tokens_from(
+    alloc: Global,
+    lexed: &Lexed,
+    line: usize,
+    place: usize,
+) -> Result<Vec<Token>, AllocError>
+    ensures { IfOk result (λ ts. ts.items ≡ drop place (unwrap_or (slice_get lexed.now.lines line) [])) }
+{
+    let mut tokens = Vec::new(alloc);
+    add_tokens(alloc, lexed, line, place, &mut tokens)?;
+    Ok(tokens)
+}
+
+// Adds the tokens of a line from a place on.
+fn add_tokens(
+    alloc: Global,
+    lexed: &Lexed,
+    line: usize,
+    place: usize,
+    tokens: &mut Vec<Token>,
+) -> Result<(), AllocError>
+    ensures { OnOk result (tokens.new.items ≡ tokens.old.items ++ drop place (line_at lexed.now line)) }
+{
+    for at in place..lexed.token_count(line) {
+        if let Some(token) = lexed.token(line, at) {
+            tokens.push(token.to_token(alloc)?)?;
+        }
+    }
+    Ok(())
+}
