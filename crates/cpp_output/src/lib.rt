@@ -5,8 +5,6 @@
 mod last;
 mod law;
 mod layout;
-#[cfg(test)]
-mod tests;
 mod text;
 
 pub use last::Last;
