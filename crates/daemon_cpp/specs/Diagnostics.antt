@@ -1,16 +1,27 @@
 -- Diagnostics: `PLACE:LINE: error: WORDS`, in the form of GCC's.
-use Rattle.std.specs.Prelude.{ℕ, [], ◌∷◌, ◌++◌, take, if◌then◌else◌, ◌==◌, codes}
+use Rattle.std.specs.Prelude.{ℕ, List, [], ◌∷◌, ◌++◌, take, if◌then◌else◌, ◌==◌, codes}
 use Rattle.std.specs.List.{flat_map}
 use Rattle.std.specs.Fmt.{decimal}
+use Rattle.pp_tokens.specs.declared.Token.{Token}
 use Rattle.tree_model.specs.Paths.{Text}
+use Rattle.directive_scan.specs.declared.BranchName.{BranchName}
+use Rattle.directive_scan.specs.declared.BranchName.TheVariants.{Elif, Else, Endif}
 
 -- what is wrong
 pub data Complaint : Type 0 where
   NoSource : Complaint
+  TooLarge : Complaint
+  OpenComment : Complaint
+  WithoutIf : BranchName → Complaint
+  AfterElse : BranchName → Complaint
+  Unended : Complaint
   NotFound : Text → Complaint
   TooNested : Complaint
-  NotBuilt : Complaint
+  ErrorLine : List Token → Complaint
+  UnknownDirective : Complaint
+  WorkLimit : Complaint
   TextLimit : Complaint
+  NotBuilt : Complaint
 
 -- what is wrong, and where: a place and a physical line, 0 where it is the file as a whole
 pub record Diagnostic : Type 0 where
@@ -25,12 +36,30 @@ shown_byte b = if b == 92 then codes "\\\\" else (if b == 34 then codes "\\\"" e
 unfoldable pub shown : Text → Text
 shown text = flat_map shown_byte text
 
+-- the name of a directive that goes on with a conditional or ends it (6.10.1)
+abbrev pub branch_name : BranchName → Text
+branch_name Elif = codes "elif"
+branch_name Else = codes "else"
+branch_name Endif = codes "endif"
+
+-- a token of an error directive, with a space in front where white space stands before it
+abbrev pub error_token : Token → Text
+error_token t = (if t.space then 32 ∷ [] else []) ++ shown t.text
+
 abbrev pub words_of : Complaint → Text
 words_of NoSource = codes "cannot find source"
+words_of TooLarge = codes "file too large"
+words_of OpenComment = codes "unterminated comment"
+words_of (WithoutIf name) = codes "#" ++ (branch_name name ++ codes " without #if")
+words_of (AfterElse name) = codes "#" ++ (branch_name name ++ codes " after #else")
+words_of Unended = codes "unterminated conditional"
 words_of (NotFound name) = codes "cannot find \"" ++ (shown name ++ codes "\"")
 words_of TooNested = codes "includes nested more than 200 deep"
-words_of NotBuilt = codes "not built"
+words_of (ErrorLine tokens) = codes "#error" ++ flat_map error_token tokens
+words_of UnknownDirective = codes "unknown directive"
+words_of WorkLimit = codes "work limit"
 words_of TextLimit = codes "text limit"
+words_of NotBuilt = codes "not built"
 
 -- the text of a diagnostic, cut to 65,536 bytes
 unfoldable pub diagnostic_text : Diagnostic → Text

@@ -1,13 +1,13 @@
 -- Preprocessing a job over a tree of files.
 --     Diagnostics    the words of diagnostics
 --     Problems       the problems of the code, as complaints
---     Simple         the files that are built so far, and the pieces of a file
---     Prep           preprocessing, as a recursion on a file's pieces and the depth left
---     Lines          the lines of a file that is built so far
---     Course         preprocessing line by line, by what the outcome depends on
+--     Prep           preprocessing, as a recursion on the groups of a file and the depth left
+--     Reading        what is left to do where files are read: the code's stack of includes
+--     Moving         how the output stands behind a piece
+--     Files          the files that are read, as the code keeps them
 pub mod Diagnostics
 pub mod Problems
-pub mod Simple
 pub mod Prep
-pub mod Lines
-pub mod Course
+pub mod Reading
+pub mod Moving
+pub mod Files

@@ -1,5 +1,5 @@
 // Preprocessing a job.
-ghost use Rattle.std.specs.Prelude.{◌≡◌, ◌≤◌, length, map, None, IfOk, IfSome, OnOk, IsErrOf};
+ghost use Rattle.std.specs.Prelude.{◌≡◌, ◌<◌, ◌≤◌, ◌+◌, ◌++◌, suc, pos, List, [], ◌∷◌, length, IfOk, IfSome, OnOk, IsErrOf};
 ghost use Rattle.std.specs.Option.{ForSome};
 ghost use Rattle.base_types.specs.Causes.{HasCause};
 ghost use Rattle.cpp_output.specs.Layout.{text_limit};
@@ -7,26 +7,32 @@ ghost use Rattle.cpp_output.specs.Laid.{finished};
 ghost use Rattle.tree_model.specs.Paths.{spelled};
 ghost use Rattle.daemon_cpp.specs.Diagnostics.{TextLimit, diagnostic_text};
 ghost use Rattle.daemon_cpp.specs.Problems.{complaint_of};
-ghost use Rattle.daemon_cpp.specs.Simple.{Include, piece_of};
-ghost use Rattle.daemon_cpp.specs.Prep as prep;
-ghost use Rattle.daemon_cpp.specs.Prep.{world_of, outcome_of_text, outcome_over, OutcomeFits};
-ghost use Rattle.daemon_cpp.specs.Lines.{line_at};
-ghost use Rattle.daemon_cpp.specs.Course.{LimitKept, course_of, at_source, file_course, piece_course, pieces_course, body_course, outcome_at, source_outcome};
+ghost use Rattle.daemon_cpp.specs.declared.outcome.Outcome.{Outcome};
+ghost use Rattle.daemon_cpp.specs.Prep.{World, world_of, outcome_of_text, outcome_over, OutcomeFits};
+ghost use Rattle.daemon_cpp.specs.Files.{LeadsTo, EntersTo, GoesOn, work_ahead, Advances, opened_outcome, source_outcome};
 
 use crate::diagnostic::{Diagnostic, Problem, shown};
-use crate::laying::{put_included, put_line};
-use crate::simple::{flat, include_at};
-use crate::tree::{cause_of, read_lines};
+use crate::opening::{Opened, open_file};
+use crate::pieces::{Move, Places, run_piece};
+use crate::tree::{absolute, cause_of};
 use crate::{CppError, Outcome};
+use base_types::List;
 use cpp_output::{LayError, Layout};
+use directive_scan::Piece;
 use job_words::Job;
-use pp_tokens::Lexed;
 use std::alloc::{AllocError, Global};
+use std::mem::replace;
 use tree_model::{CanonPath, Located, Tree, locate};
+
+// How many levels of includes there may be.
+const DEPTH_LIMIT: usize = 200;
+
+// The work that a job may take, in units.
+const WORK_LIMIT: u32 = 20_000_000;
 
 /// Preprocesses a job over a tree: translation phases 1 to 4 (ISO C 5.1.1.2) of its source, found by the working
 /// directory and the source's name, and of the files that it includes (6.10.2). Time is linear in the bytes of the
-/// files read.
+/// files read, each counted as often as it is included. Includes take no more of the program's stack, however deep.
 ///
 /// `Fault` comes where the tree failed, `Memory` where no memory was found; all else is an `Outcome`.
 pub fn preprocess<T: Tree>(alloc: Global, tree: &mut T, job: &Job) -> Result<Outcome, CppError>
@@ -38,23 +44,10 @@ pub fn preprocess<T: Tree>(alloc: Global, tree: &mut T, job: &Job) -> Result<Out
     let text = absolute(alloc, job.cwd.as_slice(), job.source.as_slice())?;
     let root = CanonPath::root(alloc)?;
     match locate(alloc, tree, &root, &text) {
-        Ok(Some(source)) => preprocess_source(alloc, tree, &source),
+        Ok(Some(source)) => preprocess_source(alloc, tree, source),
         Ok(None) => Ok(refused(alloc, &text, Problem::NoSource)?),
         Err(error) => Err(cause_of(error)),
     }
-}
-
-/// A text below the working directory, or itself where it begins with `/`.
-pub fn absolute(alloc: Global, cwd: &[u8], text: &[u8]) -> Result<Vec<u8>, AllocError>
-    ensures { IfOk result (λ whole. whole.items ≡ prep.absolute cwd.now text.now) }
-{
-    if text.first() == Some(&b'/') {
-        return text.to_vec(alloc);
-    }
-    let mut whole = cwd.to_vec(alloc)?;
-    whole.push(b'/')?;
-    whole.extend_from_slice(text)?;
-    Ok(whole)
 }
 
 // A file as a whole is the diagnostic.
@@ -63,24 +56,6 @@ fn refused(alloc: Global, place: &[u8], problem: Problem<'_>) -> Result<Outcome,
     ensures fits { IfOk result OutcomeFits }
 {
     Ok(Outcome::Diag(Diagnostic::new(alloc, place, 0, problem)?.into_bytes()))
-}
-
-// A source that was found.
-fn preprocess_source<T: Tree>(
-    alloc: Global,
-    tree: &mut T,
-    source: &Located,
-) -> Result<Outcome, CppError>
-    ensures same { T.told tree.new ≡ T.told tree.old }
-    ensures outcome { ForSome (T.told tree.old) (λ told. IfOk result (λ outcome. outcome ≡ source_outcome (world_of told) source.now)) }
-    ensures fits { IfOk result OutcomeFits }
-    ensures cause { HasCause CppError.Fault (T.faults tree.old) (T.faults tree.new) result }
-{
-    let name = shown(alloc, source.place.bytes())?;
-    match Layout::begin(alloc, &name) {
-        Ok(layout) => preprocess_body(alloc, tree, source, layout),
-        Err(error) => past_limit(alloc, error, &source.place),
-    }
 }
 
 // What stops an output: the limit, as a diagnostic at the source as a whole, or want of memory.
@@ -95,26 +70,52 @@ fn past_limit(alloc: Global, error: LayError, source: &CanonPath) -> Result<Outc
     }
 }
 
-// The lines of a source behind its first marker.
-fn preprocess_body<T: Tree>(
+// A source that was found.
+fn preprocess_source<T: Tree>(
     alloc: Global,
     tree: &mut T,
-    source: &Located,
+    source: Located,
+) -> Result<Outcome, CppError>
+    ensures same { T.told tree.new ≡ T.told tree.old }
+    ensures outcome { ForSome (T.told tree.old) (λ told. IfOk result (λ outcome. outcome ≡ source_outcome (world_of told) source)) }
+    ensures fits { IfOk result OutcomeFits }
+    ensures cause { HasCause CppError.Fault (T.faults tree.old) (T.faults tree.new) result }
+{
+    let name = shown(alloc, source.place.bytes())?;
+    match Layout::begin(alloc, &name) {
+        Ok(layout) => read_source(alloc, tree, source, layout),
+        Err(error) => past_limit(alloc, error, &source.place),
+    }
+}
+
+// A source behind its first marker.
+fn read_source<T: Tree>(
+    alloc: Global,
+    tree: &mut T,
+    source: Located,
     mut layout: Layout,
 ) -> Result<Outcome, CppError>
     requires { length layout.text ≤ text_limit }
     ensures same { T.told tree.new ≡ T.told tree.old }
-    ensures outcome { ForSome (T.told tree.old) (λ told. IfOk result (λ outcome. outcome ≡ outcome_at (body_course (world_of told) source.now (at_source source.now layout)))) }
+    ensures outcome { ForSome (T.told tree.old) (λ told. IfOk result (λ outcome. outcome ≡ opened_outcome (world_of told) source layout)) }
     ensures fits { IfOk result OutcomeFits }
     ensures cause { HasCause CppError.Fault (T.faults tree.old) (T.faults tree.new) result }
 {
-    let Some(file) = read_lines(alloc, tree, &source.real)? else {
-        return Ok(refused(alloc, source.place.bytes(), Problem::NotBuilt)?);
-    };
-    if let Some(diagnostic) = run_lines(alloc, tree, &mut layout, source, &file)? {
-        return Ok(Outcome::Diag(diagnostic.into_bytes()));
+    let mut left = WORK_LIMIT;
+    let place = source.place.copy(alloc)?;
+    match open_file(alloc, tree, &mut layout, &mut left, &place, &source, false)? {
+        Opened::Refused(diagnostic) => Ok(Outcome::Diag(diagnostic.into_bytes())),
+        Opened::Pieces(pieces) => {
+            let reader = Reader {
+                source: place,
+                layout,
+                left,
+                file: OpenFile::new(source, pieces),
+                around: Vec::new(alloc),
+            };
+            reader.read(alloc, tree)
+        }
     }
-    finish(alloc, layout, &source.place)
 }
 
 fn finish(alloc: Global, layout: Layout, source: &CanonPath) -> Result<Outcome, CppError>
@@ -128,115 +129,167 @@ fn finish(alloc: Global, layout: Layout, source: &CanonPath) -> Result<Outcome, 
     }
 }
 
-// Goes on line by line until a diagnostic.
-fn run_lines<T: Tree>(
-    alloc: Global,
-    tree: &mut T,
-    layout: &mut Layout,
-    source: &Located,
-    file: &Lexed,
-) -> Result<Option<Diagnostic>, CppError>
-    requires { length layout.old.text ≤ text_limit }
-    ensures same { T.told tree.new ≡ T.told tree.old }
-    ensures course { ForSome (T.told tree.old) (λ told. IfOk result (λ ended. course_of ended (at_source source.now layout.new) ≡ pieces_course (world_of told) (map piece_of file.now.lines) (at_source source.now layout.old))) }
-    ensures cause { HasCause CppError.Fault (T.faults tree.old) (T.faults tree.new) result }
-{
-    for line in 0..file.line_count() {
-        if let Some(diagnostic) = run_line(alloc, tree, layout, source, file, line)? {
-            return Ok(Some(diagnostic));
-        }
-    }
-    Ok(None)
+// A file that was opened, with the number of the piece that comes next.
+#[derive(Drop)]
+struct OpenFile {
+    located: Located,
+    pieces: List<Piece>,
+    next: usize,
 }
 
-// A line of the source: text, or an include.
-fn run_line<T: Tree>(
-    alloc: Global,
-    tree: &mut T,
-    layout: &mut Layout,
-    source: &Located,
-    file: &Lexed,
-    line: usize,
-) -> Result<Option<Diagnostic>, CppError>
-    requires { length layout.old.text ≤ text_limit }
-    ensures same { T.told tree.new ≡ T.told tree.old }
-    ensures course { ForSome (T.told tree.old) (λ told. IfOk result (λ ended. course_of ended (at_source source.now layout.new) ≡ piece_course (world_of told) (piece_of (line_at file.now line)) (at_source source.now layout.old))) }
-    ensures within { IfOk result (λ ended. ended ≡ None → length layout.new.text ≤ text_limit) }
-    ensures cause { HasCause CppError.Fault (T.faults tree.old) (T.faults tree.new) result }
-{
-    match include_at(file, line) {
-        Some(found) => include(alloc, tree, layout, source, found.at, found.name),
-        None => {
-            let laid = put_line(layout, file, line);
-            limited(alloc, laid, &source.place)
+impl OpenFile {
+    fn new(located: Located, pieces: List<Piece>) -> OpenFile
+        ensures { result ≡ record { located = located; pieces = pieces; next = 0 } }
+    {
+        OpenFile {
+            located,
+            pieces,
+            next: 0,
         }
     }
 }
 
-// An include of a quoted name on a line of the source (ISO C 6.10.2).
-fn include<T: Tree>(
-    alloc: Global,
-    tree: &mut T,
-    layout: &mut Layout,
-    source: &Located,
+// A file that was left at an include on a line.
+#[derive(Drop)]
+struct Left {
+    file: OpenFile,
     at: u32,
-    name: &[u8],
-) -> Result<Option<Diagnostic>, CppError>
-    ensures same { T.told tree.new ≡ T.told tree.old }
-    ensures course { ForSome (T.told tree.old) (λ told. IfOk result (λ ended. course_of ended (at_source source.now layout.new) ≡ piece_course (world_of told) (Include at name.now) (at_source source.now layout.old))) }
-    ensures within { IfOk result (λ ended. ended ≡ None → length layout.new.text ≤ text_limit) }
-    ensures cause { HasCause CppError.Fault (T.faults tree.old) (T.faults tree.new) result }
+}
+
+fn put_aside(around: &mut Vec<Left>, left: Left) -> Result<(), AllocError>
+    ensures { OnOk result (around.new.items ≡ around.old.items ++ left ∷ []) }
 {
-    let dir = source.place.parent(alloc)?;
-    match locate(alloc, tree, &dir, name) {
-        Ok(Some(file)) => enter(alloc, tree, layout, source, &file, at),
-        Ok(None) => {
-            let problem = Problem::NotFound(name);
-            Ok(Some(Diagnostic::new(alloc, source.place.bytes(), at, problem)?))
+    around.push(left)?;
+    Ok(())
+}
+
+// The presumed line behind a line.
+fn line_behind(at: u32) -> i64
+    ensures { result ≡ pos (at + 1) }
+{
+    i64::from(at) + 1
+}
+
+// Reads a source and the files that it includes: the source's place, the output so far, the work left, the file that
+// is read, and the files around it, which were left at an include, the source first.
+#[derive(Drop)]
+struct Reader {
+    source: CanonPath,
+    layout: Layout,
+    left: u32,
+    file: OpenFile,
+    around: Vec<Left>,
+}
+
+impl Reader {
+    // Reads all that is left, up to the end or the first diagnostic.
+    fn read<T: Tree>(mut self, alloc: Global, tree: &mut T) -> Result<Outcome, CppError>
+        requires { length self.layout.text ≤ text_limit }
+        ensures same { T.told tree.new ≡ T.told tree.old }
+        ensures outcome { ForSome (T.told tree.old) (λ told. IfOk result (λ outcome. (whole : Outcome) → LeadsTo (world_of told) self whole → outcome ≡ whole)) }
+        ensures fits { IfOk result OutcomeFits }
+        ensures cause { HasCause CppError.Fault (T.faults tree.old) (T.faults tree.new) result }
+    {
+        'files: loop {
+            if self.file.next < self.file.pieces.len() {
+                if let Some(diagnostic) = self.next_piece(alloc, tree)? {
+                    return Ok(Outcome::Diag(diagnostic.into_bytes()));
+                }
+            } else if !self.around.is_empty() {
+                if let Some(diagnostic) = self.come_back(alloc)? {
+                    return Ok(Outcome::Diag(diagnostic.into_bytes()));
+                }
+            } else {
+                let Reader { source, layout, .. } = self;
+                return finish(alloc, layout, &source);
+            }
         }
-        Err(error) => Err(cause_of(error)),
     }
-}
 
-// Enters a file from an include on a line of the source, and comes back.
-fn enter<T: Tree>(
-    alloc: Global,
-    tree: &mut T,
-    layout: &mut Layout,
-    source: &Located,
-    file: &Located,
-    at: u32,
-) -> Result<Option<Diagnostic>, CppError>
-    ensures same { T.told tree.new ≡ T.told tree.old }
-    ensures course { ForSome (T.told tree.old) (λ told. IfOk result (λ ended. course_of ended (at_source source.now layout.new) ≡ file_course (world_of told) at (at_source source.now layout.old) file.now)) }
-    ensures within { IfOk result (λ ended. ended ≡ None → length layout.new.text ≤ text_limit) }
-    ensures cause { HasCause CppError.Fault (T.faults tree.old) (T.faults tree.new) result }
-{
-    let Some(lines) = flat(read_lines(alloc, tree, &file.real)?) else {
-        let place = file.place.bytes();
-        return Ok(Some(Diagnostic::new(alloc, place, 0, Problem::NotBuilt)?));
-    };
-    let name = shown(alloc, file.place.bytes())?;
-    let back_name = shown(alloc, source.place.bytes())?;
-    let laid = put_included(layout, &name, &lines, &back_name, at);
-    limited(alloc, laid, &source.place)
-}
-
-// What became of an output: it goes on, or the limit was passed.
-fn limited(
-    alloc: Global,
-    laid: Result<(), LayError>,
-    source: &CanonPath,
-) -> Result<Option<Diagnostic>, CppError>
-    ensures kept { IfOk result (λ ended. LimitKept source.now laid ended) }
-    ensures no_fault { IsErrOf result CppError.Fault → ⊥ }
-{
-    match laid {
-        Ok(()) => Ok(None),
-        Err(LayError::Full) => {
-            let problem = Problem::TextLimit;
-            Ok(Some(Diagnostic::new(alloc, source.bytes(), 0, problem)?))
+    // Reads the next piece of the file.
+    fn next_piece<T: Tree>(
+        &mut self,
+        alloc: Global,
+        tree: &mut T,
+    ) -> Result<Option<Diagnostic>, CppError>
+        requires within { length self.old.layout.text ≤ text_limit }
+        requires goes_on { self.old.file.next < length self.old.file.pieces }
+        ensures same { T.told tree.new ≡ T.told tree.old }
+        ensures leads { ForSome (T.told tree.old) (λ told. IfOk result (λ ended. (whole : Outcome) → LeadsTo (world_of told) self.old whole → GoesOn (world_of told) self.new whole ended)) }
+        ensures advances { IfOk result (Advances (work_ahead self.old) self.new) }
+        ensures cause { HasCause CppError.Fault (T.faults tree.old) (T.faults tree.new) result }
+    {
+        let piece = &self.file.pieces.as_slice()[self.file.next];
+        let places = Places {
+            source: &self.source,
+            here: &self.file.located.place,
+        };
+        let led = run_piece(alloc, tree, &mut self.layout, places, piece)?;
+        self.file.next += 1;
+        match led {
+            Move::Onward => Ok(None),
+            Move::Ended(diagnostic) => Ok(Some(diagnostic)),
+            Move::Enter { at, file } => self.enter(alloc, tree, at, file),
         }
-        Err(LayError::Memory) => Err(CppError::Memory),
+    }
+
+    // Enters a file from an include on a line.
+    fn enter<T: Tree>(
+        &mut self,
+        alloc: Global,
+        tree: &mut T,
+        at: u32,
+        inner: Located,
+    ) -> Result<Option<Diagnostic>, CppError>
+        requires { length self.old.layout.text ≤ text_limit }
+        ensures same { T.told tree.new ≡ T.told tree.old }
+        ensures leads { ForSome (T.told tree.old) (λ told. IfOk result (λ ended. (whole : Outcome) → EntersTo (world_of told) self.old at inner whole → GoesOn (world_of told) self.new whole ended)) }
+        ensures advances { IfOk result (Advances (suc (work_ahead self.old)) self.new) }
+        ensures cause { HasCause CppError.Fault (T.faults tree.old) (T.faults tree.new) result }
+    {
+        if self.around.as_slice().len() >= DEPTH_LIMIT {
+            let place = self.file.located.place.bytes();
+            return Ok(Some(Diagnostic::new(alloc, place, at, Problem::TooNested)?));
+        }
+        match open_file(
+            alloc,
+            tree,
+            &mut self.layout,
+            &mut self.left,
+            &self.source,
+            &inner,
+            true,
+        )? {
+            Opened::Refused(diagnostic) => Ok(Some(diagnostic)),
+            Opened::Pieces(pieces) => {
+                let outer = replace(&mut self.file, OpenFile::new(inner, pieces));
+                put_aside(&mut self.around, Left { file: outer, at })?;
+                Ok(None)
+            }
+        }
+    }
+
+    // Comes back, at the end of a file, to the one that was left last.
+    fn come_back(&mut self, alloc: Global) -> Result<Option<Diagnostic>, CppError>
+        requires ended { length self.old.file.pieces ≤ self.old.file.next }
+        requires around { 0 < length self.old.around.items }
+        ensures leads { IfOk result (λ ended. (world : World) (whole : Outcome) → LeadsTo world self.old whole → GoesOn world self.new whole ended) }
+        ensures advances { IfOk result (Advances (work_ahead self.old) self.new) }
+        ensures no_fault { IsErrOf result CppError.Fault → ⊥ }
+    {
+        let Some(outer) = self.around.pop() else {
+            unreachable!()
+        };
+        let name = shown(alloc, outer.file.located.place.bytes())?;
+        let laid = self.layout.back(&name, line_behind(outer.at), outer.at);
+        self.file = outer.file;
+        match laid {
+            Ok(()) => Ok(None),
+            Err(LayError::Full) => {
+                let source = self.source.bytes();
+                Ok(Some(Diagnostic::new(alloc, source, 0, Problem::TextLimit)?))
+            }
+            Err(LayError::Memory) => Err(CppError::Memory),
+        }
     }
 }

@@ -1,9 +1,12 @@
 // The texts of diagnostics.
-ghost use Rattle.std.specs.Prelude.{◌≡◌, ◌≤◌, ◌++◌, length, IfOk, OnOk};
-ghost use Rattle.daemon_cpp.specs.Diagnostics.{NotFound, shown, shown_byte, diagnostic_text, words_of};
+ghost use Rattle.std.specs.Prelude.{◌≡◌, ◌≤◌, ◌++◌, length, codes, IfOk, OnOk};
+ghost use Rattle.std.specs.List.{flat_map};
+ghost use Rattle.daemon_cpp.specs.Diagnostics.{NotFound, ErrorLine, shown, shown_byte, branch_name, error_token, diagnostic_text, words_of};
 ghost use Rattle.daemon_cpp.specs.Problems.{complaint_of};
 
 use base_types::Bytes;
+use directive_scan::BranchName;
+use pp_tokens::Token;
 use std::alloc::{AllocError, Global};
 use std::marker::Model;
 
@@ -14,9 +17,18 @@ const LENGTH_LIMIT: usize = 65_536;
 #[derive(Clone, Copy, Debug, Drop)]
 pub enum Problem<'a> {
     NoSource,
+    TooLarge,
+    OpenComment,
+    WithoutIf(BranchName),
+    AfterElse(BranchName),
+    Unended,
     NotFound(&'a [u8]),
-    NotBuilt,
+    TooNested,
+    ErrorLine(&'a [Token]),
+    UnknownDirective,
+    WorkLimit,
     TextLimit,
+    NotBuilt,
 }
 
 // The text of a diagnostic, of 1 to 65,536 bytes.
@@ -68,10 +80,59 @@ fn add_words(alloc: Global, text: &mut Vec<u8>, problem: Problem<'_>) -> Result<
 {
     match problem {
         Problem::NoSource => text.extend_from_slice(b"cannot find source"),
+        Problem::TooLarge => text.extend_from_slice(b"file too large"),
+        Problem::OpenComment => text.extend_from_slice(b"unterminated comment"),
+        Problem::WithoutIf(name) => add_branch(text, name, b" without #if"),
+        Problem::AfterElse(name) => add_branch(text, name, b" after #else"),
+        Problem::Unended => text.extend_from_slice(b"unterminated conditional"),
         Problem::NotFound(name) => add_not_found(alloc, text, name),
-        Problem::NotBuilt => text.extend_from_slice(b"not built"),
+        Problem::TooNested => text.extend_from_slice(b"includes nested more than 200 deep"),
+        Problem::ErrorLine(tokens) => add_error_line(alloc, text, tokens),
+        Problem::UnknownDirective => text.extend_from_slice(b"unknown directive"),
+        Problem::WorkLimit => text.extend_from_slice(b"work limit"),
         Problem::TextLimit => text.extend_from_slice(b"text limit"),
+        Problem::NotBuilt => text.extend_from_slice(b"not built"),
     }
+}
+
+fn branch_name(name: BranchName) -> &'static [u8]
+    ensures { result.now ≡ branch_name name }
+{
+    match name {
+        BranchName::Elif => b"elif",
+        BranchName::Else => b"else",
+        BranchName::Endif => b"endif",
+    }
+}
+
+// Adds what is wrong with a directive of this name.
+fn add_branch(text: &mut Vec<u8>, name: BranchName, words: &[u8]) -> Result<(), AllocError>
+    ensures { OnOk result (text.new.items ≡ text.old.items ++ (codes "#" ++ (branch_name name ++ words.now))) }
+{
+    text.push(b'#')?;
+    text.extend_from_slice(branch_name(name))?;
+    text.extend_from_slice(words)
+}
+
+// Adds an error directive's tokens behind its name.
+fn add_error_line(alloc: Global, text: &mut Vec<u8>, tokens: &[Token]) -> Result<(), AllocError>
+    ensures { OnOk result (text.new.items ≡ text.old.items ++ words_of (ErrorLine tokens.now)) }
+{
+    text.extend_from_slice(b"#error")?;
+    for token in tokens {
+        add_error_token(alloc, text, token)?;
+    }
+    Ok(())
+}
+
+fn add_error_token(alloc: Global, text: &mut Vec<u8>, token: &Token) -> Result<(), AllocError>
+    ensures { OnOk result (text.new.items ≡ text.old.items ++ error_token token.now) }
+{
+    let spelling = shown(alloc, token.text.as_slice())?;
+    if token.space {
+        text.push(b' ')?;
+    }
+    text.extend_from_slice(&spelling)
 }
 
 fn add_not_found(alloc: Global, text: &mut Vec<u8>, name: &[u8]) -> Result<(), AllocError>

@@ -3,15 +3,12 @@
 
 mod cpp;
 mod diagnostic;
-mod laying;
+mod opening;
 mod outcome;
-mod simple;
+mod pieces;
 mod tree;
 
-pub use cpp::{absolute, preprocess};
+pub use cpp::preprocess;
 pub use outcome::{CppError, Outcome};
-pub use simple::{Include, flat, include_at};
-pub use tree::read_lines;
-
-#[cfg(test)]
-mod tests;
+pub use pieces::reserved_line;
+pub use tree::{absolute, read_body};

@@ -1,18 +1,17 @@
 // Files of a tree.
-ghost use Rattle.std.specs.Prelude.{◌≡◌, ◌≢◌, IfOk};
+ghost use Rattle.std.specs.Prelude.{◌≡◌, ◌≢◌, ◌≤◌, length, IfOk, IfSome};
 ghost use Rattle.std.specs.Option.{ForSome};
 ghost use Rattle.base_types.specs.Causes.{HasCause};
+ghost use Rattle.daemon_cpp.specs.Prep as prep;
 ghost use Rattle.daemon_cpp.specs.Prep.{world_of};
-ghost use Rattle.daemon_cpp.specs.Lines.{simple_file};
+ghost use Rattle.daemon_cpp.specs.Reading.{body_within};
 
 use crate::CppError;
-use crate::simple::simple_lines;
 use base_types::Bytes;
-use pp_tokens::Lexed;
-use std::alloc::Global;
+use std::alloc::{AllocError, Global};
 use tree_model::{CanonPath, Tree, TreeError};
 
-// Why a tree gave no answer; a body that is too large is one that isn't built, and so no such reason.
+/// Why a tree gave no answer, where that is not that a body is too large.
 pub fn cause_of(error: TreeError) -> CppError
     requires { error ≢ TreeError.Large }
     ensures { result ≡ CppError.Fault → error ≡ TreeError.Fault }
@@ -24,21 +23,34 @@ pub fn cause_of(error: TreeError) -> CppError
     }
 }
 
-// The lines of a file that is built so far; None where it isn't. No file counts as an empty one.
-pub fn read_lines<T: Tree>(
+/// A text below the working directory, or itself where it begins with `/`.
+pub fn absolute(alloc: Global, cwd: &[u8], text: &[u8]) -> Result<Vec<u8>, AllocError>
+    ensures { IfOk result (λ whole. whole.items ≡ prep.absolute cwd.now text.now) }
+{
+    if text.first() == Some(&b'/') {
+        return text.to_vec(alloc);
+    }
+    let mut whole = cwd.to_vec(alloc)?;
+    whole.push(b'/')?;
+    whole.extend_from_slice(text)?;
+    Ok(whole)
+}
+
+/// The bytes of a file; None where they are more than 16,777,216. Where no file is, there are none.
+pub fn read_body<T: Tree>(
     alloc: Global,
     tree: &mut T,
     path: &CanonPath,
-) -> Result<Option<Lexed>, CppError>
+) -> Result<Option<Bytes>, CppError>
     ensures same { T.told tree.new ≡ T.told tree.old }
-    ensures lines { ForSome (T.told tree.old) (λ told. IfOk result (λ file. file ≡ simple_file ((world_of told).body path.now))) }
+    ensures body { ForSome (T.told tree.old) (λ told. IfOk result (λ body. body ≡ body_within ((world_of told).body path.now))) }
+    ensures within { IfOk result (λ body. IfSome body (λ bytes. length bytes ≤ 16777216)) }
     ensures cause { HasCause CppError.Fault (T.faults tree.old) (T.faults tree.new) result }
 {
-    let body = match tree.read(path) {
-        Ok(Some(body)) => body,
-        Ok(None) => Bytes::new(alloc),
-        Err(TreeError::Large) => return Ok(None),
-        Err(error) => return Err(cause_of(error)),
-    };
-    Ok(simple_lines(alloc, body.as_slice())?)
+    match tree.read(path) {
+        Ok(Some(body)) => Ok(Some(body)),
+        Ok(None) => Ok(Some(Bytes::new(alloc))),
+        Err(TreeError::Large) => Ok(None),
+        Err(error) => Err(cause_of(error)),
+    }
 }

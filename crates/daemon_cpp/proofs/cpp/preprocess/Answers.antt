@@ -3,7 +3,7 @@ use Rattle.std.proofs.lemmas.Result.{IfOk-weaker}
 use Rattle.tree_model.specs.Paths.{Text}
 use Rattle.daemon_cpp.specs.Prep as prep
 use Rattle.daemon_cpp.specs.Prep.{world_of, outcome_over}
-use Rattle.daemon_cpp.specs.Course.{source_outcome}
+use Rattle.daemon_cpp.specs.Files.{source_outcome}
 use Rattle.daemon_cpp.proofs.Jobs.{job-found, job-not_found, for_told}
 use Rattle.daemon_cpp.proofs.cpp.preprocess.Goals as goal
 

@@ -1,0 +1,19 @@
+use Rattle.std.proofs.Common.{◌≡◌, ◌≤◌, length, Some}
+use Rattle.cpp_output.specs.Layout.{text_limit}
+use Rattle.tree_model.specs.Trees.{FileTree}
+use Rattle.daemon_cpp.specs.declared.outcome.Outcome.{Outcome}
+use Rattle.daemon_cpp.specs.Prep.{world_of}
+use Rattle.daemon_cpp.specs.Files.{LeadsTo, work_ahead}
+use Rattle.daemon_cpp.proofs.cpp.Reader.read.Given as goal
+
+abbrev pub invariant-files : goal.invariant-files
+invariant-files g l =
+    record {
+      same : g.T.Tree.told l.tree ≡ g.T.Tree.told l.fn.tree;
+      later : g.T.Tree.faults l.fn.tree ≤ g.T.Tree.faults l.tree;
+      within : length l.self.layout.text ≤ text_limit;
+      left : (told : FileTree) → g.T.Tree.told l.fn.tree ≡ Some told → (whole : Outcome) → LeadsTo (world_of told) l.fn.self whole → LeadsTo (world_of told) l.self whole;
+    }
+
+abbrev pub decreases-files : goal.decreases-files
+decreases-files g l = work_ahead l.self

@@ -1,8 +1,0 @@
-use Rattle.std.proofs.Common.{◌≡◌, drop}
-use Rattle.std.specs.List.{list_any}
-use Rattle.daemon_cpp.specs.Simple.{is_reserved}
-use Rattle.daemon_cpp.specs.Lines.{line_at}
-use Rattle.daemon_cpp.proofs.simple.is_reserved_in.Given as goal
-
-abbrev pub invariant-loop-place : goal.invariant-loop-place
-invariant-loop-place l = list_any is_reserved (line_at l.file l.line) ≡ list_any is_reserved (drop l.place (line_at l.file l.line))

@@ -1,0 +1,217 @@
+// The pieces of a file.
+ghost use Rattle.std.specs.Prelude.{◌≡◌, ◌≤◌, length, false, IfOk, IsErrOf};
+ghost use Rattle.std.specs.Option.{ForSome};
+ghost use Rattle.base_types.specs.Causes.{HasCause};
+ghost use Rattle.cpp_output.specs.Layout.{text_limit};
+ghost use Rattle.tree_model.specs.Paths.{spelled};
+ghost use Rattle.daemon_cpp.specs.Diagnostics.{diagnostic_text};
+ghost use Rattle.daemon_cpp.specs.Problems.{complaint_of};
+ghost use Rattle.daemon_cpp.specs.Prep.{State, Entering, world_of, piece_step, text_step, directive_step, include, include_name, reserved_line, is_reserved};
+ghost use Rattle.daemon_cpp.specs.Reading.{Leads};
+ghost use Rattle.daemon_cpp.specs.Moving.{LaidOut, StaysWithin};
+
+use crate::CppError;
+use crate::diagnostic::{Diagnostic, Problem};
+use crate::tree::cause_of;
+use cpp_output::{LayError, Layout};
+use directive_scan::{Directive, Piece, Target};
+use pp_tokens::{Kind, Token};
+use std::alloc::Global;
+use tree_model::{CanonPath, Located, Tree, locate};
+
+// What a piece leads to.
+#[derive(Drop)]
+pub enum Move {
+    // The next piece.
+    Onward,
+    // The file of an include on a line.
+    Enter { at: u32, file: Located },
+    // The first diagnostic.
+    Ended(Diagnostic),
+}
+
+// The job's source and the file that is read, by their places.
+#[derive(Clone, Copy)]
+pub struct Places<'a> {
+    pub source: &'a CanonPath,
+    pub here: &'a CanonPath,
+}
+
+// Reads a piece of the file that is read: text and pragmas go into the output, and includes are searched.
+pub fn run_piece<T: Tree>(
+    alloc: Global,
+    tree: &mut T,
+    layout: &mut Layout,
+    places: Places<'_>,
+    piece: &Piece,
+) -> Result<Move, CppError>
+    requires { length layout.old.text ≤ text_limit }
+    ensures same { T.told tree.new ≡ T.told tree.old }
+    ensures leads { ForSome (T.told tree.old) (λ told. IfOk result (λ move. (entering : Entering) (state : State) → state.source ≡ places.entry.source.now → state.here.place ≡ places.entry.here.now → state.output ≡ layout.old → Leads entering (record state { output = layout.new }) move (piece_step (world_of told) entering piece.now state))) }
+    ensures within { IfOk result (StaysWithin layout.new) }
+    ensures cause { HasCause CppError.Fault (T.faults tree.old) (T.faults tree.new) result }
+{
+    match piece {
+        Piece::Run { tokens } => run_text(alloc, layout, places, tokens.as_slice()),
+        Piece::Line { at, what } => run_directive(alloc, tree, layout, places, *at, what),
+    }
+}
+
+// Tokens of text.
+fn run_text(
+    alloc: Global,
+    layout: &mut Layout,
+    places: Places<'_>,
+    tokens: &[Token],
+) -> Result<Move, CppError>
+    requires { length layout.old.text ≤ text_limit }
+    ensures leads { IfOk result (λ move. (entering : Entering) (state : State) → state.source ≡ places.entry.source.now → state.here.place ≡ places.entry.here.now → state.output ≡ layout.old → Leads entering (record state { output = layout.new }) move (text_step tokens.now (reserved_line tokens.now) state)) }
+    ensures within { IfOk result (StaysWithin layout.new) }
+    ensures no_fault { IsErrOf result CppError.Fault → ⊥ }
+{
+    match reserved_line(tokens) {
+        Some(line) => ended(alloc, places.here, line, Problem::NotBuilt),
+        None => {
+            let laid = layout.run(tokens);
+            laid_out(alloc, places.source, laid)
+        }
+    }
+}
+
+/// The line of the first identifier that begins with two underscores.
+pub fn reserved_line(tokens: &[Token]) -> Option<u32>
+    ensures { result ≡ reserved_line tokens.now }
+{
+    for token in tokens {
+        if is_reserved(token) {
+            return Some(token.line);
+        }
+    }
+    None
+}
+
+// Whether a token is an identifier that begins with two underscores.
+fn is_reserved(token: &Token) -> bool
+    ensures { result ≡ is_reserved token.now }
+{
+    match token.kind {
+        Kind::Ident => token.text.as_slice().starts_with(b"__"),
+        _ => false,
+    }
+}
+
+// A diagnostic at a line of the file at a place.
+fn ended(
+    alloc: Global,
+    place: &CanonPath,
+    line: u32,
+    problem: Problem<'_>,
+) -> Result<Move, CppError>
+    ensures words { IfOk result (λ move. move ≡ Move.Ended (diagnostic_text (record { place = spelled place.now; at = line; complaint = complaint_of problem.entry }))) }
+    ensures no_fault { IsErrOf result CppError.Fault → ⊥ }
+{
+    Ok(Move::Ended(Diagnostic::new(alloc, place.bytes(), line, problem)?))
+}
+
+// What became of the output: it goes on, or the limit was passed.
+fn laid_out(alloc: Global, source: &CanonPath, laid: Result<(), LayError>) -> Result<Move, CppError>
+    ensures laid { IfOk result (LaidOut source.now laid) }
+    ensures no_fault { IsErrOf result CppError.Fault → ⊥ }
+{
+    match laid {
+        Ok(()) => Ok(Move::Onward),
+        Err(LayError::Full) => ended(alloc, source, 0, Problem::TextLimit),
+        Err(LayError::Memory) => Err(CppError::Memory),
+    }
+}
+
+// A directive on a line.
+fn run_directive<T: Tree>(
+    alloc: Global,
+    tree: &mut T,
+    layout: &mut Layout,
+    places: Places<'_>,
+    at: u32,
+    what: &Directive,
+) -> Result<Move, CppError>
+    requires { length layout.old.text ≤ text_limit }
+    ensures same { T.told tree.new ≡ T.told tree.old }
+    ensures leads { ForSome (T.told tree.old) (λ told. IfOk result (λ move. (entering : Entering) (state : State) → state.source ≡ places.entry.source.now → state.here.place ≡ places.entry.here.now → state.output ≡ layout.old → Leads entering (record state { output = layout.new }) move (directive_step (world_of told) entering at what.now state))) }
+    ensures within { IfOk result (StaysWithin layout.new) }
+    ensures cause { HasCause CppError.Fault (T.faults tree.old) (T.faults tree.new) result }
+{
+    match what {
+        Directive::Include(target) => run_include(alloc, tree, places.here, at, target),
+        Directive::Error(tokens) => {
+            let problem = Problem::ErrorLine(tokens.as_slice());
+            ended(alloc, places.here, at, problem)
+        }
+        Directive::Pragma(tokens) => {
+            let laid = layout.pragma(at, tokens.as_slice());
+            laid_out(alloc, places.source, laid)
+        }
+        Directive::Warning | Directive::Null => Ok(Move::Onward),
+        Directive::Unknown => ended(alloc, places.here, at, Problem::UnknownDirective),
+        _ => ended(alloc, places.here, at, Problem::NotBuilt),
+    }
+}
+
+// An include on a line (ISO C 6.10.2).
+fn run_include<T: Tree>(
+    alloc: Global,
+    tree: &mut T,
+    here: &CanonPath,
+    at: u32,
+    target: &Target,
+) -> Result<Move, CppError>
+    ensures same { T.told tree.new ≡ T.told tree.old }
+    ensures leads { ForSome (T.told tree.old) (λ told. IfOk result (λ move. (entering : Entering) (state : State) → state.here.place ≡ here.now → Leads entering state move (include (world_of told) entering at target.now state))) }
+    ensures cause { HasCause CppError.Fault (T.faults tree.old) (T.faults tree.new) result }
+{
+    match target {
+        Target::Plain(header) => {
+            include_name(alloc, tree, here, at, header.angle, header.name.as_slice())
+        }
+        Target::Computed(_) => ended(alloc, here, at, Problem::NotBuilt),
+    }
+}
+
+// An include of a name, in angle form or else in quote form.
+fn include_name<T: Tree>(
+    alloc: Global,
+    tree: &mut T,
+    here: &CanonPath,
+    at: u32,
+    angle: bool,
+    name: &[u8],
+) -> Result<Move, CppError>
+    ensures same { T.told tree.new ≡ T.told tree.old }
+    ensures leads { ForSome (T.told tree.old) (λ told. IfOk result (λ move. (entering : Entering) (state : State) → state.here.place ≡ here.now → Leads entering state move (include_name (world_of told) entering at angle name.now state))) }
+    ensures cause { HasCause CppError.Fault (T.faults tree.old) (T.faults tree.new) result }
+{
+    if angle {
+        ended(alloc, here, at, Problem::NotBuilt)
+    } else {
+        find_quoted(alloc, tree, here, at, name)
+    }
+}
+
+// The file of a quoted name, searched first in the directory of the file that is read.
+fn find_quoted<T: Tree>(
+    alloc: Global,
+    tree: &mut T,
+    here: &CanonPath,
+    at: u32,
+    name: &[u8],
+) -> Result<Move, CppError>
+    ensures same { T.told tree.new ≡ T.told tree.old }
+    ensures leads { ForSome (T.told tree.old) (λ told. IfOk result (λ move. (entering : Entering) (state : State) → state.here.place ≡ here.now → Leads entering state move (include_name (world_of told) entering at false name.now state))) }
+    ensures cause { HasCause CppError.Fault (T.faults tree.old) (T.faults tree.new) result }
+{
+    let dir = here.parent(alloc)?;
+    match locate(alloc, tree, &dir, name) {
+        Ok(Some(file)) => Ok(Move::Enter { at, file }),
+        Ok(None) => ended(alloc, here, at, Problem::NotFound(name)),
+        Err(error) => Err(cause_of(error)),
+    }
+}
