@@ -19,7 +19,8 @@ use Rattle.closure_fixpoint.specs.declared.job_analysis.Refusal.{Refusal}
 use Rattle.closure_fixpoint.specs.declared.job_analysis.Refusal.TheVariants as refusal
 use Rattle.closure_fixpoint.specs.declared.job_analysis.Analysed.{Analysed}
 use Rattle.closure_fixpoint.specs.declared.job_analysis.Analysed.TheVariants as analysed
-use Rattle.closure_fixpoint.specs.Analysis.{IsNodeOf, AreEntriesOf, Holds, NothingHolds, AnalysisHolds, source_of, found_files, found_from, targets_of, names_asked, body_found, is_unbuilt}
+use Rattle.closure_fixpoint.specs.Simple.{names_asked}
+use Rattle.closure_fixpoint.specs.Analysis.{IsNodeOf, AreEntriesOf, Holds, NothingHolds, AnalysisHolds, source_of, found_files, found_from, targets_of, body_found, is_unbuilt}
 use Rattle.closure_fixpoint.specs.Gathering.{files_from, upward, all_upward, nodes_of, comes_before, are_rising, with_path, entries_at, request_from}
 use Rattle.closure_fixpoint.proofs.Orders.{left-member, right-member, of-either, at-member, in_order}
 

@@ -1,5 +1,5 @@
 -- What an analysis sends, and why it is refused. So far a job's files are its source and the files of the source's
--- include lines, whatever conditionals say of them.
+-- includes, whatever conditionals say of them.
 use Rattle.std.specs.Prelude.{◌≡◌, ◌⊎◌, ◌<◌, ℕ, Bool, true, false, not, ◌||◌, List, [], ◌∷◌, length, Option, None, Some}
 use Rattle.std.specs.List.{list_any, filter_map}
 use Rattle.base_types.specs.Members.{Member}
@@ -11,8 +11,8 @@ use Rattle.tree_model.specs.declared.walk.Located.{Located}
 use Rattle.tree_model.specs.declared.entry.Entry.{Entry}
 use Rattle.job_words.specs.declared.job.Job.{Job}
 use Rattle.job_frames.specs.Request.{request_bytes, most}
-use Rattle.daemon_cpp.specs.Simple.{Piece, Run, Include, pieces_of, is_simple, is_flat}
 use Rattle.daemon_cpp.specs.Prep.{Source, world_of, absolute}
+use Rattle.closure_fixpoint.specs.Simple.{names_asked, is_simple, is_flat}
 use Rattle.closure_fixpoint.specs.declared.job_analysis.Refusal.{Refusal}
 use Rattle.closure_fixpoint.specs.declared.job_analysis.Refusal.TheVariants as refusal
 use Rattle.closure_fixpoint.specs.declared.job_analysis.Analysed.{Analysed}
@@ -20,20 +20,11 @@ use Rattle.closure_fixpoint.specs.declared.job_analysis.Analysed.TheVariants as 
 
 -- ---- the searches ----
 
--- the name that an include asks for
-abbrev pub name_asked : Piece → Option Text
-name_asked (Run tokens) = None
-name_asked (Include at name) = Some name
-
--- the names that a body's include lines ask for, in order
-abbrev pub names_asked : Text → List Text
-names_asked body = filter_map name_asked (pieces_of body)
-
 -- the bytes of a located file
 abbrev pub body_found : FileTree → Located → Text
 body_found tree located = (world_of tree).body located.real
 
--- the files that a located file's include lines ask for, where they are found
+-- the files that a located file's includes ask for, where they are found
 abbrev pub targets_of : FileTree → Located → List Located
 targets_of tree located = filter_map (λ name. locate tree (parent located.place) name) (names_asked (body_found tree located))
 
@@ -73,7 +64,7 @@ IsRequestOf tree job sent = (entries : Entries) × AreEntriesOf tree job entries
 
 -- ---- refusals ----
 
--- the source isn't simple, or a file that it asks for isn't flat: preprocessing them isn't built
+-- the source isn't simple, or a file that it asks for isn't flat: analysing them isn't built
 abbrev pub is_unbuilt : FileTree → Option Located → Bool
 is_unbuilt tree None = false
 is_unbuilt tree (Some located) = not (is_simple (body_found tree located)) || list_any (λ other. not (is_flat (body_found tree other))) (targets_of tree located)

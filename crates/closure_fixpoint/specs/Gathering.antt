@@ -2,7 +2,7 @@
 use Rattle.std.specs.Prelude.{Bool, true, false, not, ◌&&◌, ◌≤◌, List, [], ◌∷◌, ◌++◌, length, cond, nat_lt, Option, None, Some, Result, Ok, Err}
 use Rattle.std.specs.List.{list_any, list_all, filter_map, flat_map}
 use Rattle.std.specs.Option.{option_map}
-use Rattle.tree_model.specs.Paths.{Path, spelled}
+use Rattle.tree_model.specs.Paths.{Text, Path, spelled}
 use Rattle.tree_model.specs.Entries.{Entries, IsLinkText, below}
 use Rattle.tree_model.specs.Trees.{FileTree, entry_at, body_limit}
 use Rattle.tree_model.specs.Walk.{locate}
@@ -11,14 +11,24 @@ use Rattle.tree_model.specs.declared.entry.Entry.{Entry}
 use Rattle.tree_model.specs.declared.entry.Entry.TheVariants.{Dir, File, Link}
 use Rattle.job_words.specs.declared.job.Job.{Job}
 use Rattle.job_frames.specs.Request.{request_bytes, most}
-use Rattle.daemon_cpp.specs.Simple.{Piece, is_flat}
+use Rattle.directive_scan.specs.declared.Piece.{Piece}
+use Rattle.closure_fixpoint.specs.Simple.{name_asked, asks, pieces_of, is_simple, is_flat}
 use Rattle.closure_fixpoint.specs.declared.job_analysis.Refusal.{Refusal}
 use Rattle.closure_fixpoint.specs.declared.job_analysis.Refusal.TheVariants as refusal
 use Rattle.closure_fixpoint.specs.declared.job_analysis.Analysed.{Analysed}
 use Rattle.closure_fixpoint.specs.declared.job_analysis.Analysed.TheVariants as analysed
-use Rattle.closure_fixpoint.specs.Analysis.{name_asked, body_found, targets_of, is_unbuilt}
+use Rattle.closure_fixpoint.specs.Analysis.{body_found, targets_of, is_unbuilt}
 
 -- ---- the files ----
+
+-- the pieces of a file that is taken so far
+unfoldable pub simple_of : Text → Option (List Piece)
+simple_of body = cond (is_simple body) (Some (pieces_of body)) None
+
+-- pieces of which none asks for a name
+abbrev pub is_flat_file : Option (List Piece) → Bool
+is_flat_file None = false
+is_flat_file (Some pieces) = not (list_any asks pieces)
 
 -- the files that pieces ask for from a directory, where they are found
 abbrev pub targets_from : FileTree → Path → List Piece → List Located

@@ -1,23 +1,23 @@
 // The files of a job.
-ghost use Rattle.std.specs.Prelude.{◌≡◌, ◌≢◌, ◌++◌, ◌∷◌, [], IfOk, OnOk, IsErrOf, map, true, Some, Ok};
+ghost use Rattle.std.specs.Prelude.{◌≡◌, ◌≢◌, ◌++◌, ◌∷◌, [], IfOk, OnOk, IsErrOf, true, Some, Ok};
 ghost use Rattle.std.specs.Option.{ForSome};
 ghost use Rattle.base_types.specs.Causes.{HasCause};
 ghost use Rattle.tree_model.specs.Walk as walks;
-ghost use Rattle.daemon_cpp.specs.Simple.{piece_of, is_flat};
-ghost use Rattle.daemon_cpp.specs.Lines.{line_at, simple_file};
 ghost use Rattle.daemon_cpp.specs.Prep.{world_of};
+ghost use Rattle.closure_fixpoint.specs.Simple.{is_flat};
 ghost use Rattle.closure_fixpoint.specs.Analysis.{source_of, body_found};
-ghost use Rattle.closure_fixpoint.specs.Gathering.{targets_from, are_flat, files_from};
+ghost use Rattle.closure_fixpoint.specs.Gathering.{simple_of, targets_from, are_flat, files_from};
 
 use crate::Refusal;
+use crate::simple::{asked, is_flat_file, simple_pieces};
 use base_types::List;
-use daemon_cpp::{CppError, absolute, flat, include_at, read_lines};
+use daemon_cpp::{CppError, absolute, read_body};
+use directive_scan::Piece;
 use job_words::Job;
-use pp_tokens::Lexed;
 use std::alloc::Global;
 use tree_model::{CanonPath, Located, Tree, TreeError, locate};
 
-// The files of a job: its source, and the files of the source's include lines; or why there are none.
+// The files of a job: its source, and the files of the source's includes; or why there are none.
 pub fn files_found<T: Tree>(
     alloc: Global,
     tree: &mut T,
@@ -47,61 +47,61 @@ fn files_of<T: Tree>(
     ensures cause { HasCause TreeError.Fault (T.faults tree.old) (T.faults tree.new) result }
     ensures never_large { IsErrOf result TreeError.Large → ⊥ }
 {
-    let file = match lines_of(alloc, tree, &source.real)? {
-        Some(file) => file,
+    let pieces = match pieces_at(alloc, tree, &source.real)? {
+        Some(pieces) => pieces,
         None => return Ok(Err(Refusal::Unbuilt)),
     };
     let dir = source.place.parent(alloc)?;
     let mut files = List::new(alloc);
     files.push(source)?;
-    if !add_targets(alloc, tree, &dir, &file, &mut files)? {
+    if !add_targets(alloc, tree, &dir, pieces.as_slice(), &mut files)? {
         return Ok(Err(Refusal::Unbuilt));
     }
     Ok(Ok(files))
 }
 
-// Adds the files that a file's include lines ask for from a directory. False where one of them isn't flat.
+// Adds the files that pieces ask for from a directory. False where one of them isn't flat.
 fn add_targets<T: Tree>(
     alloc: Global,
     tree: &mut T,
     dir: &CanonPath,
-    file: &Lexed,
+    pieces: &[Piece],
     files: &mut List<Located>,
 ) -> Result<bool, TreeError>
     ensures same { T.told tree.new ≡ T.told tree.old }
-    ensures flat { ForSome (T.told tree.old) (λ told. IfOk result (λ flat. flat ≡ are_flat told (targets_from told dir.now (map piece_of file.now.lines)))) }
-    ensures files { ForSome (T.told tree.old) (λ told. result ≡ Ok true → files.new ≡ files.old ++ targets_from told dir.now (map piece_of file.now.lines)) }
+    ensures flat { ForSome (T.told tree.old) (λ told. IfOk result (λ flat. flat ≡ are_flat told (targets_from told dir.now pieces.now))) }
+    ensures files { ForSome (T.told tree.old) (λ told. result ≡ Ok true → files.new ≡ files.old ++ targets_from told dir.now pieces.now) }
     ensures cause { HasCause TreeError.Fault (T.faults tree.old) (T.faults tree.new) result }
     ensures never_large { IsErrOf result TreeError.Large → ⊥ }
 {
-    for line in 0..file.line_count() {
-        if !add_line(alloc, tree, dir, file, line, files)? {
+    for piece in pieces {
+        if !add_piece(alloc, tree, dir, piece, files)? {
             return Ok(false);
         }
     }
     Ok(true)
 }
 
-// Adds the file that a line asks for from a directory, if it does and the file is found. False where the file isn't flat.
-fn add_line<T: Tree>(
+// Adds the file that a piece asks for from a directory, if it does and the file is found. False where the file isn't
+// flat.
+fn add_piece<T: Tree>(
     alloc: Global,
     tree: &mut T,
     dir: &CanonPath,
-    file: &Lexed,
-    line: usize,
+    piece: &Piece,
     files: &mut List<Located>,
 ) -> Result<bool, TreeError>
     ensures same { T.told tree.new ≡ T.told tree.old }
-    ensures flat { ForSome (T.told tree.old) (λ told. IfOk result (λ flat. flat ≡ are_flat told (targets_from told dir.now (piece_of (line_at file.now line) ∷ [])))) }
-    ensures files { ForSome (T.told tree.old) (λ told. IfOk result (λ flat. files.new ≡ files.old ++ targets_from told dir.now (piece_of (line_at file.now line) ∷ []))) }
+    ensures flat { ForSome (T.told tree.old) (λ told. IfOk result (λ flat. flat ≡ are_flat told (targets_from told dir.now (piece.now ∷ [])))) }
+    ensures files { ForSome (T.told tree.old) (λ told. IfOk result (λ flat. files.new ≡ files.old ++ targets_from told dir.now (piece.now ∷ []))) }
     ensures cause { HasCause TreeError.Fault (T.faults tree.old) (T.faults tree.new) result }
     ensures never_large { IsErrOf result TreeError.Large → ⊥ }
 {
-    let include = match include_at(file, line) {
-        Some(include) => include,
+    let name = match asked(piece) {
+        Some(name) => name,
         None => return Ok(true),
     };
-    match locate(alloc, tree, dir, include.name)? {
+    match locate(alloc, tree, dir, name)? {
         None => Ok(true),
         Some(found) => add_file(alloc, tree, found, files),
     }
@@ -120,25 +120,27 @@ fn add_file<T: Tree>(
     ensures cause { HasCause TreeError.Fault (T.faults tree.old) (T.faults tree.new) result }
     ensures never_large { IsErrOf result TreeError.Large → ⊥ }
 {
-    let file = lines_of(alloc, tree, &found.real)?;
+    let file = pieces_at(alloc, tree, &found.real)?;
     files.push(found)?;
-    Ok(flat(file).is_some())
+    Ok(is_flat_file(file))
 }
 
-// The lines of a file that is built so far; None where it isn't.
-fn lines_of<T: Tree>(
+// The pieces of a file that is taken so far; None where it isn't.
+fn pieces_at<T: Tree>(
     alloc: Global,
     tree: &mut T,
     path: &CanonPath,
-) -> Result<Option<Lexed>, TreeError>
+) -> Result<Option<List<Piece>>, TreeError>
     ensures same { T.told tree.new ≡ T.told tree.old }
-    ensures lines { ForSome (T.told tree.old) (λ told. IfOk result (λ file. file ≡ simple_file ((world_of told).body path.now))) }
+    ensures pieces { ForSome (T.told tree.old) (λ told. IfOk result (λ file. file ≡ simple_of ((world_of told).body path.now))) }
     ensures cause { HasCause TreeError.Fault (T.faults tree.old) (T.faults tree.new) result }
     ensures never_large { IsErrOf result TreeError.Large → ⊥ }
 {
-    match read_lines(alloc, tree, path) {
-        Ok(file) => Ok(file),
-        Err(CppError::Fault) => Err(TreeError::Fault),
-        Err(CppError::Memory) => Err(TreeError::Memory),
-    }
+    let body = match read_body(alloc, tree, path) {
+        Ok(Some(body)) => body,
+        Ok(None) => return Ok(None),
+        Err(CppError::Fault) => return Err(TreeError::Fault),
+        Err(CppError::Memory) => return Err(TreeError::Memory),
+    };
+    Ok(simple_pieces(alloc, body.as_slice())?)
 }

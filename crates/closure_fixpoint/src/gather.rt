@@ -13,7 +13,7 @@ ghost use Rattle.closure_fixpoint.specs.Gathering.{IsSendable, entries_at, reque
 use crate::{Analysed, Refusal};
 use base_types::Bytes;
 use job_frames::write_request;
-use job_words::Job;
+use job_words::{Job, jobs_are_short};
 use std::alloc::{AllocError, Global};
 use tree_model::{CanonPath, Entry, Node, Tree, TreeError};
 
@@ -117,6 +117,7 @@ pub fn request_of(
     requires spellable { All HasSpelling entries.now }
     ensures { IfOk result (λ answer. answer ≡ request_from job.now entries.now) }
 {
+    jobs_are_short();
     if entries.len() > ENTRY_LIMIT {
         return Ok(Analysed::Refused(Refusal::Request));
     }

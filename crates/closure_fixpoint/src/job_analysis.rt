@@ -29,7 +29,7 @@ pub enum Refusal {
     Request,
     /// The source isn't found.
     NoSource,
-    /// Preprocessing a file of the job isn't built yet.
+    /// Analysing a file of the job isn't built yet.
     Unbuilt,
 }
 

@@ -6,8 +6,6 @@ mod files;
 mod gather;
 mod job_analysis;
 mod nodes;
+mod simple;
 
 pub use job_analysis::{Analysed, Refusal, analyse};
-
-#[cfg(test)]
-mod tests;

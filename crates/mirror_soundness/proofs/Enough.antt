@@ -1,6 +1,6 @@
 -- Preprocessing over the tree of a job's entries is preprocessing over the whole tree.
-use Rattle.std.proofs.Common.{◌≡◌, ◌∷◌, [], List, ℕ, Bool, true, false, ◌||◌, not, cond, Option, Some, None, IsTrue, inl, inr, refl, sym, ap, subst, ◌∙◌}
-use Rattle.std.specs.List.{list_any, filter_map, cons_option}
+use Rattle.std.proofs.Common.{◌≡◌, ◌∷◌, [], List, ℕ, Bool, true, false, ◌||◌, not, Option, Some, None, IsTrue, inl, inr, refl, sym, ap, subst, ◌∙◌}
+use Rattle.std.specs.List.{list_any, filter_map}
 use Rattle.base_types.specs.Members.{Member}
 use Rattle.tree_model.specs.Paths.{Text, Path, parent}
 use Rattle.tree_model.specs.Entries.{Entries, makes_tree}
@@ -11,25 +11,16 @@ use Rattle.tree_model.specs.Laws.{ListsMakeTrees, EntriesAreNodes, NodesAreEntri
 use Rattle.tree_model.specs.declared.entry.Entry.TheVariants.{Dir}
 use Rattle.tree_model.specs.declared.walk.Located.{Located}
 use Rattle.job_words.specs.declared.job.Job.{Job}
-use Rattle.daemon_cpp.specs.Simple.{pieces_of, is_simple, is_flat}
-use Rattle.daemon_cpp.specs.Diagnostics.{NotBuilt}
-use Rattle.daemon_cpp.specs.Prep.{World, Here, State, Step, world_of, absolute, limited, say, first_state, open_file, enter_file, run_pieces, run_job, prepared, and_then, complain, prep, depth_limit}
+use Rattle.daemon_cpp.specs.Prep.{World, State, world_of, absolute, limited, first_state, open_file, enter_file, run_job, prepared, and_then, prep, depth_limit}
 use Rattle.closure_fixpoint.specs.declared.job_analysis.Refusal.TheVariants.{NoSource, Unbuilt}
-use Rattle.closure_fixpoint.specs.Analysis.{AreEntriesOf, Holds, found_files, found_from, source_of, targets_of, names_asked, body_found, is_unbuilt}
+use Rattle.closure_fixpoint.specs.Simple.{names_asked, is_simple, is_flat}
+use Rattle.closure_fixpoint.specs.Analysis.{AreEntriesOf, Holds, found_files, found_from, source_of, targets_of, body_found, is_unbuilt}
 use Rattle.mirror_soundness.specs.Mirror.{MirrorIsEnough}
 use Rattle.mirror_soundness.proofs.MadeTree.{any_of_member, makes_tree_of, part_of_whole}
 use Rattle.mirror_soundness.proofs.SameSearches.{same_found, same_none, same_body}
-use Rattle.mirror_soundness.proofs.SamePrep.{SameFile, Agrees, and_same, opens, opened_with, inside_of, say_here, pieces_same}
+use Rattle.mirror_soundness.proofs.SamePrep.{OutlineHolds, SameFile, Agrees, in_front, behind, and_same, opened_same, alike_where_agree}
 
 -- what a member of a list gives is one of what the list gives
-in_front : {Y : Type 0} (o : Option Y) (y : Y) (ys : List Y) → o ≡ Some y → Member y (cons_option o ys)
-in_front None y ys e = cc
-in_front (Some other) y ys e = let same : other ≡ y = cc in inl same
-
-behind : {Y : Type 0} (o : Option Y) (y : Y) (ys : List Y) → Member y ys → Member y (cons_option o ys)
-behind None y ys m = m
-behind (Some other) y ys m = inr m
-
 pub given_by_member : {X Y : Type 0} (give : X → Option Y) (xs : List X) (x : X) (y : Y) → Member x xs → give x ≡ Some y → Member y (filter_map give xs)
 given_by_member give [] x y m e = elim m [ ]
 given_by_member give (other ∷ xs) x y (inl same) e = in_front (give other) y (filter_map give xs) (ap give same ∙ e)
@@ -63,9 +54,6 @@ module _ (lists : ListsMakeTrees) (nodes : EntriesAreNodes) (found_in_part : IsL
 
   among_found : (target : Located) → Member target (targets_of tree source) → Member target (found_files tree job)
   among_found target m = subst (λ (o : Option Located). Member target (found_from tree o)) (sym source_is) (inr m)
-
-  source_simple : is_simple (body_found tree source) ≡ true
-  source_simple = (none_fails (is_simple (body_found tree source)) (list_any (λ other. not (is_flat (body_found tree other))) (targets_of tree source)) built).0
 
   target_flat : (target : Located) → Member target (targets_of tree source) → is_flat (body_found tree target) ≡ true
   target_flat target m =
@@ -104,38 +92,32 @@ module _ (lists : ListsMakeTrees) (nodes : EntriesAreNodes) (found_in_part : IsL
   same_source_body : mirrored.body source.real ≡ all.body source.real
   same_source_body = same_body lists nodes found_in_part none_in_part holds tree job entries whole are makes sub [] (absolute job.cwd job.source) source whole.root source_found source_is
 
-  source_opened : (depth : ℕ) (state : State) → open_file mirrored (enter_file mirrored depth) is_simple [] source state ≡ open_file all (enter_file all depth) is_simple [] source state
-  source_opened depth state =
-      opens mirrored (enter_file mirrored depth) is_simple [] source state
-      ∙ ap (opened_with mirrored (enter_file mirrored depth) is_simple [] source state) same_source_body
-      ∙ ap (λ (step : Step). cond (is_simple (all.body source.real)) step (complain 0 NotBuilt (inside_of source state)))
-      (and_same (say [] (inside_of source state)) (λ after. run_pieces mirrored (enter_file mirrored depth) (pieces_of (all.body source.real)) after)
-      (λ after. run_pieces all (enter_file all depth) (pieces_of (all.body source.real)) after)
-      (λ after goes. pieces_same mirrored all depth source.place (pieces_of (all.body source.real)) agree after
-      (ap (λ (h : Here). h.place) (say_here [] (inside_of source state) after goes))))
-      ∙ sym (opens all (enter_file all depth) is_simple [] source state)
+  source_opened : OutlineHolds → (depth : ℕ) (state : State) → open_file mirrored (enter_file mirrored depth) [] source state ≡ open_file all (enter_file all depth) [] source state
+  source_opened outlines depth state =
+      opened_same outlines mirrored all (enter_file mirrored depth) (enter_file all depth) [] source state (all.body source.real) same_source_body refl
+      (λ name asked. alike_where_agree outlines mirrored all depth source.place name (agree name asked))
 
-  pub same_run : (depth : ℕ) (text : Text)
-      → prepared (and_then (λ state. open_file mirrored (enter_file mirrored depth) is_simple [] source state) (limited (first_state source)))
-      ≡ prepared (and_then (λ state. open_file all (enter_file all depth) is_simple [] source state) (limited (first_state source)))
-  same_run depth text =
-      ap prepared (and_same (limited (first_state source)) (λ state. open_file mirrored (enter_file mirrored depth) is_simple [] source state)
-      (λ state. open_file all (enter_file all depth) is_simple [] source state) (λ after goes. source_opened depth after))
+  pub same_run : OutlineHolds → (depth : ℕ)
+      → prepared (and_then (λ state. open_file mirrored (enter_file mirrored depth) [] source state) (limited (first_state source)))
+      ≡ prepared (and_then (λ state. open_file all (enter_file all depth) [] source state) (limited (first_state source)))
+  same_run outlines depth =
+      ap prepared (and_same (limited (first_state source)) (λ state. open_file mirrored (enter_file mirrored depth) [] source state)
+      (λ state. open_file all (enter_file all depth) [] source state) (λ after goes. source_opened outlines depth after))
 
 -- both sides of a job whose source is found
-from_source : (lists : ListsMakeTrees) (nodes : EntriesAreNodes) (found_in_part : IsLocatedInPart) (none_in_part : IsLocatedInNoPart) (holds : HoldsOfLocated)
-    (tree : FileTree) (job : Job) (entries : Entries) → IsTree tree → AreEntriesOf tree job entries → IsTrue (makes_tree entries) → Sub (tree_of entries) tree
+from_source : (lists : ListsMakeTrees) (nodes : EntriesAreNodes) (found_in_part : IsLocatedInPart) (none_in_part : IsLocatedInNoPart) (holds : HoldsOfLocated) → OutlineHolds
+    → (tree : FileTree) (job : Job) (entries : Entries) → IsTree tree → AreEntriesOf tree job entries → IsTrue (makes_tree entries) → Sub (tree_of entries) tree
     → (Holds NoSource tree job 0 → ⊥) → (Holds Unbuilt tree job 0 → ⊥)
     → (got : Option Located) → source_of tree job ≡ got → prep (world_of (tree_of entries)) job ≡ prep (world_of tree) job
 unfolding prep
-from_source lists nodes found_in_part none_in_part holds tree job entries whole are makes sub there built None e = absurd (there e)
-from_source lists nodes found_in_part none_in_part holds tree job entries whole are makes sub there built (Some source) e =
+from_source lists nodes found_in_part none_in_part holds outlines tree job entries whole are makes sub there built None e = absurd (there e)
+from_source lists nodes found_in_part none_in_part holds outlines tree job entries whole are makes sub there built (Some source) e =
     let built_there : is_unbuilt tree (Some source) ≡ true → ⊥ = λ unbuilt. built (ap (is_unbuilt tree) e ∙ unbuilt) in
     ap (run_job (world_of (tree_of entries)) (absolute job.cwd job.source)) (same_source lists nodes found_in_part none_in_part holds tree job entries whole are makes sub source e built_there)
-    ∙ same_run lists nodes found_in_part none_in_part holds tree job entries whole are makes sub source e built_there depth_limit (absolute job.cwd job.source)
+    ∙ same_run lists nodes found_in_part none_in_part holds tree job entries whole are makes sub source e built_there outlines depth_limit
     ∙ ap (run_job (world_of tree) (absolute job.cwd job.source)) (sym e)
 
-pub is_enough : ListsMakeTrees → EntriesAreNodes → NodesAreEntries → TestsDecide → ParentsMakeTrees → IsLocatedInPart → IsLocatedInNoPart → HoldsOfLocated → MirrorIsEnough
-is_enough lists nodes nodes_back tests made found_in_part none_in_part holds tree job entries whole are there built =
-    from_source lists nodes found_in_part none_in_part holds tree job entries whole are (makes_tree_of tests tree job entries whole are made) (part_of_whole tests tree job entries whole are nodes_back)
+pub is_enough : ListsMakeTrees → EntriesAreNodes → NodesAreEntries → TestsDecide → ParentsMakeTrees → IsLocatedInPart → IsLocatedInNoPart → HoldsOfLocated → OutlineHolds → MirrorIsEnough
+is_enough lists nodes nodes_back tests made found_in_part none_in_part holds outlines tree job entries whole are there built =
+    from_source lists nodes found_in_part none_in_part holds outlines tree job entries whole are (makes_tree_of tests tree job entries whole are made) (part_of_whole tests tree job entries whole are nodes_back)
     there built (source_of tree job) refl

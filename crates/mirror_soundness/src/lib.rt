@@ -4,6 +4,7 @@
 
 ghost use Rattle.mirror_soundness.specs.Mirror.{EntriesMakeTree, MirrorIsEnough, TouchesNodesAlone};
 
+use directive_scan::outline_holds;
 use tree_model::{
     entries_of_trees, frame_law, lists_make_trees, parents_make_trees, tests_decide, walked_law,
 };
@@ -20,4 +21,5 @@ pub fn mirror_is_enough()
     parents_make_trees();
     frame_law();
     walked_law();
+    outline_holds();
 }
