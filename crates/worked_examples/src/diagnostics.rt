@@ -44,7 +44,7 @@ fn a_source_that_is_not_built_is_not_sent(rt: HostRuntime) -> Result<(), Fail> {
     }];
     let want = Want {
         status: 1,
-        report: "job 0 diag local A8\n/w/a.c:0: error: not built\n\
+        report: "job 0 diag local A8\n/w/a.c:1: error: not built\n\
                  jobs 1 remote 0 local 1 broken 0\n",
         text: None,
         exchange: None,

@@ -106,8 +106,8 @@ pub fn gives<R: Threads + Wait + Sync + Abort>(
     Ok(())
 }
 
-// The directory `/w` and the files.
-fn entries_of(alloc: Global, files: &[Placed<'_>]) -> Result<Vec<(CanonPath, Entry)>, Fail>
+/// The directory `/w` and the files.
+pub fn entries_of(alloc: Global, files: &[Placed<'_>]) -> Result<Vec<(CanonPath, Entry)>, Fail>
     ensures { IfOk result (λ entries. IsTrue (links_fit entries.items)) }
 {
     let mut entries = vec![in alloc; (path(alloc, "/w")?, Entry::Dir)]?;
@@ -126,8 +126,8 @@ fn path(alloc: Global, text: &str) -> Result<CanonPath, Fail> {
     }
 }
 
-// Bytes as a text.
-fn shown(bytes: &[u8]) -> &str {
+/// Bytes as a text.
+pub fn shown(bytes: &[u8]) -> &str {
     std::str::from_utf8(bytes).unwrap_or("no UTF-8")
 }
 

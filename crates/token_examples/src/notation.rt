@@ -1,0 +1,67 @@
+// The lines of a body's tokens, as text.
+ghost use Rattle.std.specs.Prelude.{◌≤◌, length};
+
+use pp_tokens::{Kind, TokenRef, lex};
+use std::alloc::{AllocError, Global};
+use std::process::Abort;
+
+/// Each body, at most 16 MiB long, has these lines of tokens. A token is written as the letter of its kind, its
+/// physical line and its spelling in parentheses, behind a space where white space stands before it; each logical line
+/// ends with a newline, and `open` and a line stand at the end where a comment never ends. The letters are those of
+/// identifier, number, character, string, punctuator, header name and other.
+pub fn check(
+    rt: &impl Abort,
+    alloc: Global,
+    trigraphs: bool,
+    rows: &[(&str, &str)],
+) -> Result<(), AllocError> {
+    for (body, lines) in rows {
+        assert!(rt; body.len() <= 16777216);
+        let text = shown(alloc, body.as_bytes(), trigraphs)?;
+        assert!(rt; text.as_slice() == lines.as_bytes(), "{body:?}");
+    }
+    Ok(())
+}
+
+fn shown(alloc: Global, body: &[u8], trigraphs: bool) -> Result<Vec<u8>, AllocError>
+    requires { length body.now ≤ 16777216 }
+{
+    let lexed = lex(alloc, body, trigraphs)?;
+    let mut text = Vec::new(alloc);
+    for line in 0..lexed.line_count() {
+        for place in 0..lexed.token_count(line) {
+            if let Some(token) = lexed.token(line, place) {
+                add_token(alloc, &mut text, &token)?;
+            }
+        }
+        text.push(b'\n')?;
+    }
+    if let Some(line) = lexed.open_comment() {
+        text.extend_from_slice(format!(in alloc; "open {line}\n")?.as_bytes())?;
+    }
+    Ok(text)
+}
+
+fn add_token(alloc: Global, text: &mut Vec<u8>, token: &TokenRef<'_>) -> Result<(), AllocError> {
+    if token.space {
+        text.push(b' ')?;
+    }
+    text.push(letter(token.kind))?;
+    let line = token.line;
+    text.extend_from_slice(format!(in alloc; "{line}(")?.as_bytes())?;
+    text.extend_from_slice(token.text)?;
+    text.push(b')')?;
+    Ok(())
+}
+
+fn letter(kind: Kind) -> u8 {
+    match kind {
+        Kind::Ident => b'i',
+        Kind::Number => b'n',
+        Kind::Char => b'c',
+        Kind::Str => b's',
+        Kind::Punct => b'p',
+        Kind::Header => b'h',
+        Kind::Other => b'o',
+    }
+}

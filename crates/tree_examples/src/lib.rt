@@ -1,0 +1,15 @@
+//! Tables of cases over trees of files: paths, walks, requests, preprocessing and its analysis.
+#![tactic(auto)]
+
+#[cfg(test)]
+mod analyses;
+#[cfg(test)]
+mod files;
+#[cfg(test)]
+mod frames;
+#[cfg(test)]
+mod preprocessing;
+#[cfg(test)]
+mod trees;
+#[cfg(test)]
+mod walks;
