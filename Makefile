@@ -1,6 +1,7 @@
 # make demo     builds the program and does one job with it, on the C files of examples/hello
-# make check    the gate: all proofs, edits that must fail, tests and programs
-.PHONY: demo check
+# make check    the gate: all proofs, edits that must fail, tests and programs; then each header of the host is lexed twice
+# make bench    measures the lexer and the program against gcc: docs/PERFORMANCE.md
+.PHONY: demo check bench
 
 demo:
 	@rm -rf out/demo && mkdir -p out/demo
@@ -13,3 +14,7 @@ demo:
 
 check:
 	@sh .ci/run
+	@sh tools/check-headers.sh
+
+bench:
+	@sh tools/bench.sh

@@ -1,0 +1,19 @@
+#!/bin/sh
+# Lexes each header of the host again from its tokens. It ends with 1 where one differs or isn't read.
+cd "$(dirname "$0")/.." || exit 1
+list=out/headers
+mkdir -p out
+find /usr/include -name '*.h' -type f 2>/dev/null | LC_ALL=C sort > $list
+if ! [ -s $list ]; then
+    echo "no headers below /usr/include: nothing to lex"
+    exit 0
+fi
+if ! (cd crates/lex_program && rt run -- --version) > out/lex_program.log 2>&1; then
+    cat out/lex_program.log
+    exit 1
+fi
+tr '\n' '\0' < $list | xargs -0 crates/lex_program/out/lex_program again > out/headers.log 2>&1
+status=$?
+grep -v ' same$' out/headers.log
+echo "$(grep -c ' same$' out/headers.log) of $(wc -l < $list) headers have the same tokens again"
+[ $status -eq 0 ]
