@@ -182,13 +182,20 @@ none_holds false false true h = absurd (cc)
 none_holds false true q h = absurd (cc)
 none_holds true s q h = absurd (cc)
 
-kept_front : (trigraphs : Bool) (line b : ℕ) (bs : List ℕ) → is_kept trigraphs b ≡ true
+pub kept_front : (trigraphs : Bool) (line b : ℕ) (bs : List ℕ) → is_kept trigraphs b ≡ true
     → source_from trigraphs line (b ∷ bs) ≡ cell b line ∷ source_from trigraphs (cond (b == 10) (line + 1) line) bs
 unfolding source_from
 kept_front trigraphs line b bs kept =
     let apart = none_holds (b == 13) (b == 92) (trigraphs && (b == 63)) kept in
     ap spliced (byte_front trigraphs line b bs (ap (λ t. t && starts_with nat_eq bs (10 ∷ [])) apart.0) apart.2)
     ∙ not_backslash (cell b line) (characters trigraphs (cond (b == 10) (line + 1) line) bs) apart.1
+
+-- a backslash that no newline follows
+pub backslash_front : (trigraphs : Bool) (line : ℕ) (behind : List ℕ) → newline_length behind ≡ 0
+    → source_from trigraphs line (92 ∷ behind) ≡ cell 92 line ∷ source_from trigraphs line behind
+unfolding source_from
+backslash_front trigraphs line behind none =
+    ap spliced (byte_front trigraphs line 92 behind refl (and_fails trigraphs false refl)) ∙ stays_before trigraphs line 92 behind none
 
 pub kept_run : (trigraphs : Bool) (line : ℕ) (run rest : List ℕ) → list_all (is_kept trigraphs) run ≡ true
     → source_from trigraphs line (run ++ rest) ≡ numbered line run ++ source_from trigraphs (line_behind line run) rest

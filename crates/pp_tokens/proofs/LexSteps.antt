@@ -73,6 +73,7 @@ line_gathered text spelling line old new g e =
     let ended : List ℕ = ends ++ (length places ∷ []) in
     record {
       gathered = record { ascends = rw (e.places, e.ends) (ascends_line 0 ends (length places) g.ascends); within = rw e.places g.within };
+      few = rw e.places (omega arith);
       before = e.before;
       file = λ cells es same is.
           (let none : drop (last_end 0 ended) places ≡ [] = rw (last_of_more 0 ends (length places)) (all_dropped places) in
@@ -95,6 +96,7 @@ token_gathered text place old new g fits spaced e =
         ascends = rw (e.places, e.ends) (ascends_more 0 ends (length places) (length (places ++ (place ∷ []))) longer g.ascends);
         within = rw e.places (within_more text places place g.within fits);
       };
+      few = rw e.places (omega (arith, length-append places (place ∷ [])));
       before = e.before;
       file = λ cells es same is.
           rw (e.places, e.ends, e.unended, e.begun, e.space, same_lines text places place 0 ends g.ascends, token_more text places place (last_end 0 ends) last.1)
@@ -144,6 +146,7 @@ gap_gathered : (text spelling : List ℕ) (part : Part) (unended : Option ℕ) (
     → Gathers text old new part spelling line
 gap_gathered text spelling part unended line old new gap g e = record {
   gathered = record { ascends = rw (e.places, e.ends) g.ascends; within = rw e.places g.within };
+  few = rw e.places (omega arith);
   before = e.before ∙ gap_before part unended line old.before spelling gap;
   file = λ cells es same is. gap_file text part unended line old new gap e cells es is;
 }

@@ -28,3 +28,4 @@ mod LinedText
 mod FrontPieces
 mod SourceSteps
 mod NewlineLengths
+mod Runs

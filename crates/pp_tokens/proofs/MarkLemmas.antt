@@ -5,9 +5,9 @@ use Rattle.std.proofs.lemmas.Bool.{ne_eqb, and_left, and_parts, and_right, or_pa
 use Rattle.pp_tokens.specs.declared.token.Kind.TheVariants.{Punct, Other}
 use Rattle.pp_tokens.specs.Grammar.{is_white, is_newline, is_digit, is_identifier_start, is_identifier, is_number, number_goes_on, is_string, is_character, is_punctuator, kind_of}
 use Rattle.pp_tokens.specs.Lines.{Part, token, part_of, is_comment, is_open_comment, NoLonger, first_part}
-use Rattle.pp_tokens.specs.Text.{is_quote, begins_number, begins_comment, is_single, is_pair, is_triple, is_quadruple}
+use Rattle.pp_tokens.specs.Text.{is_quote, begins_number, begins_comment, is_single, is_pair, is_triple, is_quadruple, is_second, mark_length}
 use Rattle.pp_tokens.proofs.Reading.{stands_first}
-use Rattle.pp_tokens.proofs.Punctuators.{no_zero, single_is, pair_is, triple_is, quadruple_is, no_quintuple}
+use Rattle.pp_tokens.proofs.Punctuators.{no_zero, single_is, pair_is, triple_is, quadruple_is, no_quintuple, no_single, no_second}
 
 -- what the lexer knows of the first byte, and of the one behind it, where it looks for a punctuator
 pub record Mark (b c : ℕ) : Type 0 where
@@ -149,7 +149,7 @@ punctuator_part b c u m h = mark_part b c u m ∙ ap (λ t. cond t (Some (token 
 
 -- FROM THE LONGEST TO THE SHORTEST
 
-pub quadruple_first : (text : List ℕ) → 0 < length text → Mark (get_or text 0 0) (get_or text 1 0)
+quadruple_first : (text : List ℕ) → 0 < length text → Mark (get_or text 0 0) (get_or text 1 0)
     → is_quadruple (get_or text 0 0) (get_or text 1 0) (get_or text 2 0) (get_or text 3 0) ≡ true → first_part false text ≡ (token Punct, 4)
 quadruple_first [] some m h = absurd (omega arith)
 quadruple_first (b ∷ bs) some m h = go bs m (sym (quadruple_is b (get_or bs 0 0) (get_or bs 1 0) (get_or bs 2 0)) ∙ h)
@@ -164,7 +164,7 @@ quadruple_first (b ∷ bs) some m h = go bs m (sym (quadruple_is b (get_or bs 0 
         (record { pair = λ n. absurd (omega arith); triple = λ n. absurd (omega arith); quadruple = λ n. absurd (omega arith) })
         (punctuator_part b c (d ∷ e ∷ []) m h)
 
-pub triple_first : (text : List ℕ) → 0 < length text → Mark (get_or text 0 0) (get_or text 1 0)
+triple_first : (text : List ℕ) → 0 < length text → Mark (get_or text 0 0) (get_or text 1 0)
     → is_quadruple (get_or text 0 0) (get_or text 1 0) (get_or text 2 0) (get_or text 3 0) ≡ false
     → is_triple (get_or text 0 0) (get_or text 1 0) (get_or text 2 0) ≡ true → first_part false text ≡ (token Punct, 3)
 triple_first [] some m four h = absurd (omega arith)
@@ -179,7 +179,7 @@ triple_first (b ∷ bs) some m four h = go bs m four (sym (triple_is b (get_or b
         (record { pair = λ n. absurd (omega arith); triple = λ n. absurd (omega arith); quadruple = λ n. four })
         (punctuator_part b c (d ∷ []) m h)
 
-pub pair_first : (text : List ℕ) → 0 < length text → Mark (get_or text 0 0) (get_or text 1 0)
+pair_first : (text : List ℕ) → 0 < length text → Mark (get_or text 0 0) (get_or text 1 0)
     → is_quadruple (get_or text 0 0) (get_or text 1 0) (get_or text 2 0) (get_or text 3 0) ≡ false
     → is_triple (get_or text 0 0) (get_or text 1 0) (get_or text 2 0) ≡ false
     → is_pair (get_or text 0 0) (get_or text 1 0) ≡ true → first_part false text ≡ (token Punct, 2)
@@ -196,7 +196,7 @@ pair_first (b ∷ bs) some m four three h = go bs m four three (sym (pair_is b (
         (punctuator_part b c [] m h)
 
 -- one byte, of which no longer front is a punctuator
-pub alone_first : (text : List ℕ) → 0 < length text → Mark (get_or text 0 0) (get_or text 1 0)
+alone_first : (text : List ℕ) → 0 < length text → Mark (get_or text 0 0) (get_or text 1 0)
     → is_quadruple (get_or text 0 0) (get_or text 1 0) (get_or text 2 0) (get_or text 3 0) ≡ false
     → is_triple (get_or text 0 0) (get_or text 1 0) (get_or text 2 0) ≡ false
     → is_pair (get_or text 0 0) (get_or text 1 0) ≡ false
@@ -205,3 +205,52 @@ alone_first [] some m four three two = absurd (omega arith)
 alone_first (b ∷ bs) some m four three two =
     mark_first b [] bs (token (cond (is_single b) Punct Other)) m (record { pair = λ n. two; triple = λ n. three; quadruple = λ n. four })
     (one_mark b (get_or bs 0 0) m ∙ ap (λ t. Some (token (cond t Punct Other))) (sym (single_is b)))
+
+-- THE SHORT WAYS
+
+-- where the second byte is no punctuator's, none is longer than a byte
+pub short_mark : (a b c d : ℕ) → is_second b ≡ false → mark_length a b c d ≡ 1
+short_mark a b c d h =
+    let four : is_quadruple a b c d ≡ false = quadruple_is a b c d ∙ no_second a b (c ∷ d ∷ []) h in
+    let three : is_triple a b c ≡ false = triple_is a b c ∙ no_second a b (c ∷ []) h in
+    let two : is_pair a b ≡ false = pair_is a b ∙ no_second a b [] h in
+    rw (four, three, two) refl
+
+-- a byte that is no punctuator begins none
+pub other_first : (text : List ℕ) → 0 < length text → Mark (get_or text 0 0) (get_or text 1 0) → is_single (get_or text 0 0) ≡ false
+    → first_part false text ≡ (token Other, 1)
+other_first text some m h =
+    let a = get_or text 0 0 in
+    let b = get_or text 1 0 in
+    let c = get_or text 2 0 in
+    let d = get_or text 3 0 in
+    alone_first text some m (quadruple_is a b c d ∙ no_single a (b ∷ c ∷ d ∷ []) h) (triple_is a b c ∙ no_single a (b ∷ c ∷ []) h) (pair_is a b ∙ no_single a (b ∷ []) h)
+    ∙ ap (λ t. (token (cond t Punct Other), 1)) h
+
+pub punctuator_first : (text : List ℕ) → 0 < length text → Mark (get_or text 0 0) (get_or text 1 0) → is_single (get_or text 0 0) ≡ true
+    → first_part false text ≡ (token Punct, mark_length (get_or text 0 0) (get_or text 1 0) (get_or text 2 0) (get_or text 3 0))
+punctuator_first text some m h = by_four (is_quadruple a b c d) refl
+  where
+    a : ℕ
+    a = get_or text 0 0
+
+    b : ℕ
+    b = get_or text 1 0
+
+    c : ℕ
+    c = get_or text 2 0
+
+    d : ℕ
+    d = get_or text 3 0
+
+    by_two : (t : Bool) → is_quadruple a b c d ≡ false → is_triple a b c ≡ false → is_pair a b ≡ t → first_part false text ≡ (token Punct, mark_length a b c d)
+    by_two true four three e = pair_first text some m four three e ∙ (rw (four, three, e) refl)
+    by_two false four three e = alone_first text some m four three e ∙ (rw (four, three, e, h) refl)
+
+    by_three : (t : Bool) → is_quadruple a b c d ≡ false → is_triple a b c ≡ t → first_part false text ≡ (token Punct, mark_length a b c d)
+    by_three true four e = triple_first text some m four e ∙ (rw (four, e) refl)
+    by_three false four e = by_two (is_pair a b) four e refl
+
+    by_four : (t : Bool) → is_quadruple a b c d ≡ t → first_part false text ≡ (token Punct, mark_length a b c d)
+    by_four true e = quadruple_first text some m e ∙ (rw e refl)
+    by_four false e = by_three (is_triple a b c) e refl

@@ -6,7 +6,7 @@ use Rattle.std.proofs.lemmas.Bool.{eqb-true, and_parts, or_cases}
 use Rattle.std.proofs.lemmas.Slice.Eq.{bytes_eq-Decides}
 use Rattle.pp_tokens.specs.Grammar.{is_punctuator, punctuators}
 use Rattle.pp_tokens.specs.Plain.{is_text_mark}
-use Rattle.pp_tokens.specs.Text.{is_single, is_operator, takes_equals, is_doubled, is_mixed, is_pair, is_triple, is_quadruple}
+use Rattle.pp_tokens.specs.Text.{is_single, is_operator, takes_equals, is_doubled, is_mixed, is_pair, is_triple, is_quadruple, is_second}
 
 -- THE TABLE AND THE TESTS
 
@@ -181,3 +181,29 @@ no_quintuple a b c d e r = by_test (is_punctuator (a ∷ b ∷ c ∷ d ∷ e ∷
     by_test : (t : Bool) → is_punctuator (a ∷ b ∷ c ∷ d ∷ e ∷ r) ≡ t → t ≡ false
     by_test false h = refl
     by_test true h = absurd (let k : false ≡ true = entry_passes (a ∷ b ∷ c ∷ d ∷ e ∷ r) h in cc)
+
+-- a test that each entry passes fails for no text that is one
+fails_none : (f : List ℕ → Bool) (t : List ℕ) → list_all f punctuators ≡ true → f t ≡ false → is_punctuator t ≡ false
+unfolding is_punctuator
+fails_none f t all fails = by_test (is_punctuator t) refl
+  where
+    by_test : (b : Bool) → is_punctuator t ≡ b → b ≡ false
+    by_test false h = refl
+    by_test true h = absurd (let k : false ≡ true = sym fails ∙ of_table f t punctuators all h in cc)
+
+-- the first byte of each is one
+abbrev begins : List ℕ → Bool
+begins [] = false
+begins (a ∷ r) = is_single a
+
+-- the second byte of each that has one
+abbrev goes_on : List ℕ → Bool
+goes_on [] = true
+goes_on (a ∷ []) = true
+goes_on (a ∷ b ∷ r) = is_second b
+
+pub no_single : (a : ℕ) (r : List ℕ) → is_single a ≡ false → is_punctuator (a ∷ r) ≡ false
+no_single a r h = fails_none begins (a ∷ r) refl h
+
+pub no_second : (a b : ℕ) (r : List ℕ) → is_second b ≡ false → is_punctuator (a ∷ b ∷ r) ≡ false
+no_second a b r h = fails_none goes_on (a ∷ b ∷ r) refl h

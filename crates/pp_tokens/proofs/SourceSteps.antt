@@ -1,15 +1,14 @@
 -- The reading of a body up to a place: its text and splices so far, and what is left of it.
 use Rattle.std.specs.Prelude.{◌≡◌, ℕ, ◌+◌, ◌≤◌, ◌<◌, Bool, true, false, cond, List, [], ◌∷◌, ◌++◌, length, take, drop, refl, ◌==◌}
-use Rattle.std.specs.List.{list_all}
 use Rattle.std.proofs.Common.{sym, ◌∙◌, ap, append_assoc, subst, arith}
-use Rattle.std.proofs.lemmas.List.{append-nil, length-append, drop-append-le, drop-drop, drop_all, take-append-drop}
+use Rattle.std.proofs.lemmas.List.{append-nil, length-append, drop-append-le, drop-drop, drop_all, take-append-drop, take-append-le}
 use Rattle.pp_tokens.specs.declared.source.Piece.TheVariants.{Byte, Splice}
 use Rattle.pp_tokens.specs.Phases.{Cell, cell, ended, with_newlines, numbered, without_trigraphs, spliced, source_text}
 use Rattle.pp_tokens.specs.Lined.{lined}
 use Rattle.pp_tokens.specs.Seen.{Ascends}
-use Rattle.pp_tokens.specs.Pieces.{characters, source_from, is_kept, line_behind, IsFront}
+use Rattle.pp_tokens.specs.Pieces.{characters, source_from, line_behind, IsRun, IsFront}
 use Rattle.pp_tokens.proofs.LinedText.{line_behind-append, line_behind-add, next_line, lined_more, lined_splice}
-use Rattle.pp_tokens.proofs.FrontPieces.{kept_run, source_end}
+use Rattle.pp_tokens.proofs.FrontPieces.{source_end}
 
 -- the line on which the next byte stands
 abbrev pub line_now : List ℕ → List ℕ → ℕ
@@ -23,14 +22,15 @@ pub source_start : (trigraphs : Bool) (body lines : List ℕ) → ended body ≡
 unfolding source_text source_from characters lined line_behind
 source_start trigraphs body lines is = record { whole = ap (source_from trigraphs 1) (sym is) }
 
-pub source_run : (trigraphs : Bool) (body text splices run rest : List ℕ) → Ascends 0 splices (length text) → list_all (is_kept trigraphs) run ≡ true
+pub source_run : (trigraphs : Bool) (body text splices run rest : List ℕ) → Ascends 0 splices (length text)
+    → ((line : ℕ) → source_from trigraphs line (run ++ rest) ≡ numbered line run ++ source_from trigraphs (line_behind line run) rest)
     → SourceState trigraphs body text splices (run ++ rest) → SourceState trigraphs body (text ++ run) splices rest
-source_run trigraphs body text splices run rest ascends kept state =
+source_run trigraphs body text splices run rest ascends stays state =
     let line = line_now text splices in
     let further : line_behind line run ≡ line_now (text ++ run) splices =
     line_behind-add (line_behind 1 text) (length splices) run ∙ ap (λ n. n + length splices) (sym (line_behind-append 1 text run)) in
     let front : source_from trigraphs line (run ++ rest) ≡ numbered line run ++ source_from trigraphs (line_now (text ++ run) splices) rest =
-    kept_run trigraphs line run rest kept ∙ ap (λ n. numbered line run ++ source_from trigraphs n rest) further in
+    stays line ∙ ap (λ n. numbered line run ++ source_from trigraphs n rest) further in
     record {
       whole = ap (λ (cs : List Cell). cs ++ source_from trigraphs (line_now (text ++ run) splices) rest) (lined_more splices text run ascends)
           ∙ append_assoc (lined splices 0 1 text) (numbered line run) (source_from trigraphs (line_now (text ++ run) splices) rest)
@@ -78,15 +78,17 @@ empty_source trigraphs (b ∷ bs) none = absurd (omega arith)
 -- PLACES IN THE LINES, BEHIND WHICH THE LAST NEWLINE STANDS
 
 -- a run of bytes at a place
-pub source_run_at : (trigraphs : Bool) (body text splices lines rest kept behind : List ℕ) (at run : ℕ) → at ≤ length lines → rest ≡ drop at lines
-    → kept ≡ take run rest → behind ≡ drop run rest → Ascends 0 splices (length text) → list_all (is_kept trigraphs) (take run rest) ≡ true
+pub source_run_at : (trigraphs : Bool) (body text splices lines rest kept behind : List ℕ) (at run : ℕ) → at ≤ length lines → rest ≡ drop at lines → run ≤ length rest
+    → kept ≡ take run rest → behind ≡ drop run rest → Ascends 0 splices (length text) → IsRun trigraphs (rest ++ (10 ∷ [])) run
     → SourceState trigraphs body text splices (drop at (lines ++ (10 ∷ []))) → SourceState trigraphs body (text ++ kept) splices (behind ++ (10 ∷ []))
-source_run_at trigraphs body text splices lines rest kept behind at run within is front back ascends all state =
-    let cut : drop at (lines ++ (10 ∷ [])) ≡ kept ++ (behind ++ (10 ∷ [])) =
-    drop-append-le at lines (10 ∷ []) within ∙ ap (λ (l : List ℕ). l ++ (10 ∷ [])) (sym is ∙ sym (take-append-drop run rest) ∙ (λ i. sym front i ++ sym back i))
-    ∙ append_assoc kept behind (10 ∷ []) in
-    source_run trigraphs body text splices kept (behind ++ (10 ∷ [])) ascends (ap (list_all (is_kept trigraphs)) front ∙ all)
-    (subst (SourceState trigraphs body text splices) cut state)
+source_run_at trigraphs body text splices lines rest kept behind at run within is fits front back ascends stays state =
+    let left : drop at (lines ++ (10 ∷ [])) ≡ rest ++ (10 ∷ []) = drop-append-le at lines (10 ∷ []) within ∙ ap (λ (l : List ℕ). l ++ (10 ∷ [])) (sym is) in
+    let first : take run (rest ++ (10 ∷ [])) ≡ kept = take-append-le run rest (10 ∷ []) fits ∙ sym front in
+    let last : drop run (rest ++ (10 ∷ [])) ≡ behind ++ (10 ∷ []) = drop-append-le run rest (10 ∷ []) fits ∙ ap (λ (l : List ℕ). l ++ (10 ∷ [])) (sym back) in
+    let cut : rest ++ (10 ∷ []) ≡ kept ++ (behind ++ (10 ∷ [])) = sym (take-append-drop run (rest ++ (10 ∷ []))) ∙ (λ i. first i ++ last i) in
+    source_run trigraphs body text splices kept (behind ++ (10 ∷ [])) ascends
+    (λ line. ap (source_from trigraphs line) (sym cut) ∙ stays line ∙ (λ i. numbered line (first i) ++ source_from trigraphs (line_behind line (first i)) (last i)))
+    (subst (SourceState trigraphs body text splices) (left ∙ cut) state)
 
 -- what is left behind a run and a piece
 pub rest_behind : (lines rest behind : List ℕ) (at run n : ℕ) → at ≤ length lines → rest ≡ drop at lines → run ≤ length rest → behind ≡ drop run rest

@@ -1,6 +1,6 @@
 -- What the lexer has gathered of a text so far, and the file that comes of it with what is left. No public contract rests on
 -- these.
-use Rattle.std.specs.Prelude.{◌≡◌, ℕ, Bool, true, false, cond, List, [], ◌∷◌, ◌++◌, map, length, drop, Option, Some, None, ◌==◌, ◌⊎◌}
+use Rattle.std.specs.Prelude.{◌≡◌, ℕ, ◌+◌, ◌≤◌, Bool, true, false, cond, List, [], ◌∷◌, ◌++◌, map, length, drop, Option, Some, None, ◌==◌, ◌⊎◌}
 use Rattle.std.specs.List.{count_by}
 use Rattle.pp_tokens.specs.declared.token.Token.{Token}
 use Rattle.pp_tokens.specs.declared.token.Kind.TheVariants.{Header}
@@ -110,6 +110,7 @@ before_with (token k) before spelling = after_word before spelling
 -- one part more is gathered: whatever is left, it is the same file
 pub record Gathers (text : List ℕ) (old new : Gathering) (part : Part) (spelling : List ℕ) (line : ℕ) : Type 0 where
   pub gathered : IsGathered text new
+  pub few : length new.places.items ≤ length old.places.items + 1
   pub before : new.before ≡ before_with part old.before spelling
   pub file : (cells : List Cell) (es : List Element) → bytes cells ≡ spelling → line_of cells ≡ line
       → file_with text new es ≡ file_with text old (record { part = part; cells = cells } ∷ es)

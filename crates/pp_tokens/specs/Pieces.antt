@@ -1,6 +1,6 @@
 -- What the reading of translation phases 1 and 2 tells of the rest of a body (ISO C 5.1.1.2). No public contract rests on
 -- these. The rest ends with the newline that ends the body, whether it stands there or is added.
-use Rattle.std.specs.Prelude.{◌≡◌, ℕ, ◌+◌, Bool, not, ◌&&◌, ◌||◌, List, [], ◌∷◌, drop, if◌then◌else◌, ◌==◌, nat_eq, get_or, Option, None, Some}
+use Rattle.std.specs.Prelude.{◌≡◌, ℕ, ◌+◌, Bool, not, ◌&&◌, ◌||◌, List, [], ◌∷◌, ◌++◌, take, drop, if◌then◌else◌, ◌==◌, nat_eq, get_or, Option, None, Some}
 use Rattle.std.specs.List.{starts_with}
 use Rattle.pp_tokens.specs.declared.source.Piece.{Piece}
 use Rattle.pp_tokens.specs.declared.source.Piece.TheVariants.{Byte, Splice}
@@ -45,6 +45,12 @@ is_kept trigraphs b = not ((b == 13) || ((b == 92) || (trigraphs && (b == 63))))
 unfoldable pub line_behind : ℕ → List ℕ → ℕ
 line_behind line [] = line
 line_behind line (b ∷ bs) = line_behind (if b == 10 then line + 1 else line) bs
+
+-- the first bytes of the rest, as many as this, stay as they are, on whichever line they begin
+abbrev pub IsRun : Bool → List ℕ → ℕ → Type 0
+IsRun trigraphs rest n =
+    (line : ℕ) → source_from trigraphs line rest
+    ≡ numbered line (take n rest) ++ source_from trigraphs (line_behind line (take n rest)) (drop n rest)
 
 -- The first bytes of the rest, as many as this, give the one byte, or are a splice.
 abbrev pub IsFront : Bool → ℕ → List ℕ → Piece → ℕ → Type 0

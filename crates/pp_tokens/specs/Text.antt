@@ -101,6 +101,16 @@ is_triple a b c =
 abbrev pub is_quadruple : ℕ → ℕ → ℕ → ℕ → Bool
 is_quadruple a b c d = (a == 37) && ((b == 58) && ((c == 37) && (d == 58)))
 
+-- a byte that some punctuator has second (6.4.6)
+abbrev pub is_second : ℕ → Bool
+is_second b = is_doubled b || list_any (λ m. b == m) (codes "=#:%.")
+
+-- how many bytes the longest punctuator has that begins with the first byte and goes on with the others; 1 where none goes
+-- on (6.4.6)
+abbrev pub mark_length : ℕ → ℕ → ℕ → ℕ → ℕ
+mark_length a b c d =
+    if is_quadruple a b c d then 4 else (if is_triple a b c then 3 else (if is_pair a b then 2 else 1))
+
 -- no line ends within the text
 abbrev pub no_newline : List ℕ → Bool
 no_newline = list_all (λ b. not (b == 10))

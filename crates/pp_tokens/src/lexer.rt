@@ -32,7 +32,7 @@ struct Place {
 pub struct Lexed {
     text: Vec<u8>,
     places: Vec<Place>,
-    ends: Vec<usize>,
+    ends: Vec<u32>,
     unended: Option<u32>,
 }
 
@@ -63,7 +63,7 @@ fn stretch(text: &[u8], at: usize, size: usize) -> &[u8]
 #[derive(Drop)]
 struct Gathering {
     places: Vec<Place>,
-    ends: Vec<usize>,
+    ends: Vec<u32>,
     unended: Option<u32>,
     before: Before,
     begun: bool,
@@ -85,9 +85,10 @@ impl Gathering {
     }
 
     fn end_line(&mut self) -> Result<(), AllocError>
+        requires { length self.old.places.items ≤ 16777217 }
         ensures { IfOk result (λ u. EndsLine self.old self.new) }
     {
-        self.ends.push(self.places.len())?;
+        self.ends.push(self.places.len() as u32)?;
         self.before = Before::Nothing;
         self.begun = false;
         self.space = true;
@@ -126,6 +127,7 @@ impl Gathering {
     ) -> Result<(), AllocError>
         requires small { length text.now ≤ 16777217 }
         requires within { at + size ≤ length text.now }
+        requires few { length self.old.places.items ≤ at }
         requires gathered { IsGathered text.now self.old }
         ensures { IfOk result (λ u. Gathers text.now self.old self.new (part_told what) (take size (drop at text.now)) line) }
     {
@@ -154,6 +156,7 @@ impl Gathering {
 
     // The last line needs no newline.
     fn end_last_line(&mut self) -> Result<(), AllocError>
+        requires { length self.old.places.items ≤ 16777217 }
         ensures { IfOk result (λ u. EndsLastLine self.old self.new) }
     {
         if self.begun { self.end_line() } else { Ok(()) }
@@ -231,11 +234,15 @@ pub fn lex(alloc: Global, body: &[u8], trigraphs: bool) -> Result<Lexed, AllocEr
 }
 
 // The number of the first place of a line.
-fn line_start(ends: &[usize], line: usize) -> usize
+fn line_start(ends: &[u32], line: usize) -> usize
     requires { line ≤ length ends.now }
     ensures { result ≡ get_or (0 ∷ ends.now) line 0 }
 {
-    if line == 0 { 0 } else { ends[line - 1] }
+    if line == 0 {
+        0
+    } else {
+        ends[line - 1] as usize
+    }
 }
 
 impl Lexed {
@@ -251,7 +258,7 @@ impl Lexed {
         ensures { result ≡ option_map_or length (slice_get self.now.lines line) 0 }
     {
         if line < self.ends.len() {
-            self.ends[line] - line_start(&self.ends, line)
+            self.ends[line] as usize - line_start(&self.ends, line)
         } else {
             0
         }
@@ -265,7 +272,7 @@ impl Lexed {
             return None;
         }
         let start = line_start(&self.ends, line);
-        if self.ends[line] - start <= place {
+        if self.ends[line] as usize - start <= place {
             return None;
         }
         let p = self.places[start + place];

@@ -2,7 +2,7 @@
 ghost use Rattle.std.specs.Prelude.{◌≡◌, ◌≤◌, ◌<◌, [], ◌∷◌, true, false, ◌&&◌, ◌||◌, ◌==◌, length, get_or};
 ghost use Rattle.pp_tokens.specs.Grammar.{is_digit, is_identifier_byte, is_identifier_start, is_white, is_newline, is_punctuator, continues_number, number_length};
 ghost use Rattle.pp_tokens.specs.Lines.{Part, first_part};
-ghost use Rattle.pp_tokens.specs.Text.{part_told, is_quote, begins_number, begins_comment, is_single, is_operator, takes_equals, is_doubled, is_mixed, is_pair, is_triple, is_quadruple};
+ghost use Rattle.pp_tokens.specs.Text.{part_told, is_quote, begins_number, begins_comment, is_single, is_operator, takes_equals, is_doubled, is_mixed, is_pair, is_triple, is_quadruple, is_second, mark_length};
 
 use crate::part::{What, is_digit, is_identifier_byte, is_text_mark};
 use crate::token::Kind;
@@ -111,8 +111,48 @@ fn is_quadruple(a: u8, b: u8, c: u8, d: u8) -> bool
     a == b'%' && b == b':' && c == b'%' && d == b':'
 }
 
+// Whether a byte is the second of a punctuator.
+fn is_second(b: u8) -> bool
+    ensures { result ≡ is_second b }
+{
+    is_doubled(b) || b == b'=' || b == b'#' || b == b':' || b == b'%' || b == b'.'
+}
+
+// How many bytes the longest punctuator at the front has; 1 where none has more.
+fn longest_mark(rest: &[u8]) -> usize
+    requires { 0 < length rest.now }
+    ensures { result ≡ mark_length (get_or rest.now 0 0) (get_or rest.now 1 0) (get_or rest.now 2 0) (get_or rest.now 3 0) }
+{
+    let a = rest[0];
+    let b = byte_at(rest, 1);
+    let c = byte_at(rest, 2);
+    if is_quadruple(a, b, c, byte_at(rest, 3)) {
+        4
+    } else if is_triple(a, b, c) {
+        3
+    } else if is_pair(a, b) {
+        2
+    } else {
+        1
+    }
+}
+
+// The same, where the byte behind the first mostly ends it.
+#[inline(always)]
+fn mark_length(rest: &[u8]) -> usize
+    requires { 0 < length rest.now }
+    ensures { result ≡ mark_length (get_or rest.now 0 0) (get_or rest.now 1 0) (get_or rest.now 2 0) (get_or rest.now 3 0) }
+{
+    if is_second(byte_at(rest, 1)) {
+        longest_mark(rest)
+    } else {
+        1
+    }
+}
+
 /// What begins with a byte that is no white space and no newline, and begins no identifier, literal, number or
-/// comment: the longest punctuator, or the byte alone.
+/// comment: the longest punctuator, or where the byte is none, that alone.
+#[inline(always)]
 pub fn mark_part(rest: &[u8]) -> (What, usize)
     requires some { 0 < length rest.now }
     requires white { is_white (get_or rest.now 0 0) ≡ false }
@@ -123,17 +163,8 @@ pub fn mark_part(rest: &[u8]) -> (What, usize)
     requires comment { begins_comment (get_or rest.now 0 0) (get_or rest.now 1 0) ≡ false }
     ensures { (part_told result.0, result.1) ≡ first_part false rest.now }
 {
-    let a = rest[0];
-    let b = byte_at(rest, 1);
-    let c = byte_at(rest, 2);
-    if is_quadruple(a, b, c, byte_at(rest, 3)) {
-        (What::Token(Kind::Punct), 4)
-    } else if is_triple(a, b, c) {
-        (What::Token(Kind::Punct), 3)
-    } else if is_pair(a, b) {
-        (What::Token(Kind::Punct), 2)
-    } else if is_single(a) {
-        (What::Token(Kind::Punct), 1)
+    if is_single(rest[0]) {
+        (What::Token(Kind::Punct), mark_length(rest))
     } else {
         (What::Token(Kind::Other), 1)
     }

@@ -1,7 +1,8 @@
 // What stands first in a text (ISO C 6.4), and how long it is.
-ghost use Rattle.std.specs.Prelude.{◌≡◌, ◌≤◌, ◌<◌, ◌⊎◌, true, false, drop, get_or, length, take_while, not, ◌==◌};
+ghost use Rattle.std.specs.Prelude.{◌≡◌, ◌≤◌, ◌<◌, ℕ, true, false, None, IfSome, drop, get_or, length, take_while, not, ◌==◌};
+ghost use Rattle.pp_tokens.specs.declared.token.Kind.TheVariants.{Header};
 ghost use Rattle.pp_tokens.specs.Grammar.{is_digit, is_identifier_byte, is_identifier_start, is_white};
-ghost use Rattle.pp_tokens.specs.Lines.{first_part};
+ghost use Rattle.pp_tokens.specs.Lines.{Part, token, first_part};
 ghost use Rattle.pp_tokens.specs.Plain.{is_text_mark};
 ghost use Rattle.pp_tokens.specs.Text.{part_told, is_quote, opens_header, begins_number};
 ghost use Rattle.pp_tokens.specs.Unpaired.{KnowsUnpaired};
@@ -129,44 +130,32 @@ fn other_part(text: &[u8], at: usize, unpaired: &mut Unpaired) -> (What, usize)
     }
 }
 
-// What stands first where a header name is due and one of its delimiters stands.
-fn delimited_part(text: &[u8], at: usize, unpaired: &mut Unpaired) -> (What, usize)
+// The length of the header name that stands first from a place on; None where none is due or begins there.
+#[inline(always)]
+fn header_length(text: &[u8], at: usize, due: bool, unpaired: &mut Unpaired) -> Option<usize>
     requires at { at < length text.now }
     requires known { KnowsUnpaired unpaired.old text.now at }
-    requires delimiter { opens_header (get_or text.now at 0) ≡ true }
-    ensures part { (part_told result.0, result.1) ≡ first_part true (drop at text.now) }
+    ensures header { IfSome result (λ n. ◌≡◌ {A = Part × ℕ} (first_part due (drop at text.now)) (token Header, n)) }
+    ensures other { result ≡ None → first_part due (drop at text.now) ≡ first_part false (drop at text.now) }
     ensures known { KnowsUnpaired unpaired.new text.now at }
 {
-    match header_at(text, at, unpaired) {
-        Some(length) => (What::Token(Kind::Header), length),
-        None => other_part(text, at, unpaired),
-    }
-}
-
-// What stands first where a header name is due.
-fn due_part(text: &[u8], at: usize, unpaired: &mut Unpaired) -> (What, usize)
-    requires at { at < length text.now }
-    requires known { KnowsUnpaired unpaired.old text.now at }
-    ensures part { (part_told result.0, result.1) ≡ first_part true (drop at text.now) }
-    ensures known { KnowsUnpaired unpaired.new text.now at }
-{
-    if opens_header(text[at]) {
-        delimited_part(text, at, unpaired)
+    if due && opens_header(text[at]) {
+        header_at(text, at, unpaired)
     } else {
-        other_part(text, at, unpaired)
+        None
     }
 }
 
 /// What stands first in a text from a place on, and how long it is. A header name is read only where one is due.
+#[inline(always)]
 pub fn next_part(text: &[u8], at: usize, due: bool, unpaired: &mut Unpaired) -> (What, usize)
     requires at { at < length text.now }
     requires known { KnowsUnpaired unpaired.old text.now at }
     ensures part { (part_told result.0, result.1) ≡ first_part due (drop at text.now) }
     ensures known { KnowsUnpaired unpaired.new text.now at }
 {
-    if due {
-        due_part(text, at, unpaired)
-    } else {
-        other_part(text, at, unpaired)
+    match header_length(text, at, due, unpaired) {
+        Some(length) => (What::Token(Kind::Header), length),
+        None => other_part(text, at, unpaired),
     }
 }

@@ -53,6 +53,23 @@ fn delimiter_length(delimiter: u8, bytes: &[u8]) -> Option<usize>
 }
 
 // The same behind the quote at a place. Where it has no partner, the bound goes up to the end of the line.
+fn find_closing(text: &[u8], at: usize, bound: &mut usize) -> Option<usize>
+    requires at { at < length text.now }
+    requires known { NonePairs (closing_length (get_or text.now at 0) false) (get_or text.now at 0) text.now at bound.old }
+    ensures partner { result ≡ closing_length (get_or text.now at 0) false (drop (at + 1) text.now) }
+    ensures within { IfSome result (λ n. at + 1 + n ≤ length text.now) }
+    ensures known { NonePairs (closing_length (get_or text.now at 0) false) (get_or text.now at 0) text.now at bound.new }
+{
+    let (_, behind) = text.split_at(at + 1);
+    if let Some(length) = closing_length(text[at], behind) {
+        return Some(length);
+    }
+    *bound = at + 1 + line_length(behind);
+    None
+}
+
+// The same, without a search where the quote is known to have no partner.
+#[inline(always)]
 fn closing_at(text: &[u8], at: usize, bound: &mut usize) -> Option<usize>
     requires at { at < length text.now }
     requires known { NonePairs (closing_length (get_or text.now at 0) false) (get_or text.now at 0) text.now at bound.old }
@@ -61,14 +78,10 @@ fn closing_at(text: &[u8], at: usize, bound: &mut usize) -> Option<usize>
     ensures known { NonePairs (closing_length (get_or text.now at 0) false) (get_or text.now at 0) text.now at bound.new }
 {
     if at < *bound {
-        return None;
+        None
+    } else {
+        find_closing(text, at, bound)
     }
-    let (_, behind) = text.split_at(at + 1);
-    if let Some(length) = closing_length(text[at], behind) {
-        return Some(length);
-    }
-    *bound = at + 1 + line_length(behind);
-    None
 }
 
 // The same behind the delimiter at a place.
@@ -91,6 +104,7 @@ fn delimiter_at(delimiter: u8, text: &[u8], at: usize, bound: &mut usize) -> Opt
 }
 
 // What closes the quote at a place, with the bound of its kind.
+#[inline(always)]
 fn partner_at(text: &[u8], at: usize, unpaired: &mut Unpaired) -> Option<usize>
     requires at { at < length text.now }
     requires quote { is_quote (get_or text.now at 0) ≡ true }

@@ -1,10 +1,10 @@
 // Translation phases 1 and 2 (ISO C 5.1.1.2): newlines, trigraphs and spliced lines.
-ghost use Rattle.std.specs.Prelude.{◌≡◌, ℕ, ◌+◌, ◌≤◌, ◌<◌, ◌∷◌, ◌++◌, [], length, take, not, true, IfOk, IsSome};
+ghost use Rattle.std.specs.Prelude.{◌≡◌, ℕ, ◌+◌, ◌≤◌, ◌<◌, ◌∷◌, ◌++◌, [], length, take, drop, not, true, IfOk, IsSome};
 ghost use Rattle.std.specs.List.{list_all};
 ghost use Rattle.memchr.specs.Find.{IsFirstByte};
 ghost use Rattle.pp_tokens.specs.Lined.{lined, Rising};
 ghost use Rattle.pp_tokens.specs.Phases.{ended, trigraph, source_text};
-ghost use Rattle.pp_tokens.specs.Pieces.{newline_length, front_trigraph, front_character, is_kept, IsFront};
+ghost use Rattle.pp_tokens.specs.Pieces.{newline_length, front_trigraph, front_character, is_kept, IsRun, IsFront};
 
 use memchr::{memchr2, memchr3};
 use std::alloc::{AllocError, Global};
@@ -47,8 +47,44 @@ fn find_special(rest: &[u8], trigraphs: bool) -> Option<usize>
     }
 }
 
-// How many bytes at the front are sure to be bytes of the text.
-fn run_length(rest: &[u8], trigraphs: bool) -> usize
+// Whether phases 1 and 2 leave a byte as it is, whatever stands behind it.
+fn is_kept(b: u8, trigraphs: bool) -> bool
+    ensures { result ≡ is_kept trigraphs b }
+{
+    !(b == b'\r' || b == b'\\' || (trigraphs && b == b'?'))
+}
+
+// Whether the byte at a place is sure to be a byte of the text: one that always is, or a backslash that no newline follows.
+fn stays(bytes: &[u8], at: usize, trigraphs: bool) -> bool
+    requires { at < length bytes.now }
+    ensures { result ≡ true → IsRun trigraphs (drop at bytes.now ++ (10 ∷ [])) 1 }
+{
+    if is_kept(bytes[at], trigraphs) {
+        return true;
+    }
+    if bytes[at] != b'\\' || at + 1 == bytes.len() {
+        return false;
+    }
+    let next = bytes[at + 1];
+    next != b'\n' && next != b'\r'
+}
+
+// How many bytes at the front are sure to be bytes of the text, of at most so many, looked at one after another.
+fn short_run(rest: &[u8], bound: usize, trigraphs: bool) -> usize
+    requires { bound ≤ length rest.now }
+    ensures within { result ≤ bound }
+    ensures run { IsRun trigraphs (rest.now ++ (10 ∷ [])) result }
+{
+    for at in 0..bound {
+        if !stays(rest, at, trigraphs) {
+            return at;
+        }
+    }
+    bound
+}
+
+// The same, by a search.
+fn long_run(rest: &[u8], trigraphs: bool) -> usize
     ensures within { result ≤ length rest.now }
     ensures kept { list_all (is_kept trigraphs) (take result rest.now) ≡ true }
 {
@@ -56,6 +92,20 @@ fn run_length(rest: &[u8], trigraphs: bool) -> usize
         Some(length) => length,
         None => rest.len(),
     }
+}
+
+// How many bytes at the front are sure to be bytes of the text. The start of a search costs more than a look at a few bytes.
+fn run_length(rest: &[u8], trigraphs: bool) -> usize
+    ensures within { result ≤ length rest.now }
+    ensures run { IsRun trigraphs (rest.now ++ (10 ∷ [])) result }
+{
+    let bound = rest.len().min(16);
+    let run = short_run(rest, bound, trigraphs);
+    if run < bound {
+        return run;
+    }
+    let (_, far) = rest.split_at(run);
+    run + long_run(far, trigraphs)
 }
 
 // How many bytes the newline at the front has. The one that ends the body stands behind the rest.

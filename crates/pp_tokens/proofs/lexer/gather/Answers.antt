@@ -17,6 +17,7 @@ loop-at-init c = record {
   counted = omega arith;
   passes = omega arith;
   known = c.new-unpaired.ensures c.args.text.now 0;
+  few = rw c.new-gathering.ensures.places (omega arith);
   gathered = nothing_gathered c.args.text.now c.new-gathering.result c.new-gathering.ensures;
   state = lex_start c.args.text.now c.args.splices.now c.new-gathering.result c.new-gathering.ensures;
 }
@@ -80,6 +81,7 @@ loop-at-preserved c =
       counted = omega (arith, c.loop-at.invariant.counted, passed, few);
       passes = omega (arith, c.splices_passed-passed.ensures, up_to_later splices at n);
       known = known_later c.next_part-what.new.unpaired text at n c.next_part-what.ensures.known;
+      few = omega (arith, c.loop-at.invariant.few, step.few, size.0);
       gathered = step.gathered;
       state = rw passed
           (lex_step text splices c.loop-at.gathering c.add.new.self at c.loop-at.base n part c.loop-at.invariant.state c.loop-at-test.true first step);

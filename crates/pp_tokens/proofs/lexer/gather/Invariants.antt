@@ -11,6 +11,7 @@ invariant-loop-at l = record {
   counted : l.base ≤ l.at + 1;
   passes : l.passed ≤ spliced_up_to l.splices l.at;
   known : KnowsUnpaired l.unpaired l.text l.at;
+  few : length l.gathering.places.items ≤ l.at;
   gathered : IsGathered l.text l.gathering;
   state : LexState l.text l.splices l.gathering l.at l.base;
 }

@@ -56,8 +56,8 @@ loop-at-preserved c =
     let is : rest ≡ drop at lines = c.split_at.ensures.back in
     let back : behind ≡ drop run rest = c.split_at-in-loop-at.ensures.back in
     let state : SourceState trigraphs body (text ++ kept) splices (behind ++ (10 ∷ [])) =
-    source_run_at trigraphs body text splices lines rest kept behind at run c.loop-at-test.true is c.split_at-in-loop-at.ensures.front back
-    c.loop-at.invariant.ascends c.run_length-run.ensures.kept c.loop-at.invariant.state in
+    source_run_at trigraphs body text splices lines rest kept behind at run c.loop-at-test.true is c.run_length-run.ensures.within c.split_at-in-loop-at.ensures.front back
+    c.loop-at.invariant.ascends c.run_length-run.ensures.run c.loop-at.invariant.state in
     let size : length (text ++ kept) ≡ length text + length kept = length-append text kept in
     let ascends : Ascends 0 splices (length (text ++ kept)) = ascends_more 0 splices (length text) (length (text ++ kept)) (omega arith) c.loop-at.invariant.ascends in
     let front : IsFront trigraphs (line_now (text ++ kept) splices) (behind ++ (10 ∷ [])) c.front_piece-piece.result.0 n =
