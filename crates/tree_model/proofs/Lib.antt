@@ -10,6 +10,7 @@
 --     WalkNodes      walks in a tree stand at nodes
 --     WalkLeads      a located file is one, and its place leads to it
 --     CutLemmas      components of texts that are cut at a `/`
+--     RememberedLemmas answers that are remembered, after one more
 --     StepLemmas     each step of a program goes on as the walk does
 --     WalkExamples   worked walks
 pub mod PathLemmas
@@ -24,4 +25,5 @@ pub mod WalkNodes
 pub mod WalkLeads
 pub mod CutLemmas
 pub mod StepLemmas
+pub mod RememberedLemmas
 mod WalkExamples

@@ -83,6 +83,10 @@ child-is : (b : Bool) (path other : Path) → Some path ≡ (if b then (Some oth
 child-is true path other e = cc
 child-is false path other e = absurd (cc)
 
+-- a child's parent is the directory
+pub child_parent : (dir : Path) (name : Text) (path : Path) → Some path ≡ child_of dir name → parent path ≡ dir
+child_parent dir name path e = ap parent (child-is (is_canonical (name ∷ dir)) path (name ∷ dir) e)
+
 no_child : (b : Bool) (other : Path) → None ≡ (if b then (Some other) else None) → b ≡ false
 no_child true other e = absurd (cc)
 no_child false other e = refl
@@ -325,10 +329,9 @@ from_elsewhere look dir text list noted how list_is h goes =
     either false = refl
 
 -- a walk from where a text begins
-pub begun : (look : Look) (dir : Path) (text : Text) (list : List Text) (nodes noted : List Path) (begin copied : Path) (left : Walked)
-    → nodes ≡ first_nodes dir text → copied ≡ dir → begin ≡ start copied text
+pub begun : (look : Look) (dir : Path) (text : Text) (list : List Text) (nodes noted : List Path) (begin : Path) (left : Walked)
+    → nodes ≡ first_nodes dir text → begin ≡ start dir text
     → GoesOn nodes (walk look 40 begin list) noted left → GoesOn (first_nodes dir text) (walk look 40 (start dir text) list) noted left
-begun look dir text list nodes noted begin copied left n c b h =
-    let e : begin ≡ start dir text = b ∙ ap (λ d. start d text) c in
-    subst (λ (at : Path). GoesOn (first_nodes dir text) (walk look 40 at list) noted left) e
+begun look dir text list nodes noted begin left n b h =
+    subst (λ (at : Path). GoesOn (first_nodes dir text) (walk look 40 at list) noted left) b
     (subst (λ nodes. GoesOn nodes (walk look 40 begin list) noted left) n h)

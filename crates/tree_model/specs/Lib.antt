@@ -2,6 +2,7 @@
 --     Paths      canonical paths and their spelling
 --     Entries    lists of nodes in order of their paths' spellings
 --     Trees      a tree: a finite map from paths to nodes
+--     Remembered the nodes that a tree remembers of another
 --     Laws       laws of paths and trees
 --     Walk       walks through a tree, and the files that texts locate
 --     Frame      laws of walks
@@ -9,6 +10,7 @@
 pub mod Paths
 pub mod Entries
 pub mod Trees
+pub mod Remembered
 pub mod Laws
 pub mod Walk
 pub mod Frame

@@ -1,7 +1,8 @@
 -- Canonical paths.
 use Rattle.std.specs.Prelude.{◌≡◌, ◌⊎◌, ℕ, ◌≤◌, List, [], ◌∷◌, ◌++◌, length, reverse, filter, nat_lt, nat_le, nat_eq, ◌==◌, Bool, not, ◌&&◌, ◌||◌, if◌then◌else◌, Option, Some, None}
 use Rattle.std.specs.List.{slice_split, AllByRecursion, list_all}
-use lib.Pointwise.{pointwise}
+use Rattle.std.specs.Bool.{Decides}
+use lib.Pointwise.{pointwise, pointwise_decides, bytes_decides}
 use Rattle.base_types.specs.Members.{Member}
 
 -- bytes of a file, a name or a text
@@ -85,6 +86,13 @@ parent_spelling (name ∷ dir) = Some (spelled_below dir)
 -- the path of a name in a directory, where that is a canonical path
 abbrev pub child_of : Path → Text → Option Path
 child_of dir name = if is_canonical (name ∷ dir) then Some (name ∷ dir) else None
+
+-- the test whether two paths are the same
+abbrev pub is_same_path : Path → Path → Bool
+is_same_path = pointwise (pointwise nat_eq)
+
+pub is_same_path-Decides : (one other : Path) → Decides (is_same_path one other) (one ≡ other)
+is_same_path-Decides = pointwise_decides bytes_decides
 
 -- a path, or one that it is below
 abbrev pub IsAtOrAbove : Path → Path → Type 0

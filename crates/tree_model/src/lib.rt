@@ -1,7 +1,8 @@
 //! Trees of files: canonical paths, nodes, the trait of an object that shows a tree, walks through a tree as in
-//! POSIX pathname resolution, and a tree in memory.
+//! POSIX pathname resolution, a tree in memory, and a tree that remembers the nodes of another.
 #![tactic(auto)]
 
+mod cached;
 mod entry;
 mod frame;
 mod laws;
@@ -11,6 +12,7 @@ mod path;
 mod tree;
 mod walk;
 
+pub use cached::{Cached, Remembers};
 pub use entry::{Entry, Node};
 pub use frame::{frame_law, leads_law, looked_law, walked_law};
 pub use laws::{

@@ -1,14 +1,17 @@
 // Canonical paths.
-ghost use Rattle.std.specs.Prelude.{◌≡◌, ◌↔◌, ◌==◌, ℕ, List, [], ◌∷◌, ◌++◌, ◌+◌, ◌<◌, length, IfOk, IsTrue};
+ghost use Rattle.std.specs.Prelude.{◌≡◌, ◌↔◌, ◌==◌, ℕ, List, [], ◌∷◌, ◌++◌, ◌+◌, ◌<◌, length, take, IfOk, IsTrue};
 ghost use Rattle.std.specs.List.{list_all, slice_split};
 ghost use Rattle.std.specs.Option.{option_map};
+ghost use Rattle.std.proofs.Common.{ap};
 ghost use Rattle.std.specs.Ordering.{nat_cmp};
-ghost use Rattle.std.specs.Cmp.Lexicographic.{slice_cmp};
+ghost use Rattle.std.specs.Cmp.{partial_equiv_from_equiv};
+ghost use Rattle.std.specs.Cmp.Lexicographic.{slice_cmp, lists_equiv, nat_list_eq_equiv};
 ghost use Rattle.tree_model.specs.Paths as paths;
-ghost use Rattle.tree_model.specs.Paths.{slash, spelled, spelled_below, path_of, parent_spelling, child_of, IsCanonical};
+ghost use Rattle.tree_model.specs.Paths.{slash, spelled, spelled_below, path_of, parent_spelling, child_of, is_same_path, is_same_path-Decides, IsCanonical};
 
 use std::alloc::{AllocError, Global};
 use std::cmp::Ordering;
+use std::hash::{Hash, Hasher};
 use std::marker::Model;
 
 /// A canonical path: `/`, or components each after a `/`, at most 4,096 bytes; a component has 1 to 255 bytes, no
@@ -109,6 +112,26 @@ fn below(alloc: Global, stem: &[u8], name: &[u8]) -> Result<Vec<u8>, AllocError>
     Ok(text)
 }
 
+// The first bytes of a text, and then a name after a slash.
+fn extended(text: Vec<u8>, stem: usize, name: &[u8]) -> Result<Vec<u8>, AllocError>
+    ensures { IfOk result (λ longer. longer.items ≡ take stem text.items ++ slash ∷ name.now) }
+{
+    let mut longer = text;
+    longer.truncate(stem);
+    longer.push(b'/')?;
+    longer.extend_from_slice(name)?;
+    Ok(longer)
+}
+
+// A copy with room for more bytes behind it.
+fn roomy(alloc: Global, text: &[u8], room: usize) -> Result<Vec<u8>, AllocError>
+    ensures { IfOk result (λ copy. copy.items ≡ text.now) }
+{
+    let mut copy = Vec::with_capacity(alloc, text.len().saturating_add(room))?;
+    copy.extend_from_slice(text)?;
+    Ok(copy)
+}
+
 // What stands before the last slash.
 fn before_last(text: &[u8]) -> &[u8]
     ensures { (above name : List ℕ) → IsTrue (list_all paths.is_name_byte name) → text.now ≡ above ++ slash ∷ name → result.now ≡ above }
@@ -129,6 +152,14 @@ impl CanonPath {
         ensures { IfOk result (λ path. path ≡ []) }
     {
         let bytes = b"/".as_slice().to_vec(alloc)?;
+        Ok(CanonPath { bytes })
+    }
+
+    /// The root, with room for so many bytes behind it.
+    pub(crate) fn root_with_room(alloc: Global, room: usize) -> Result<CanonPath, AllocError>
+        ensures { IfOk result (λ path. path ≡ []) }
+    {
+        let bytes = roomy(alloc, b"/", room)?;
         Ok(CanonPath { bytes })
     }
 
@@ -204,11 +235,41 @@ impl CanonPath {
         Ok(Some(CanonPath { bytes }))
     }
 
+    /// As `child`, in the bytes of this path.
+    pub(crate) fn into_child(self, name: &[u8]) -> Result<Option<CanonPath>, AllocError>
+        ensures { IfOk result (λ path. path ≡ child_of self name.now) }
+    {
+        let stem = self.stem().len();
+        if !is_name(name) || stem + name.len() >= PATH_LIMIT {
+            return Ok(None);
+        }
+        let bytes = extended(self.bytes, stem, name)?;
+        Ok(Some(CanonPath { bytes }))
+    }
+
+    /// As `parent`, in the bytes of this path.
+    pub(crate) fn into_parent(self) -> CanonPath
+        ensures { result ≡ paths.parent self }
+    {
+        let above = before_last(self.bytes()).len();
+        let mut bytes = self.bytes;
+        bytes.truncate(above.max(1));
+        CanonPath { bytes }
+    }
+
     /// A copy.
     pub fn copy(&self, alloc: Global) -> Result<CanonPath, AllocError>
         ensures { IfOk result (λ path. path ≡ self.now) }
     {
         let bytes = self.bytes.as_slice().to_vec(alloc)?;
+        Ok(CanonPath { bytes })
+    }
+
+    /// A copy, with room for so many bytes behind it.
+    pub(crate) fn copy_with_room(&self, alloc: Global, room: usize) -> Result<CanonPath, AllocError>
+        ensures { IfOk result (λ path. path ≡ self.now) }
+    {
+        let bytes = roomy(alloc, self.bytes.as_slice(), room)?;
         Ok(CanonPath { bytes })
     }
 
@@ -231,5 +292,30 @@ impl CanonPath {
         ensures { result ≡ slice_cmp nat_cmp (spelled self.now) (spelled other.now) }
     {
         self.bytes().cmp(other.bytes())
+    }
+}
+
+impl PartialEq for CanonPath {
+    ghost eq = { is_same_path };
+
+    ghost laws = { partial_equiv_from_equiv (lists_equiv nat_list_eq_equiv) };
+
+    fn eq(&self, other: &CanonPath) -> bool {
+        self.spells_same(other)
+    }
+}
+
+impl Eq for CanonPath {
+    ghost laws = { lists_equiv nat_list_eq_equiv };
+}
+
+// The spelling is written in one call.
+impl Hash for CanonPath {
+    ghost hash_input = { λ path. spelled path ∷ [] };
+
+    ghost respects_eq = { λ x y same. ap (λ (p : List (List ℕ)). spelled p ∷ []) ((is_same_path-Decides x y).0 same) };
+
+    fn hash<H: Hasher>(&self, state: &mut H) {
+        state.write(self.bytes());
     }
 }

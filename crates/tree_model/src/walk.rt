@@ -119,6 +119,17 @@ fn start(alloc: Global, dir: CanonPath, text: &[u8]) -> Result<CanonPath, AllocE
     }
 }
 
+// Where the walk of a text begins, with room for the text's names.
+fn begin(alloc: Global, dir: &CanonPath, text: &[u8]) -> Result<CanonPath, AllocError>
+    ensures { IfOk result (λ path. path ≡ walks.start dir.now text.now) }
+{
+    if begins_at_root(text) {
+        CanonPath::root_with_room(alloc, text.len())
+    } else {
+        dir.copy_with_room(alloc, text.len())
+    }
+}
+
 // The nodes at which a walk stands before its first component.
 fn first_nodes(alloc: Global, dir: &CanonPath, text: &[u8]) -> Result<List<CanonPath>, AllocError>
     ensures { IfOk result (λ nodes. nodes ≡ walks.first_nodes dir.now text.now) }
@@ -176,7 +187,7 @@ fn go_down<T: Tree>(
     ensures never_large { IsErrOf result TreeError.Large → ⊥ }
     ensures no_read { T.reads tree.new ≡ T.reads tree.old }
 {
-    let Some(path) = dir.child(alloc, name)? else {
+    let Some(path) = dir.into_child(name)? else {
         return Ok(Step::Nowhere);
     };
     let Some(node) = tree.node(&path)? else {
@@ -186,7 +197,10 @@ fn go_down<T: Tree>(
     match node {
         Node::Dir => Ok(Step::Dir(path)),
         Node::File => Ok(Step::File(path)),
-        Node::Link(text) => Ok(Step::Link(start(alloc, dir, text.as_slice())?, text)),
+        Node::Link(text) => {
+            let from = start(alloc, path.into_parent(), text.as_slice())?;
+            Ok(Step::Link(from, text))
+        }
     }
 }
 
@@ -207,7 +221,7 @@ fn take_step<T: Tree>(
     match move_of(name) {
         Move::Stay => Ok(Step::Dir(dir)),
         Move::Up => {
-            let up = dir.parent(alloc)?;
+            let up = dir.into_parent();
             note(alloc, &up, walked)?;
             Ok(Step::Dir(up))
         }
@@ -325,8 +339,8 @@ pub fn locate<T: Tree>(
         return Ok(None);
     }
     let mut walked = first_nodes(alloc, dir, text)?;
-    let begin = start(alloc, dir.copy(alloc)?, text)?;
-    match walk_on(alloc, tree, begin, LINK_LIMIT, head, &mut walked)? {
+    let from = begin(alloc, dir, text)?;
+    match walk_on(alloc, tree, from, LINK_LIMIT, head, &mut walked)? {
         Stop::Dir(last, links) => locate_last(alloc, tree, last, links, name, walked),
         _ => Ok(None),
     }

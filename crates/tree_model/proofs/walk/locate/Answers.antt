@@ -28,8 +28,8 @@ returns-in-Dir-clause-found g c =
     (λ z. eqb-false (length c.cut_last.result.1.now) 0 (sym c.if-is_empty.ensures) (ap length c.cut_last.ensures.name ∙ z))
     c.cut_last.ensures.head c.cut_last.ensures.name
     (subst (λ s. GoesOn (first_nodes c.args.dir.now c.args.text.now) (walk (entry_at told) 40 (start c.args.dir.now c.args.text.now) head) c.walk_on.new.walked (ended (end_of s))) c.in-Dir.is
-    (begun (entry_at told) c.args.dir.now c.args.text.now head c.in_ok-walked.walked c.walk_on.new.walked c.in_ok-begin.begin c.in_ok-copy.field-0 (ended (end_of c.in_ok-last.field-0))
-    c.in_ok-walked.ensures c.in_ok-copy.ensures c.in_ok-begin.ensures (c.in_ok-last.ensures.stop told is)))))
+    (begun (entry_at told) c.args.dir.now c.args.text.now head c.in_ok-walked.walked c.walk_on.new.walked c.in_ok-from.from (ended (end_of c.in_ok-last.field-0))
+    c.in_ok-walked.ensures c.in_ok-from.ensures (c.in_ok-last.ensures.stop told is)))))
     c.locate_last.ensures.found
 
 pub returns-in_default : goal.returns-in_default
@@ -39,8 +39,8 @@ returns-in_default g c =
       same = search rules;
       found = if_each (g.T.Tree.told c.args.tree.now) _ (λ told is.
           from_elsewhere (entry_at told) c.args.dir.now c.args.text.now head c.walk_on.new.walked c.in_ok-last.field-0 c.cut_last.ensures.head c.in_default.not-Dir
-          (begun (entry_at told) c.args.dir.now c.args.text.now head c.in_ok-walked.walked c.walk_on.new.walked c.in_ok-begin.begin c.in_ok-copy.field-0 (ended (end_of c.in_ok-last.field-0))
-          c.in_ok-walked.ensures c.in_ok-copy.ensures c.in_ok-begin.ensures (c.in_ok-last.ensures.stop told is)));
+          (begun (entry_at told) c.args.dir.now c.args.text.now head c.in_ok-walked.walked c.walk_on.new.walked c.in_ok-from.from (ended (end_of c.in_ok-last.field-0))
+          c.in_ok-walked.ensures c.in_ok-from.ensures (c.in_ok-last.ensures.stop told is)));
       cause = search rules;
       never_large = search rules;
       no_read = search rules;

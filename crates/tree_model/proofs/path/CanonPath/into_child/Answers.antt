@@ -1,0 +1,22 @@
+use Rattle.std.proofs.Common.{length, arith, sym, ◌∙◌, ap, List, ℕ, ◌∷◌, ◌++◌}
+use Rattle.tree_model.specs.Paths.{IsCanonical, slash}
+use Rattle.tree_model.proofs.PathLemmas.{child-canonical, child_some, spelling_of, stem_taken, spells}
+use Rattle.tree_model.proofs.path.CanonPath.into_child.Goals as goal
+
+pub invariant_of-result : goal.invariant_of-result
+invariant_of-result c =
+    let long = ap (λ (t : List ℕ). length t) c.stem-stem.ensures.value in
+    let canonical : IsCanonical (c.args.name.now ∷ c.args.self) =
+    child-canonical c.args.self c.args.name.now c.stem-stem.ensures.canonical (sym c.if-not-is_name.ensures) (omega (arith, long)) in
+    let text = c.self.inside.bytes.items in
+    let stem = stem_taken c.args.self text (length c.stem-stem.result.now) (spells c.args.self text c.self.invariant c.self.view_is) long in
+    spelling_of (c.args.name.now ∷ c.args.self) c.in_ok-bytes.bytes.items canonical (c.in_ok-bytes.ensures ∙ ap (λ (t : List ℕ). t ++ slash ∷ c.args.name.now) stem)
+
+pub returns : goal.returns
+returns c =
+    let long = ap (λ (t : List ℕ). length t) c.stem-stem.ensures.value in
+    let canonical : IsCanonical (c.args.name.now ∷ c.args.self) =
+    child-canonical c.args.self c.args.name.now c.stem-stem.ensures.canonical (sym c.if-not-is_name.ensures) (omega (arith, long)) in
+    let text = c.self.inside.bytes.items in
+    let stem = stem_taken c.args.self text (length c.stem-stem.result.now) (spells c.args.self text c.self.invariant c.self.view_is) long in
+    child_some c.args.self c.args.name.now c.in_ok-bytes.bytes.items canonical (c.in_ok-bytes.ensures ∙ ap (λ (t : List ℕ). t ++ slash ∷ c.args.name.now) stem)

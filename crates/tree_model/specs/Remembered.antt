@@ -1,0 +1,55 @@
+-- The answers that a tree remembers of another tree within it.
+use Rattle.std.specs.Prelude.{◌≡◌, ◌⊎◌, ℕ, List, Option, None, Some, refl}
+use Rattle.std.specs.HashMap.{HashMap, get}
+use Rattle.std.specs.Coded.{Coded, Coded-set, code_by, coded⊎, coded_list, coded_option, coded_ℕ}
+use base.Stored.{coded_unit}
+use Rattle.std.proofs.Common.{inl, inr}
+use Rattle.std.proofs.Props.{props}
+use Rattle.tree_model.specs.Paths.{Path, is_same_path}
+use Rattle.tree_model.specs.Trees.{FileTree, node_at, IsNode, NodeFits}
+use Rattle.tree_model.specs.declared.entry.Node.{Node}
+use Rattle.tree_model.specs.declared.entry.Node.TheVariants.{Dir, File, Link}
+
+-- the answer that is remembered at each path, where there is one
+abbrev pub Known : Type 0
+Known = Path → Option (Option Node)
+
+abbrev pub known_in : {S : Type 0} → HashMap Path (Option Node) S → Known
+known_in answers = get is_same_path answers
+
+-- every answer is one that a tree may show, and where a tree is told, the one that it shows at the path
+pub record IsTrueOf (told : Option FileTree) (known : Known) : Type 0 where
+  pub form : (path : Path) (got : Option Node) → known path ≡ Some got → IsNode got
+  pub same : (path : Path) (got : Option Node) → known path ≡ Some got → (tree : FileTree) → told ≡ Some tree → got ≡ node_at tree path
+
+-- a code of nodes, by which two of them can be told apart
+abbrev node_to : Node → Unit {0} ⊎ (Unit {0} ⊎ List ℕ)
+node_to Dir = inl tt
+node_to File = inr (inl tt)
+node_to (Link text) = inr (inr text)
+
+abbrev node_from : Unit {0} ⊎ (Unit {0} ⊎ List ℕ) → Node
+node_from (inl _) = Dir
+node_from (inr (inl _)) = File
+node_from (inr (inr text)) = Link text
+
+node_back : (node : Node) → node_from (node_to node) ≡ node
+node_back Dir = refl
+node_back File = refl
+node_back (Link text) = refl
+
+node_code : Coded Node
+node_code =
+    code_by (Unit {0} ⊎ (Unit {0} ⊎ List ℕ)) (coded⊎ coded_unit (coded⊎ coded_unit (coded_list coded_ℕ))) node_to node_from node_back
+
+fits-prop : (node : Node) → IsProp (NodeFits node)
+fits-prop Dir = hlevel props
+fits-prop File = hlevel props
+fits-prop (Link text) = hlevel props
+
+is_node-prop : (got : Option Node) → IsProp (IsNode got)
+is_node-prop None = hlevel props
+is_node-prop (Some node) = fits-prop node
+
+pub IsTrueOf-prop : (told : Option FileTree) (known : Known) → IsProp (IsTrueOf told known)
+IsTrueOf-prop told known = hlevel (props, Coded-set (coded_option node_code), is_node-prop)
