@@ -1,0 +1,12 @@
+//! The search for a source, a forced file or an included file: the places where each form of asking looks, in order.
+#![tactic(auto)]
+
+mod asking;
+mod laws;
+mod searching;
+mod setup;
+
+pub use asking::{Ask, Form, Found, Visit};
+pub use laws::{search_frame, searches_locate};
+pub use searching::search;
+pub use setup::Setup;
