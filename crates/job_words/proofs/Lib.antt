@@ -1,9 +1,11 @@
 -- Lemmas.
---     JobLemmas   what a reading keeps
---     Stems       the last `.` of a name
---     Reading     what words give a job, case by case
---     Lengths     how long a working directory and a word are
-pub mod JobLemmas
-pub mod Stems
-pub mod Reading
-pub mod Lengths
+--     Fronts      a word without its front
+--     Steps       the reading of one word
+--     Places      the last `.` of a name, and what stands behind the last `/` of a text
+--     EachOnce    texts, each at its first place alone
+--     Jobs        what a reading keeps, and how long its words are
+pub mod Fronts
+pub mod Steps
+pub mod Places
+pub mod EachOnce
+pub mod Jobs

@@ -1,2 +1,4 @@
--- The reading of compile words.
+-- Jobs: what is read from a working directory and compile words.
+pub mod JobOf
 pub mod Words
+pub mod Told

@@ -1,52 +1,200 @@
--- The job that a working directory and compile words give: words are so far one simple name, the source.
-use Rattle.std.specs.Prelude.{◌≡◌, ◌≤◌, List, [], ◌∷◌, ◌++◌, Bool, true, false, ◌&&◌, ◌==◌, if◌then◌else◌, Option, Some, None, length, codes}
-use Rattle.std.specs.List.{list_any, before_last}
-use Rattle.tree_model.specs.Paths.{Text, Path, path_of}
-use Rattle.pp_tokens.specs.Plain.{is_simple_name}
-use Rattle.job_words.specs.declared.job.Job.{Job}
+-- The job that a working directory and compile words give, in the spelling of GCC's options.
+use Rattle.std.specs.Prelude.{◌≡◌, ◌≤◌, List, [], ◌∷◌, ◌++◌, drop, Bool, true, false, not, ◌&&◌, ◌||◌, ◌==◌, if◌then◌else◌, nat_le, nat_eq, bytes_eq, Option, Some, None, Result, Ok, Err, length, codes, unwrap_or}
+use Rattle.std.specs.List.{list_any, list_all, starts_with, before_last, AllByRecursion}
+use Rattle.tree_model.specs.Paths.{Text}
+use Rattle.tree_model.specs.Walk.{is_absolute, components, last_of}
+use Rattle.job_words.specs.JobOf.{JobData}
+use Rattle.job_words.specs.declared.reading.WordError.{WordError}
+use Rattle.job_words.specs.declared.reading.WordError.TheVariants.{NoSource, TwoSources, Unknown, NoOperand, Limit, Cwd}
+use Rattle.job_words.specs.declared.given.Taker.{Taker}
+use Rattle.job_words.specs.declared.given.Taker.TheVariants.{Directory, QuoteDirectory, SystemDirectory, AfterDirectory, Include, Output}
+use Rattle.job_words.specs.declared.given.Given.{Given}
+
+-- ---- one word ----
+
+-- what a word is: an option with an operand, of which this stands in the word itself; an option that has trigraphs read; one
+-- without effect; the source's name; or none that is known
+pub data Word : Type 0 where
+  Takes : Taker → Text → Word
+  Trigraphs : Word
+  NoEffect : Word
+  Source : Text → Word
+  NotKnown : Word
+
+-- options without effect on preprocessing
+abbrev pub whole_options : List Text
+whole_options = codes "-c" ∷ codes "-E" ∷ codes "-S" ∷ codes "-w" ∷ codes "-pipe" ∷ codes "-pthread" ∷ codes "-nostdinc" ∷ []
+
+-- the beginnings of such options
+abbrev pub option_fronts : List Text
+option_fronts = codes "-O" ∷ codes "-W" ∷ codes "-g" ∷ codes "-f" ∷ codes "-m" ∷ codes "-pedantic" ∷ codes "-std=" ∷ []
+
+abbrev pub begins : Text → Text → Bool
+begins word front = starts_with nat_eq word front
+
+-- `-Wp,` hands its text to the preprocessor, and isn't known
+unfoldable pub has_no_effect : Text → Bool
+has_no_effect word =
+    list_any (λ option. bytes_eq word option) whole_options
+    || (list_any (λ front. begins word front) option_fronts && not (begins word (codes "-Wp,")))
+
+-- an empty word, or one that begins with `-`
+abbrev pub is_no_name : Text → Bool
+is_no_name [] = true
+is_no_name (b ∷ word) = b == 45
+
+unfoldable pub word_without_operand : Text → Word
+word_without_operand word =
+    if bytes_eq word (codes "-trigraphs") then Trigraphs
+    else (if has_no_effect word then NoEffect else (if is_no_name word then NotKnown else Source word))
+
+-- a word that begins with an option that takes an operand, or else is read otherwise
+abbrev pub takes : Text → Taker → Text → Word → Word
+takes option taker word otherwise = if begins word option then Takes taker (drop (length option) word) else otherwise
+
+unfoldable pub word_of : Text → Word
+word_of word =
+    takes (codes "-I") Directory word
+    (takes (codes "-iquote") QuoteDirectory word
+    (takes (codes "-isystem") SystemDirectory word
+    (takes (codes "-idirafter") AfterDirectory word
+    (takes (codes "-include") Include word
+    (takes (codes "-o") Output word (word_without_operand word))))))
+
+-- ---- all words ----
+
+-- nothing was read
+abbrev pub nothing : Given
+nothing = record { source = None; quote = []; directories = []; system = []; after = []; forced = []; output = None; trigraphs = false }
+
+-- an operand joins those of its option; of outputs the last holds
+abbrev pub give : Taker → Text → Given → Given
+give Directory text given = record given { directories = given.directories ++ text ∷ [] }
+give QuoteDirectory text given = record given { quote = given.quote ++ text ∷ [] }
+give SystemDirectory text given = record given { system = given.system ++ text ∷ [] }
+give AfterDirectory text given = record given { after = given.after ++ text ∷ [] }
+give Include text given = record given { forced = given.forced ++ text ∷ [] }
+give Output text given = record given { output = Some text }
+
+-- what is read behind a word: whether an option waits for its operand, and what was read so far
+abbrev pub Onward : Type 0
+Onward = Option Taker → Given → Result Given WordError
+
+-- an operand that is a word of its own
+abbrev pub at_operand : Onward → Taker → Text → Given → Result Given WordError
+at_operand next taker [] given = Err NoOperand
+at_operand next taker (b ∷ text) given = next None (give taker (b ∷ text) given)
+
+-- a source's name, where this one was read before
+abbrev pub at_source : Onward → Text → Option Text → Given → Result Given WordError
+at_source next name None given = next None (record given { source = Some name })
+at_source next name (Some other) given = Err TwoSources
+
+-- a word that is no operand; an option whose word ends with it waits for the next word
+abbrev pub at_word : Onward → Word → Given → Result Given WordError
+at_word next (Takes taker []) given = next (Some taker) given
+at_word next (Takes taker (b ∷ text)) given = next None (give taker (b ∷ text) given)
+at_word next Trigraphs given = next None (record given { trigraphs = true })
+at_word next NoEffect given = next None given
+at_word next (Source name) given = at_source next name given.source given
+at_word next NotKnown given = Err Unknown
+
+-- words from left to right, with the option that waits for its operand
+unfoldable pub read_on : Option Taker → List Text → Given → Result Given WordError
+read_on None [] given = Ok given
+read_on (Some taker) [] given = Err NoOperand
+read_on None (word ∷ words) given = at_word (λ waiting more. read_on waiting words more) (word_of word) given
+read_on (Some taker) (word ∷ words) given = at_operand (λ waiting more. read_on waiting words more) taker word given
+
+-- ---- the job ----
 
 -- a name up to its last `.`, or the whole of one that has none
 abbrev pub stem : Text → Text
 stem name = if list_any (λ b. b == 46) name then before_last (λ b. b == 46) name else name
 
--- the output's name where the words give none
+-- the output's name where the words give none: by the last component of the source's name
 unfoldable pub output_of : Text → Text
-output_of source = stem source ++ codes ".i"
+output_of source = stem (last_of (components source)) ++ codes ".i"
 
--- a canonical path other than the root
-abbrev pub is_below_root : Option Path → Bool
-is_below_root None = false
-is_below_root (Some []) = false
-is_below_root (Some (name ∷ path)) = true
+-- a text that is there already isn't added again
+abbrev pub add_once : List Text → Text → List Text
+add_once texts text = if list_any (λ other. bytes_eq text other) texts then texts else texts ++ text ∷ []
 
--- a working directory: the spelling of a canonical path other than the root
+-- texts one after another behind others, each once
+unfoldable pub each_once_behind : List Text → List Text → List Text
+each_once_behind before [] = before
+each_once_behind before (text ∷ texts) = each_once_behind (add_once before text) texts
+
+abbrev pub each_once : List Text → List Text
+each_once texts = each_once_behind [] texts
+
+-- the job of a source; each directory keeps the first place that it has in its part of the chain
+abbrev pub job_in : Text → List Text → Text → Given → JobData
+job_in cwd words source given = record {
+  words = words;
+  source = source;
+  setup = record {
+    cwd = cwd;
+    quote = each_once given.quote;
+    bracket = each_once (given.directories ++ (given.system ++ given.after));
+    trigraphs = given.trigraphs;
+  };
+  forced = given.forced;
+  output = unwrap_or given.output (output_of source);
+}
+
+-- words that were read to their end want a source
+abbrev pub with_source : Text → List Text → Option Text → Given → Result JobData WordError
+with_source cwd words None given = Err NoSource
+with_source cwd words (Some source) given = Ok (job_in cwd words source given)
+
+abbrev pub finished : Text → List Text → Result Given WordError → Result JobData WordError
+finished cwd words (Err why) = Err why
+finished cwd words (Ok given) = with_source cwd words given.source given
+
+-- a working directory begins with `/`, and has at most 4,096 bytes and no byte 0
 unfoldable pub is_directory : Text → Bool
-is_directory cwd = is_below_root (path_of cwd)
+is_directory cwd = is_absolute cwd && (nat_le (length cwd) 4096 && list_all (λ b. not (b == 0)) cwd)
 
--- the job of a source in a working directory
-abbrev pub job_in : Text → Text → Job
-job_in cwd source = record { words = source ∷ []; cwd = cwd; source = source; output = output_of source }
+-- at most 1,000 words of at most 4,096 bytes
+unfoldable pub are_short : List Text → Bool
+are_short words = nat_le (length words) 1000 && list_all (λ word. nat_le (length word) 4096) words
+
+-- the job, or the first reason why there is none: the working directory, the size of the words, the words from left to right,
+-- and at last a source
+unfoldable pub reading : Text → List Text → Result JobData WordError
+reading cwd words =
+    if not (is_directory cwd) then Err Cwd
+    else (if not (are_short words) then Err Limit else finished cwd words (read_on None words nothing))
+
+abbrev pub job_given : Result JobData WordError → Option JobData
+job_given (Ok job) = Some job
+job_given (Err why) = None
 
 -- the job that a working directory and words give, if they give one
-unfoldable pub job_of : Text → List Text → Option Job
-job_of cwd [] = None
-job_of cwd (source ∷ []) = if is_directory cwd && is_simple_name source then Some (job_in cwd source) else None
-job_of cwd (source ∷ second ∷ words) = None
+unfoldable pub job_of : Text → List Text → Option JobData
+job_of cwd words = job_given (reading cwd words)
 
 -- a job is the reading of its own working directory and words
-abbrev pub IsJob : Job → Type 0
-IsJob job = job_of job.cwd job.words ≡ Some job
+abbrev pub IsJob : JobData → Type 0
+IsJob job = job_of job.setup.cwd job.words ≡ Some job
 
--- what a reading gives keeps the working directory and the words, and is the reading of these
+-- ---- laws ----
+
+-- what a reading gives keeps the working directory and the words
 abbrev pub JobsKeepWords : Type 0
-JobsKeepWords = (cwd : Text) (words : List Text) (job : Job) → job_of cwd words ≡ Some job → (job.cwd ≡ cwd) × (job.words ≡ words)
+JobsKeepWords = (cwd : Text) (words : List Text) (job : JobData) → job_of cwd words ≡ Some job → (job.setup.cwd ≡ cwd) × (job.words ≡ words)
 
--- a working directory of 1 to 4,096 bytes, and one word of 1 to 255
-abbrev pub IsShort : Text → List Text → Type 0
-IsShort cwd [] = ⊥
-IsShort cwd (source ∷ []) = (1 ≤ length cwd) × (length cwd ≤ 4096) × (1 ≤ length source) × (length source ≤ 255)
-IsShort cwd (source ∷ second ∷ words) = ⊥
+-- a word of 1 to 4,096 bytes
+abbrev pub IsWord : Text → Type 0
+IsWord word = (1 ≤ length word) × (length word ≤ 4096)
+
+-- a working directory of 1 to 4,096 bytes, and at most 1,000 words, each of 1 to 4,096
+pub record IsShort (cwd : Text) (words : List Text) : Type 0 where
+  pub place : (1 ≤ length cwd) × (length cwd ≤ 4096)
+  pub few : length words ≤ 1000
+  pub each : AllByRecursion IsWord words
 
 -- no job is read from more, or from nothing
 abbrev pub JobsAreShort : Type 0
-JobsAreShort = (cwd : Text) (words : List Text) (job : Job) → job_of cwd words ≡ Some job → IsShort cwd words
+JobsAreShort = (cwd : Text) (words : List Text) (job : JobData) → job_of cwd words ≡ Some job → IsShort cwd words

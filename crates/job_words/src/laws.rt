@@ -6,7 +6,7 @@ pub fn jobs_keep_words()
     ensures { JobsKeepWords }
 {}
 
-/// A job is read only from a working directory of 1 to 4,096 bytes and one word of 1 to 255.
+/// A job is read only from a working directory of 1 to 4,096 bytes and at most 1,000 words, each of 1 to 4,096.
 pub fn jobs_are_short()
     ensures { JobsAreShort }
 {}

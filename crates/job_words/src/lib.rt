@@ -1,10 +1,12 @@
 //! Jobs: what is read from a working directory and compile words.
 #![tactic(auto)]
 
+mod given;
 mod job;
 mod laws;
-mod read;
+mod reading;
+mod word;
 
 pub use job::Job;
 pub use laws::{jobs_are_short, jobs_keep_words};
-pub use read::read_words;
+pub use reading::{WordError, read_words};

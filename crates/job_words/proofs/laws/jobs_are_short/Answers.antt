@@ -1,5 +1,5 @@
-use Rattle.job_words.proofs.Lengths.{jobs-are-short}
+use Rattle.job_words.proofs.Jobs.{are-short}
 use Rattle.job_words.proofs.laws.jobs_are_short.Goals as goal
 
 pub returns : goal.returns
-returns c = jobs-are-short
+returns c = are-short

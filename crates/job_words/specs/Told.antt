@@ -1,0 +1,48 @@
+-- The words of the code, as words of the definition, and what their reading gives. No public contract rests on it.
+use Rattle.std.specs.Prelude.{◌≡◌, ◌<◌, ◌≤◌, ◌==◌, ◌⊎◌, ℕ, ◌+◌, true, false, length, slice_index, List, Option, Some, None, Result, Err, MatchResult, bytes_eq}
+use Rattle.std.specs.Borrow.{Bor}
+use Rattle.std.specs.HashSet.{HashSet, contains_by}
+use Rattle.std.specs.List.{list_any}
+use Rattle.tree_model.specs.Paths.{Text}
+use Rattle.job_words.specs.declared.given.Given.{Given}
+use Rattle.job_words.specs.declared.given.Taker.{Taker}
+use Rattle.job_words.specs.declared.reading.WordError.{WordError}
+use Rattle.job_words.specs.declared.reading.WordError.TheVariants.{Memory}
+use Rattle.job_words.specs.Words.{Word, Takes, Trigraphs, NoEffect, Source, NotKnown, Onward, at_operand, at_word, word_of}
+use Rattle.job_words.specs.declared.word.Word as code
+use Rattle.job_words.specs.declared.word.Word.TheVariants as variant
+
+abbrev pub told_word : code.Word → Word
+told_word (variant.Takes taker text) = Takes taker text.now
+told_word variant.Trigraphs = Trigraphs
+told_word variant.NoEffect = NoEffect
+told_word (variant.Source name) = Source name.now
+told_word variant.Unknown = NotKnown
+
+-- how many directories were given
+abbrev pub texts_given : Given → ℕ
+texts_given given = length given.quote + (length given.directories + (length given.system + length given.after))
+
+-- a word, with the option that waits for its operand
+abbrev pub at_any : Onward → Option Taker → Text → Given → Result Given WordError
+at_any next (Some taker) word given = at_operand next taker word given
+at_any next None word given = at_word next (word_of word) given
+
+-- a step was read: it goes on from what the call gives, or ends with its error, whatever stands behind
+abbrev pub IsRead : (Onward → Result Given WordError) → Given → Given → Result (Option Taker) WordError → Type 0
+IsRead step old new result =
+    MatchResult result
+    (λ waiting. ((next : Onward) → step next ≡ next waiting new) × (texts_given new ≤ texts_given old + 1))
+    (λ why. (why ≡ Memory) ⊎ ((next : Onward) → step next ≡ Err why))
+
+-- a set has the texts of a list
+abbrev pub HasTexts : {S : Type 0} → HashSet (Bor Text) S → List Text → Type 0
+HasTexts seen texts = (text : Text) → contains_by (λ other. bytes_eq text other.now) seen ≡ list_any (λ other. bytes_eq text other) texts
+
+-- a byte stands at no place of a text from this one on
+abbrev pub NoneFrom : ℕ → ℕ → Text → Type 0
+NoneFrom start byte text = (k : ℕ) → start ≤ k → k < length text → (slice_index text k == byte) ≡ false
+
+-- the last place of a byte in a text
+abbrev pub IsLast : ℕ → ℕ → Text → Type 0
+IsLast place byte text = (place < length text) × ((slice_index text place == byte) ≡ true) × NoneFrom (place + 1) byte text
