@@ -7,6 +7,7 @@ mod SpellingLemmas
 mod SpelledLemmas
 mod TreeLemmas
 mod WriterLemmas
+mod ShortJobs
 mod ReplySpelling
 mod ReplySpelled
 mod ReplyEnds

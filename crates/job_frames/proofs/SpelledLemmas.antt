@@ -377,10 +377,10 @@ assembled bytes cwd vr pr ar wr rest words job got keeps is_job e1 e2 limits e3 
           ∙ ap (λ (x : List ℕ). x ++ rest) (spelling parts.0 parts.1) ∙ ap (λ (es : Entries). request_bytes job es ++ rest) (sym entries);
     }
   where
-    spelling : job.cwd ≡ cwd → job.words ≡ words
+    spelling : job.setup.cwd ≡ cwd → job.words ≡ words
         → (token (codes "DIST") 0x103 ++ (field (codes "CDIR") cwd ++ (token (codes "ARGC") (length words) ++ (flat_map (field (codes "ARGV")) words ++ image_bytes m.es)))) ≡ request_bytes job m.es
     spelling c w = ap (λ (x : List ℕ). token (codes "DIST") 0x103 ++ (field (codes "CDIR") x ++ (token (codes "ARGC") (length words) ++ (flat_map (field (codes "ARGV")) words ++ image_bytes m.es)))) (sym c)
-        ∙ ap (λ (ws : List (List ℕ)). token (codes "DIST") 0x103 ++ (field (codes "CDIR") job.cwd ++ (token (codes "ARGC") (length ws) ++ (flat_map (field (codes "ARGV")) ws ++ image_bytes m.es)))) (sym w)
+        ∙ ap (λ (ws : List (List ℕ)). token (codes "DIST") 0x103 ++ (field (codes "CDIR") job.setup.cwd ++ (token (codes "ARGC") (length ws) ++ (flat_map (field (codes "ARGV")) ws ++ image_bytes m.es)))) (sym w)
 
 pub request_spelled : JobsKeepWords → (bytes : List ℕ) (got : Got) (rest : List ℕ) → request_at bytes ≡ taken got rest → RequestRead bytes got rest
 unfolding request_from place_from place_body_from count_from request_bytes

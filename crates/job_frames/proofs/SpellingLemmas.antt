@@ -135,26 +135,26 @@ request_read job es rest is =
     let ws = flat_map (field (codes "ARGV")) job.words in
     let image = image_bytes es in
     let version = token_length (codes "DIST") 0x103 refl in
-    let place = field_length (codes "CDIR") job.cwd refl in
+    let place = field_length (codes "CDIR") job.setup.cwd refl in
     let count = token_length (codes "ARGC") (length job.words) refl in
-    let l1 = length-append (token (codes "DIST") 0x103) (field (codes "CDIR") job.cwd ++ (token (codes "ARGC") (length job.words) ++ (ws ++ image))) in
-    let l2 = length-append (field (codes "CDIR") job.cwd) (token (codes "ARGC") (length job.words) ++ (ws ++ image)) in
+    let l1 = length-append (token (codes "DIST") 0x103) (field (codes "CDIR") job.setup.cwd ++ (token (codes "ARGC") (length job.words) ++ (ws ++ image))) in
+    let l2 = length-append (field (codes "CDIR") job.setup.cwd) (token (codes "ARGC") (length job.words) ++ (ws ++ image)) in
     let l3 = length-append (token (codes "ARGC") (length job.words)) (ws ++ image) in
     let l4 = length-append ws image in
     let small = is.small in
     let room1 = room_behind most 0 in
-    let room2 = room_behind room1 (length job.cwd) in
+    let room2 = room_behind room1 (length job.setup.cwd) in
     let room3 = room_behind room2 0 in
-    ap request_at (append_assoc (token (codes "DIST") 0x103) (field (codes "CDIR") job.cwd ++ (token (codes "ARGC") (length job.words) ++ (ws ++ image))) rest)
-    ∙ token_there (codes "DIST") ((field (codes "CDIR") job.cwd ++ (token (codes "ARGC") (length job.words) ++ (ws ++ image))) ++ rest) (λ n. bare most (only 0x103 2 n)) 0x103 (λ n r. place_from room1 r) (omega arith) refl
-    ∙ ap (place_from room1) (append_assoc (field (codes "CDIR") job.cwd) (token (codes "ARGC") (length job.words) ++ (ws ++ image)) rest)
-    ∙ field_there (codes "CDIR") job.cwd ((token (codes "ARGC") (length job.words) ++ (ws ++ image)) ++ rest) room1 1 4096 (λ n r. place_body_from (room_behind room1 n) n r) (omega arith) is.place.0 is.place.1 (omega (arith, small, l1, l2, version, place))
-    ∙ body_read job.cwd ((token (codes "ARGC") (length job.words) ++ (ws ++ image)) ++ rest) (λ b r. count_from room2 b r)
-    ∙ ap (count_from room2 job.cwd) (append_assoc (token (codes "ARGC") (length job.words)) (ws ++ image) rest)
-    ∙ token_there (codes "ARGC") ((ws ++ image) ++ rest) (λ n. bare room2 (within 0 1000 n)) (length job.words) (λ n r. words_from n (room_behind room2 0) job.cwd [] r) (omega (arith, is.few_words))
+    ap request_at (append_assoc (token (codes "DIST") 0x103) (field (codes "CDIR") job.setup.cwd ++ (token (codes "ARGC") (length job.words) ++ (ws ++ image))) rest)
+    ∙ token_there (codes "DIST") ((field (codes "CDIR") job.setup.cwd ++ (token (codes "ARGC") (length job.words) ++ (ws ++ image))) ++ rest) (λ n. bare most (only 0x103 2 n)) 0x103 (λ n r. place_from room1 r) (omega arith) refl
+    ∙ ap (place_from room1) (append_assoc (field (codes "CDIR") job.setup.cwd) (token (codes "ARGC") (length job.words) ++ (ws ++ image)) rest)
+    ∙ field_there (codes "CDIR") job.setup.cwd ((token (codes "ARGC") (length job.words) ++ (ws ++ image)) ++ rest) room1 1 4096 (λ n r. place_body_from (room_behind room1 n) n r) (omega arith) is.place.0 is.place.1 (omega (arith, small, l1, l2, version, place))
+    ∙ body_read job.setup.cwd ((token (codes "ARGC") (length job.words) ++ (ws ++ image)) ++ rest) (λ b r. count_from room2 b r)
+    ∙ ap (count_from room2 job.setup.cwd) (append_assoc (token (codes "ARGC") (length job.words)) (ws ++ image) rest)
+    ∙ token_there (codes "ARGC") ((ws ++ image) ++ rest) (λ n. bare room2 (within 0 1000 n)) (length job.words) (λ n r. words_from n (room_behind room2 0) job.setup.cwd [] r) (omega (arith, is.few_words))
     (within_there room2 1000 (length job.words) is.few_words (omega (arith, small, l1, l2, l3, version, place, count)))
-    ∙ ap (words_from (length job.words) room3 job.cwd []) (append_assoc ws image rest)
-    ∙ words_read job.words [] room3 job.cwd (image ++ rest) is.words (omega (arith, small, l1, l2, l3, l4, version, place, count))
+    ∙ ap (words_from (length job.words) room3 job.setup.cwd []) (append_assoc ws image rest)
+    ∙ words_read job.words [] room3 job.setup.cwd (image ++ rest) is.words (omega (arith, small, l1, l2, l3, l4, version, place, count))
     ∙ ap (λ (o : Option Job). with_job o (room3 - length ws) (image ++ rest)) is.is_job
     ∙ image_read (Some job) es (room3 - length ws) rest is.few is.follow (omega (arith, small, l1, l2, l3, l4, version, place, count))
 

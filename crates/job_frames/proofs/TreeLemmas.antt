@@ -10,7 +10,8 @@ use Rattle.tree_model.specs.declared.entry.Entry.{Entry}
 use Rattle.tree_model.specs.declared.entry.Entry.TheVariants.{Dir, File, Link}
 use Rattle.tree_model.specs.Laws.{JudgedMakeTrees, EntriesAreJudged}
 use Rattle.job_words.specs.declared.job.Job.{Job}
-use Rattle.job_frames.specs.Request.{most, request_bytes, IsSpellable, MayFollow, IsWord, IsSmall, IsRequest, FitsRequest, HasSpelling}
+use Rattle.job_words.specs.Words.{IsWord}
+use Rattle.job_frames.specs.Request.{most, request_bytes, IsSpellable, MayFollow, IsSmall, IsRequest, FitsRequest, HasSpelling}
 use Rattle.job_frames.proofs.FieldLemmas.{both}
 use Rattle.job_frames.proofs.StageLemmas.{judged_good}
 

@@ -8,7 +8,7 @@ use Rattle.tree_model.specs.declared.entry.Entry.TheVariants.{Dir, File, Link}
 use Rattle.tree_model.specs.declared.mem_tree.MirrorError.{MirrorError}
 use Rattle.tree_model.specs.declared.mem_tree.MirrorError.TheVariants as mirror
 use Rattle.job_words.specs.declared.job.Job.{Job}
-use Rattle.job_words.specs.Words.{job_of}
+use Rattle.job_words.specs.Words.{job_of, IsWord}
 use Rattle.job_frames.specs.Fields.{Step, short, refused, taken, ◌>>=◌, version_reason, limit_reason, order_reason, parent_reason, words_reason, token_at, body_at, token, field, within, only, fits, bare, room_behind}
 
 -- the spelling of a node, of an entry, and of all entries
@@ -26,7 +26,7 @@ image_bytes es = token (codes "NFIL") (length es) ++ flat_map entry_bytes es
 -- the one spelling of a request
 unfoldable pub request_bytes : Job → Entries → Text
 request_bytes job es =
-    token (codes "DIST") 0x103 ++ (field (codes "CDIR") job.cwd ++ (token (codes "ARGC") (length job.words)
+    token (codes "DIST") 0x103 ++ (field (codes "CDIR") job.setup.cwd ++ (token (codes "ARGC") (length job.words)
     ++ (flat_map (field (codes "ARGV")) job.words ++ image_bytes es)))
 
 -- how many bytes a request may have
@@ -148,18 +148,14 @@ MayFollow before [] = Unit {0}
 MayFollow before (e ∷ es) =
     ((judged_path before (spelled e.0) ≡ Ok e.0) × (2 ≤ length (spelled e.0)) × (length (spelled e.0) ≤ 4096)) × IsSpellable e.1 × MayFollow (before ++ e ∷ []) es
 
--- a compile word
-abbrev pub IsWord : Text → Type 0
-IsWord word = (1 ≤ length word) × (length word ≤ 4096)
-
 abbrev pub AreWords : List Text → Type 0
 AreWords words = AllByRecursion IsWord words
 
 -- what a request may be: a job that is the reading of its own working directory and words, entries that may stand one
 -- behind another, and a spelling within the room
 pub record IsRequest (job : Job) (es : Entries) : Type 0 where
-  pub is_job : job_of job.cwd job.words ≡ Some job
-  pub place : (1 ≤ length job.cwd) × (length job.cwd ≤ 4096)
+  pub is_job : job_of job.setup.cwd job.words ≡ Some job
+  pub place : (1 ≤ length job.setup.cwd) × (length job.setup.cwd ≤ 4096)
   pub few_words : length job.words ≤ 1000
   pub words : AreWords job.words
   pub few : length es ≤ 100000
@@ -174,8 +170,8 @@ IsSmall (Link text) = Unit {0}
 
 -- a job and a list of entries that makes a tree, each part within the limits of a request
 pub record FitsRequest (job : Job) (es : Entries) : Type 0 where
-  pub is_job : job_of job.cwd job.words ≡ Some job
-  pub place : (1 ≤ length job.cwd) × (length job.cwd ≤ 4096)
+  pub is_job : job_of job.setup.cwd job.words ≡ Some job
+  pub place : (1 ≤ length job.setup.cwd) × (length job.setup.cwd ≤ 4096)
   pub few_words : length job.words ≤ 1000
   pub words : AreWords job.words
   pub tree : IsTrue (makes_tree es)

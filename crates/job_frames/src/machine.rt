@@ -1,10 +1,11 @@
 // Where a reader of requests stands, and its moves.
-ghost use Rattle.std.specs.Prelude.{◌≡◌, ◌≤◌, ◌<◌, ◌++◌, length, [], true, ◌==◌, nat_lt};
+ghost use Rattle.std.specs.Prelude.{◌≡◌, ◌≤◌, ◌<◌, ◌++◌, length, [], true, ◌==◌, nat_lt, IfOk};
 ghost use Rattle.std.specs.List.{list_any};
 ghost use Rattle.job_frames.specs.Stages.{Keeps, Moves, IsJudged, IsPushed, IsFilled, HasRun, Begins};
 ghost use Rattle.job_frames.specs.Request.{path_reason};
 ghost use Rattle.job_frames.specs.Outcomes.{number_of};
 ghost use Rattle.tree_model.specs.Entries.{judged_path, Increasing};
+ghost use Rattle.job_words.specs.Words.{job_of};
 ghost use Rattle.job_frames.specs.declared.machine.Due.TheVariants as stage;
 ghost use Rattle.job_frames.specs.Stages as stages;
 
@@ -14,7 +15,7 @@ use crate::judges::{
 };
 use crate::{Fed, FrameError};
 use base_types::{Bytes, List};
-use job_words::{Job, read_words};
+use job_words::{Job, WordError, read_words};
 use std::alloc::{AllocError, Global};
 use std::mem;
 use tree_model::{CanonPath, Entry, MirrorError, judge_path};
@@ -117,13 +118,25 @@ fn word_move(m: &mut Machine, k: u32, n: u32) -> Move
     Move::Go
 }
 
+// The job that words give; None where they give none.
+#[tactic(auto, unfolding(job_words::specs::Words::job_of))]
+fn job_given(alloc: Global, cwd: &[u8], words: &[Bytes]) -> Result<Option<Job>, AllocError>
+    ensures { IfOk result (λ job. job ≡ job_of cwd.now words.now) }
+{
+    match read_words(alloc, cwd, words) {
+        Ok(job) => Ok(Some(job)),
+        Err(WordError::Memory) => Err(AllocError),
+        Err(_) => Ok(None),
+    }
+}
+
 // A move where all words have come.
 fn words_move(m: &mut Machine) -> Move
     requires due { m.old.due ≡ stage.Words }
     requires keeps { Keeps m.old }
     ensures { Moves m.old m.new result }
 {
-    match read_words(m.alloc, m.read.cwd.as_slice(), m.read.words.as_slice()) {
+    match job_given(m.alloc, m.read.cwd.as_slice(), m.read.words.as_slice()) {
         Err(_) => Move::Rest(Fed::Refused(FrameError::Memory)),
         Ok(None) => Move::Rest(Fed::Refused(FrameError::Words)),
         Ok(Some(job)) => {

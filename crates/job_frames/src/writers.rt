@@ -7,7 +7,7 @@ ghost use Rattle.job_frames.specs.Request.{entry_bytes, node_bytes, image_bytes,
 
 use crate::Answer;
 use base_types::Bytes;
-use job_words::Job;
+use job_words::{Job, jobs_are_short};
 use std::alloc::{AllocError, Global};
 use tree_model::{CanonPath, Entry};
 
@@ -85,17 +85,16 @@ pub fn write_request(
     job: &Job,
     entries: &[(CanonPath, Entry)],
 ) -> Result<Bytes, AllocError>
-    requires place { length job.now.cwd ≤ 4096 }
-    requires few_words { length job.now.words ≤ 1000 }
-    requires words { All (λ word. length word ≤ 4096) job.now.words }
     requires few { length entries.now ≤ 100000 }
     requires fit { All HasSpelling entries.now }
     ensures { IfOk result (λ bytes. bytes ≡ request_bytes job.now entries.now) }
 {
+    jobs_are_short();
+    job.is_reading();
     let mut out = Vec::new(alloc);
     push_token(&mut out, b"DIST", 0x103)?;
-    push_field(&mut out, b"CDIR", job.cwd.as_slice())?;
-    push_words(&mut out, job.words.as_slice())?;
+    push_field(&mut out, b"CDIR", job.setup().cwd())?;
+    push_words(&mut out, job.words())?;
     push_entries(&mut out, entries)?;
     Ok(Bytes::of(out))
 }
