@@ -7,7 +7,7 @@ use Rattle.cpp_output.specs.Laid.{Laid, after_event}
 use Rattle.directive_scan.specs.declared.Piece.{Piece}
 use Rattle.tree_model.specs.Paths.{Text, Path, spelled}
 use Rattle.tree_model.specs.Trees.{body_limit}
-use Rattle.tree_model.specs.declared.walk.Located.{Located}
+use Rattle.search_path.specs.Search.{Hit}
 use Rattle.daemon_cpp.specs.Diagnostics.{TooLarge, WorkLimit, TextLimit, diagnostic_text}
 use Rattle.daemon_cpp.specs.Prep.{World, Entering, State, Step, and_then, say, presumed_name, run_file, opening_cost, open_file}
 use Rattle.daemon_cpp.specs.declared.opening.Opened.{Opened}
@@ -33,10 +33,10 @@ small true body got is = (refl, cc)
 small false body got is = absurd (cc)
 
 -- a file as a whole is too large
-pub too-large : (world : World) (entering : Entering) (events : List Event) (file : Located) (s : State) → None ≡ body_within (world.body file.real) → StopsWith (diagnostic_text (record { place = spelled file.place; at = 0; complaint = TooLarge })) (open_file world entering events file s)
+pub too-large : (world : World) (entering : Entering) (events : List Event) (hit : Hit) (s : State) → None ≡ body_within (world.body hit.1.real) → StopsWith (diagnostic_text (record { place = spelled hit.0.place; at = 0; complaint = TooLarge })) (open_file world entering events hit s)
 unfolding open_file
-too-large world entering events file s is =
-    let size : nat_le (length (world.body file.real)) body_limit ≡ false = large (nat_le (length (world.body file.real)) body_limit) (world.body file.real) is in
+too-large world entering events hit s is =
+    let size : nat_le (length (world.body hit.1.real)) body_limit ≡ false = large (nat_le (length (world.body hit.1.real)) body_limit) (world.body hit.1.real) is in
     rw size refl
 
 -- the work left after a cost
@@ -48,47 +48,47 @@ payable : (b : Bool) (left rest : ℕ) → Some rest ≡ cond b (Some left) None
 payable true left rest is = (refl, cc)
 payable false left rest is = absurd (cc)
 
-no-work : (world : World) (entering : Entering) (events : List Event) (file : Located) (s : State) (body : Text) → Some body ≡ body_within (world.body file.real) → None ≡ work_after (opening_cost world entering (lexed false body)) s.left → StopsWith (diagnostic_text (record { place = spelled s.source; at = 0; complaint = WorkLimit })) (open_file world entering events file s)
+no-work : (world : World) (entering : Entering) (events : List Event) (hit : Hit) (s : State) (body : Text) → Some body ≡ body_within (world.body hit.1.real) → None ≡ work_after (opening_cost world entering (lexed world.trigraphs body)) s.left → StopsWith (diagnostic_text (record { place = spelled s.source; at = 0; complaint = WorkLimit })) (open_file world entering events hit s)
 unfolding open_file
-no-work world entering events file s body is none =
-    let both = small (nat_le (length (world.body file.real)) body_limit) (world.body file.real) body is in
-    let size : nat_le (length (world.body file.real)) body_limit ≡ true = both.0 in
-    let bodies : body ≡ world.body file.real = both.1 in
-    let short : nat_le (opening_cost world entering (lexed false (world.body file.real))) s.left ≡ false = subst (λ (b : Text). nat_le (opening_cost world entering (lexed false b)) s.left ≡ false) bodies (costly (nat_le (opening_cost world entering (lexed false body)) s.left) (s.left - opening_cost world entering (lexed false body)) none) in
+no-work world entering events hit s body is none =
+    let both = small (nat_le (length (world.body hit.1.real)) body_limit) (world.body hit.1.real) body is in
+    let size : nat_le (length (world.body hit.1.real)) body_limit ≡ true = both.0 in
+    let bodies : body ≡ world.body hit.1.real = both.1 in
+    let short : nat_le (opening_cost world entering (lexed world.trigraphs (world.body hit.1.real))) s.left ≡ false = subst (λ (b : Text). nat_le (opening_cost world entering (lexed world.trigraphs b)) s.left ≡ false) bodies (costly (nat_le (opening_cost world entering (lexed world.trigraphs body)) s.left) (s.left - opening_cost world entering (lexed world.trigraphs body)) none) in
     rw (size, short) refl
 
-work-paid : (world : World) (entering : Entering) (events : List Event) (file : Located) (s : State) (body : Text) (rest : ℕ) → Some body ≡ body_within (world.body file.real) → Some rest ≡ work_after (opening_cost world entering (lexed false body)) s.left → run_file world entering events (lexed false body) (lexed false body).unended (record (inside file s) { left = rest }) ≡ open_file world entering events file s
+work-paid : (world : World) (entering : Entering) (events : List Event) (hit : Hit) (s : State) (body : Text) (rest : ℕ) → Some body ≡ body_within (world.body hit.1.real) → Some rest ≡ work_after (opening_cost world entering (lexed world.trigraphs body)) s.left → run_file world entering events (lexed world.trigraphs body) (lexed world.trigraphs body).unended (record (inside hit s) { left = rest }) ≡ open_file world entering events hit s
 unfolding open_file
-work-paid world entering events file s body rest is some =
-    let both = small (nat_le (length (world.body file.real)) body_limit) (world.body file.real) body is in
-    let size : nat_le (length (world.body file.real)) body_limit ≡ true = both.0 in
-    let bodies : body ≡ world.body file.real = both.1 in
-    let paid = payable (nat_le (opening_cost world entering (lexed false body)) s.left) (s.left - opening_cost world entering (lexed false body)) rest some in
-    let fits : nat_le (opening_cost world entering (lexed false (world.body file.real))) s.left ≡ true = subst (λ (b : Text). nat_le (opening_cost world entering (lexed false b)) s.left ≡ true) bodies paid.0 in
-    let left : rest ≡ s.left - opening_cost world entering (lexed false (world.body file.real)) = subst (λ (b : Text). rest ≡ s.left - opening_cost world entering (lexed false b)) bodies paid.1 in
+work-paid world entering events hit s body rest is some =
+    let both = small (nat_le (length (world.body hit.1.real)) body_limit) (world.body hit.1.real) body is in
+    let size : nat_le (length (world.body hit.1.real)) body_limit ≡ true = both.0 in
+    let bodies : body ≡ world.body hit.1.real = both.1 in
+    let paid = payable (nat_le (opening_cost world entering (lexed world.trigraphs body)) s.left) (s.left - opening_cost world entering (lexed world.trigraphs body)) rest some in
+    let fits : nat_le (opening_cost world entering (lexed world.trigraphs (world.body hit.1.real))) s.left ≡ true = subst (λ (b : Text). nat_le (opening_cost world entering (lexed world.trigraphs b)) s.left ≡ true) bodies paid.0 in
+    let left : rest ≡ s.left - opening_cost world entering (lexed world.trigraphs (world.body hit.1.real)) = subst (λ (b : Text). rest ≡ s.left - opening_cost world entering (lexed world.trigraphs b)) bodies paid.1 in
     rw (size, fits)
-    (ap (λ (b : Text). run_file world entering events (lexed false b) (lexed false b).unended (record (inside file s) { left = rest })) bodies
-    ∙ ap (λ (n : ℕ). run_file world entering events (lexed false (world.body file.real)) (lexed false (world.body file.real)).unended (record (inside file s) { left = n })) left)
+    (ap (λ (b : Text). run_file world entering events (lexed world.trigraphs b) (lexed world.trigraphs b).unended (record (inside hit s) { left = rest })) bodies
+    ∙ ap (λ (n : ℕ). run_file world entering events (lexed world.trigraphs (world.body hit.1.real)) (lexed world.trigraphs (world.body hit.1.real)).unended (record (inside hit s) { left = n })) left)
 
 -- the marker of an included file doesn't fit
-pub marker-full : (world : World) (entering : Entering) (pieces : List Piece) (source : Path) (s : State) (included : Bool) (file : Located) (output : Laid) (name : Text) → name ≡ presumed_name file.place → s.source ≡ source → s.output ≡ output → included ≡ true → text_limit < length (after_event output (enter name)).text → StopsWith (diagnostic_text (record { place = spelled source; at = 0; complaint = TextLimit })) (and_then (λ after. run_pieces world entering pieces after) (say (front_events included file) s))
-marker-full world entering pieces source s included file output name named from same is long =
-    let full : text_limit < length (after_event output (enter (presumed_name file.place))).text = subst (λ (n : Text). text_limit < length (after_event output (enter n)).text) named long in
-    subst (λ (b : Bool). StopsWith (diagnostic_text (record { place = spelled source; at = 0; complaint = TextLimit })) (and_then (λ after. run_pieces world entering pieces after) (say (front_events b file) s))) (sym is)
-    (subst (λ (step : Step). StopsWith (diagnostic_text (record { place = spelled source; at = 0; complaint = TextLimit })) (and_then (λ after. run_pieces world entering pieces after) step)) (sym (say-full (enter (presumed_name file.place)) output s same full))
+pub marker-full : (world : World) (entering : Entering) (pieces : List Piece) (source : Path) (s : State) (included : Bool) (place : Path) (output : Laid) (name : Text) → name ≡ presumed_name place → s.source ≡ source → s.output ≡ output → included ≡ true → text_limit < length (after_event output (enter name)).text → StopsWith (diagnostic_text (record { place = spelled source; at = 0; complaint = TextLimit })) (and_then (λ after. run_pieces world entering pieces after) (say (front_events included place) s))
+marker-full world entering pieces source s included place output name named from same is long =
+    let full : text_limit < length (after_event output (enter (presumed_name place))).text = subst (λ (n : Text). text_limit < length (after_event output (enter n)).text) named long in
+    subst (λ (b : Bool). StopsWith (diagnostic_text (record { place = spelled source; at = 0; complaint = TextLimit })) (and_then (λ after. run_pieces world entering pieces after) (say (front_events b place) s))) (sym is)
+    (subst (λ (step : Step). StopsWith (diagnostic_text (record { place = spelled source; at = 0; complaint = TextLimit })) (and_then (λ after. run_pieces world entering pieces after) step)) (sym (say-full (enter (presumed_name place)) output s same full))
     (ap (λ (p : Path). diagnostic_text (record { place = spelled p; at = 0; complaint = TextLimit })) (sym from)))
 
 -- the same for the file as it was lexed, and the state as the code has it
-pub lexed-no-work : (world : World) (entering : Entering) (events : List Event) (file : Located) (s : State) (source : Path) (body : Text) (code : LexedFile) (left : ℕ) → s.source ≡ source → s.left ≡ left → Some body ≡ body_within (world.body file.real) → code ≡ lexed false body → None ≡ work_after (opening_cost world entering code) left → StopsWith (diagnostic_text (record { place = spelled source; at = 0; complaint = WorkLimit })) (open_file world entering events file s)
-lexed-no-work world entering events file s source body code left from budget is same none =
-    let short : None ≡ work_after (opening_cost world entering (lexed false body)) s.left =
-    none ∙ ap (λ (f : LexedFile). work_after (opening_cost world entering f) left) same ∙ ap (λ (n : ℕ). work_after (opening_cost world entering (lexed false body)) n) (sym budget) in
-    subst (λ (p : Path). StopsWith (diagnostic_text (record { place = spelled p; at = 0; complaint = WorkLimit })) (open_file world entering events file s)) from
-    (no-work world entering events file s body is short)
+pub lexed-no-work : (world : World) (entering : Entering) (events : List Event) (hit : Hit) (s : State) (source : Path) (body : Text) (code : LexedFile) (left : ℕ) → s.source ≡ source → s.left ≡ left → Some body ≡ body_within (world.body hit.1.real) → code ≡ lexed world.trigraphs body → None ≡ work_after (opening_cost world entering code) left → StopsWith (diagnostic_text (record { place = spelled source; at = 0; complaint = WorkLimit })) (open_file world entering events hit s)
+lexed-no-work world entering events hit s source body code left from budget is same none =
+    let short : None ≡ work_after (opening_cost world entering (lexed world.trigraphs body)) s.left =
+    none ∙ ap (λ (f : LexedFile). work_after (opening_cost world entering f) left) same ∙ ap (λ (n : ℕ). work_after (opening_cost world entering (lexed world.trigraphs body)) n) (sym budget) in
+    subst (λ (p : Path). StopsWith (diagnostic_text (record { place = spelled p; at = 0; complaint = WorkLimit })) (open_file world entering events hit s)) from
+    (no-work world entering events hit s body is short)
 
-pub lexed-paid : (world : World) (entering : Entering) (events : List Event) (file : Located) (s : State) (body : Text) (code : LexedFile) (left rest : ℕ) → s.left ≡ left → Some body ≡ body_within (world.body file.real) → code ≡ lexed false body → Some rest ≡ work_after (opening_cost world entering code) left → run_file world entering events code code.unended (record (inside file s) { left = rest }) ≡ open_file world entering events file s
-lexed-paid world entering events file s body code left rest budget is same some =
-    let paid : Some rest ≡ work_after (opening_cost world entering (lexed false body)) s.left =
-    some ∙ ap (λ (f : LexedFile). work_after (opening_cost world entering f) left) same ∙ ap (λ (n : ℕ). work_after (opening_cost world entering (lexed false body)) n) (sym budget) in
-    ap (λ (f : LexedFile). run_file world entering events f f.unended (record (inside file s) { left = rest })) same
-    ∙ work-paid world entering events file s body rest is paid
+pub lexed-paid : (world : World) (entering : Entering) (events : List Event) (hit : Hit) (s : State) (body : Text) (code : LexedFile) (left rest : ℕ) → s.left ≡ left → Some body ≡ body_within (world.body hit.1.real) → code ≡ lexed world.trigraphs body → Some rest ≡ work_after (opening_cost world entering code) left → run_file world entering events code code.unended (record (inside hit s) { left = rest }) ≡ open_file world entering events hit s
+lexed-paid world entering events hit s body code left rest budget is same some =
+    let paid : Some rest ≡ work_after (opening_cost world entering (lexed world.trigraphs body)) s.left =
+    some ∙ ap (λ (f : LexedFile). work_after (opening_cost world entering f) left) same ∙ ap (λ (n : ℕ). work_after (opening_cost world entering (lexed world.trigraphs body)) n) (sym budget) in
+    ap (λ (f : LexedFile). run_file world entering events f f.unended (record (inside hit s) { left = rest })) same
+    ∙ work-paid world entering events hit s body rest is paid

@@ -1,5 +1,5 @@
 -- Diagnostics: `PLACE:LINE: error: WORDS`, in the form of GCC's.
-use Rattle.std.specs.Prelude.{ℕ, List, [], ◌∷◌, ◌++◌, take, if◌then◌else◌, ◌==◌, codes}
+use Rattle.std.specs.Prelude.{ℕ, List, [], ◌∷◌, ◌++◌, take, Bool, true, false, if◌then◌else◌, ◌==◌, codes}
 use Rattle.std.specs.List.{flat_map}
 use Rattle.std.specs.Fmt.{decimal}
 use Rattle.pp_tokens.specs.declared.Token.{Token}
@@ -15,7 +15,7 @@ pub data Complaint : Type 0 where
   WithoutIf : BranchName → Complaint
   AfterElse : BranchName → Complaint
   Unended : Complaint
-  NotFound : Text → Complaint
+  NotFound : Bool → Text → Complaint
   TooNested : Complaint
   ErrorLine : List Token → Complaint
   UnknownDirective : Complaint
@@ -46,6 +46,11 @@ branch_name Endif = codes "endif"
 abbrev pub error_token : Token → Text
 error_token t = (if t.space then 32 ∷ [] else []) ++ shown t.text
 
+-- the name of a header as it is asked for, in angles or else in quotes (6.4.7)
+abbrev pub header_name : Bool → Text → Text
+header_name true name = codes "<" ++ (shown name ++ codes ">")
+header_name false name = codes "\"" ++ (shown name ++ codes "\"")
+
 abbrev pub words_of : Complaint → Text
 words_of NoSource = codes "cannot find source"
 words_of TooLarge = codes "file too large"
@@ -53,7 +58,7 @@ words_of OpenComment = codes "unterminated comment"
 words_of (WithoutIf name) = codes "#" ++ (branch_name name ++ codes " without #if")
 words_of (AfterElse name) = codes "#" ++ (branch_name name ++ codes " after #else")
 words_of Unended = codes "unterminated conditional"
-words_of (NotFound name) = codes "cannot find \"" ++ (shown name ++ codes "\"")
+words_of (NotFound angle name) = codes "cannot find " ++ header_name angle name
 words_of TooNested = codes "includes nested more than 200 deep"
 words_of (ErrorLine tokens) = codes "#error" ++ flat_map error_token tokens
 words_of UnknownDirective = codes "unknown directive"

@@ -6,16 +6,17 @@ use Rattle.cpp_output.specs.Layout.{text_limit}
 use Rattle.cpp_output.specs.Laid.{Laid}
 use Rattle.tree_model.specs.Paths.{Text, Path}
 use Rattle.tree_model.specs.declared.walk.Located.{Located}
+use Rattle.search_path.specs.Search.{Hit}
 use Rattle.daemon_cpp.specs.declared.outcome.Outcome.{Outcome}
 use Rattle.daemon_cpp.specs.declared.outcome.Outcome.TheVariants as outcome
 use Rattle.daemon_cpp.specs.declared.cpp.OpenFile.{OpenFile}
 use Rattle.daemon_cpp.specs.declared.cpp.Left.{Left}
 use Rattle.daemon_cpp.specs.declared.cpp.Reader.{Reader}
-use Rattle.daemon_cpp.specs.Prep.{World, Here, State, Step, Go, and_then, limited, first_state, open_file, enter_file, depth_limit, prepared}
+use Rattle.daemon_cpp.specs.Prep.{World, Here, State, Step, Go, and_then, limited, first_state, enter_file, depth_limit, run_forced, open_source, prepared}
 use Rattle.daemon_cpp.specs.Reading.{Frame, run_pieces, entering_at, resumed}
 
 abbrev pub here_of : OpenFile → Here
-here_of file = record { place = file.located.place; real = file.located.real }
+here_of file = record { place = file.visit.place; found = file.visit.found; real = file.real }
 
 -- the pieces of a file that are left to read
 abbrev pub rest_of : OpenFile → List Piece
@@ -39,27 +40,52 @@ state_of reader touched opened = record {
   here = here_of reader.file;
 }
 
--- the outcome when a step in a file is followed by more pieces of it, and then by the rest of the files around it
-abbrev pub outcome_behind : World → List Frame → List Piece → Step → Outcome
-outcome_behind world frames rest step =
-    (prepared (resumed world 0 frames (and_then (λ after. run_pieces world (entering_at world (length frames)) rest after) step))).outcome
+-- what comes behind the files that are read
+abbrev pub After : Type 0
+After = State → Step
 
--- what is left to read leads to an outcome
-pub record LeadsTo (world : World) (reader : Reader) (whole : Outcome) : Type 0 where
+-- the outcome when a step in a file is followed by more pieces of it, then by the rest of the files around it, and then by this
+abbrev pub outcome_behind : World → After → List Frame → List Piece → Step → Outcome
+outcome_behind world behind frames rest step =
+    (prepared (and_then behind (resumed world 0 frames (and_then (λ after. run_pieces world (entering_at world (length frames)) rest after) step)))).outcome
+
+-- what is left to read, and what comes behind it, lead to an outcome
+pub record LeadsTo (world : World) (behind : After) (reader : Reader) (whole : Outcome) : Type 0 where
   pub touched : List Located
   pub opened : List Path
-  pub same : outcome_behind world (frames_of reader) (rest_of reader.file) (Go (state_of reader touched opened)) ≡ whole
+  pub same : outcome_behind world behind (frames_of reader) (rest_of reader.file) (Go (state_of reader touched opened)) ≡ whole
 
--- a file that is entered from an include on a line, and then what is left to read, lead to an outcome
-pub record EntersTo (world : World) (reader : Reader) (at : ℕ) (inner : Located) (whole : Outcome) : Type 0 where
+-- a file that is entered from an include on a line, what is left to read, and what comes behind it, lead to an outcome
+pub record EntersTo (world : World) (behind : After) (reader : Reader) (at : ℕ) (inner : Hit) (whole : Outcome) : Type 0 where
   pub touched : List Located
   pub opened : List Path
-  pub same : outcome_behind world (frames_of reader) (rest_of reader.file) (entering_at world (length (frames_of reader)) at inner (state_of reader touched opened)) ≡ whole
+  pub same : outcome_behind world behind (frames_of reader) (rest_of reader.file) (entering_at world (length (frames_of reader)) at inner (state_of reader touched opened)) ≡ whole
+
+-- what comes behind the files that were read leads to an outcome
+pub record ComesTo (behind : After) (reader : Reader) (whole : Outcome) : Type 0 where
+  pub touched : List Located
+  pub opened : List Path
+  pub same : (prepared (behind (state_of reader touched opened))).outcome ≡ whole
 
 -- what a step of the code leads to: an outcome as before, or its diagnostic
-abbrev pub GoesOn : World → Reader → Outcome → Option Text → Type 0
-GoesOn world reader whole None = LeadsTo world reader whole
-GoesOn world reader whole (Some words) = outcome.Diag words ≡ whole
+abbrev pub GoesOn : World → After → Reader → Outcome → Option Text → Type 0
+GoesOn world behind reader whole None = LeadsTo world behind reader whole
+GoesOn world behind reader whole (Some words) = outcome.Diag words ≡ whole
+
+-- what reading some files to their end leads to: what comes behind them, or a diagnostic
+abbrev pub ReadsTo : After → Reader → Outcome → Option Text → Type 0
+ReadsTo behind reader whole None = ComesTo behind reader whole
+ReadsTo behind reader whole (Some words) = outcome.Diag words ≡ whole
+
+-- nothing is left to read: neither of the file nor of files around it, and the text is within its limit
+pub record AllRead (reader : Reader) : Type 0 where
+  pub alone : reader.around.items ≡ []
+  pub ended : length reader.file.pieces ≤ reader.file.next
+  pub within : length reader.layout.text ≤ text_limit
+
+abbrev pub EndsRead : Reader → Option Text → Type 0
+EndsRead reader None = AllRead reader
+EndsRead reader (Some words) = Unit {0}
 
 -- the units of work left, twice, the pieces left of the file that is read, and those of each file around it with one for
 -- coming back to it
@@ -72,12 +98,18 @@ abbrev pub Advances : ℕ → Reader → Option Text → Type 0
 Advances before after None = (length after.layout.text ≤ text_limit) × (work_ahead after < before)
 Advances before after (Some words) = Unit {0}
 
--- the outcome of a job from the opening of its source, behind its first marker
-abbrev pub opened_outcome : World → Located → Laid → Outcome
-opened_outcome world source output =
-    (prepared (open_file world (enter_file world depth_limit) [] source (record (first_state source) { output = output }))).outcome
+-- what comes behind some of the files of the job's words: the others, and then the source
+abbrev pub source_behind : World → Hit → List Text → After
+source_behind world source names state =
+    and_then (λ after. open_source world source after) (run_forced world (enter_file world depth_limit) names state)
+
+-- the outcome of a job from its first file on, behind the source's marker
+abbrev pub begun_outcome : World → Hit → List Text → Laid → Outcome
+begun_outcome world source names output =
+    (prepared (source_behind world source names (record (first_state source) { output = output }))).outcome
 
 -- the outcome of a job whose source was found
-abbrev pub source_outcome : World → Located → Outcome
-source_outcome world source =
-    (prepared (and_then (λ state. open_file world (enter_file world depth_limit) [] source state) (limited (first_state source)))).outcome
+abbrev pub source_outcome : World → Hit → List Text → Outcome
+source_outcome world source names =
+    (prepared (and_then (λ state. open_source world source state)
+    (and_then (λ state. run_forced world (enter_file world depth_limit) names state) (limited (first_state source))))).outcome

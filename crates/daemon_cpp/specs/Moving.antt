@@ -22,5 +22,5 @@ LaidOut source (Err error) move = LeftOff source error move
 -- where reading goes on, the text is within its limit
 abbrev pub StaysWithin : Laid → Move → Type 0
 StaysWithin output Onward = length output.text ≤ text_limit
-StaysWithin output (Enter at file) = length output.text ≤ text_limit
+StaysWithin output (Enter at hit) = length output.text ≤ text_limit
 StaysWithin output (Ended words) = Unit {0}

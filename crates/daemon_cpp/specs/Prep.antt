@@ -6,7 +6,6 @@ use Rattle.pp_tokens.specs.declared.Kind.{Kind}
 use Rattle.pp_tokens.specs.declared.Kind.TheVariants as kind
 use Rattle.pp_tokens.specs.declared.Token.{Token}
 use Rattle.pp_tokens.specs.Lines.{lexed, LexedFile}
-use Rattle.directive_scan.specs.declared.HeaderName.{HeaderName}
 use Rattle.directive_scan.specs.declared.Target.{Target}
 use Rattle.directive_scan.specs.declared.Target.TheVariants.{Plain, Computed}
 use Rattle.directive_scan.specs.declared.Directive.{Directive}
@@ -19,11 +18,17 @@ use Rattle.directive_scan.specs.Directives.{pieces}
 use Rattle.directive_scan.specs.Groups.{Group, nothing, one, conditional, Outline, whole, stray, after_else, unended, role_of, outline, malformed_by}
 use Rattle.cpp_output.specs.Layout.{Event, enter, back, put, pragma, text_limit}
 use Rattle.cpp_output.specs.Laid.{Laid, begun, after_events, finished}
-use Rattle.tree_model.specs.Paths.{Text, Path, slash, spelled, parent}
+use Rattle.tree_model.specs.Paths.{Text, Path, spelled}
 use Rattle.tree_model.specs.Trees.{FileTree, body_at, body_limit}
-use Rattle.tree_model.specs.Walk.{locate, is_absolute}
 use Rattle.tree_model.specs.declared.walk.Located.{Located}
-use Rattle.job_words.specs.declared.job.Job.{Job}
+use Rattle.search_path.specs.SetupOf.{SetupData, absolute}
+use Rattle.search_path.specs.Search.{Hit, search}
+use Rattle.search_path.specs.declared.asking.Found.{Found}
+use Rattle.search_path.specs.declared.asking.Visit.{Visit}
+use Rattle.search_path.specs.declared.asking.Form.{Form}
+use Rattle.search_path.specs.declared.asking.Form.TheVariants.{Source, Forced, Quote, Angle, NextQuote, NextAngle}
+use Rattle.search_path.specs.declared.asking.Ask.{Ask}
+use Rattle.job_words.specs.JobOf.{JobData}
 use Rattle.daemon_cpp.specs.declared.outcome.Outcome.{Outcome}
 use Rattle.daemon_cpp.specs.declared.outcome.Outcome.TheVariants as outcome
 use Rattle.daemon_cpp.specs.Diagnostics as complaint
@@ -31,33 +36,30 @@ use Rattle.daemon_cpp.specs.Diagnostics.{Complaint, NoSource, TooLarge, OpenComm
 
 -- ---- the world: all that preprocessing asks of a tree ----
 
--- a file that is asked for: a source, by an absolute text; or the file of a quoted name, first in the directory of
--- the file that asks
-pub data Ask : Type 0 where
-  Source : Text → Ask
-  Quote : Path → Text → Ask
-
+-- the searches, and the bytes of files; and whether trigraphs are read
 pub record World : Type 0 where
-  pub find : Ask → Option Located
+  pub find : Ask → Option Hit
   pub body : Path → Text
+  pub trigraphs : Bool
 
--- a text below the working directory, or itself where it begins with `/`
-abbrev pub absolute : Text → Text → Text
-absolute cwd text = cond (is_absolute text) text (cwd ++ slash ∷ text)
-
-abbrev pub find_in : FileTree → Ask → Option Located
-find_in tree (Source text) = locate tree [] text
-find_in tree (Quote dir name) = locate tree dir name
-
-abbrev pub world_of : FileTree → World
-world_of tree = record { find = find_in tree; body = λ path. unwrap_or (body_at tree path) [] }
+-- a tree, with what a job's words say of searches
+abbrev pub world_of : FileTree → SetupData → World
+world_of tree setup = record { find = search tree setup; body = λ path. unwrap_or (body_at tree path) []; trigraphs = setup.trigraphs }
 
 -- ---- the state ----
 
--- the file that is read: its place, and its path behind all links
+-- the file that is read: its place, how it was found, and its path behind all links
 pub record Here : Type 0 where
   pub place : Path
+  pub found : Found
   pub real : Path
+
+abbrev pub here_at : Hit → Here
+here_at hit = record { place = hit.0.place; found = hit.0.found; real = hit.1.real }
+
+-- the file that is read, as one that asks
+abbrev pub visit_of : Here → Visit
+visit_of here = record { place = here.place; found = here.found }
 
 -- the source's place, the output so far, the work left, the searches that succeeded, the places of the files opened, and
 -- the file that is read
@@ -103,7 +105,7 @@ presumed_name place = shown (spelled place)
 
 -- what entering a file does, from an include on a line
 abbrev pub Entering : Type 0
-Entering = ℕ → Located → State → Step
+Entering = ℕ → Hit → State → Step
 
 -- ---- text ----
 
@@ -132,25 +134,39 @@ text_step tokens (Some line) state = complain line NotBuilt state
 
 -- ---- a file ----
 
+-- the form of an include, and of an include_next; in angles or else in quotes
+abbrev pub form_of : (next : Bool) → (angle : Bool) → Form
+form_of false false = Quote
+form_of false true = Angle
+form_of true false = NextQuote
+form_of true true = NextAngle
+
+-- what a file asks for by such a name
+abbrev pub asked_by : Here → Bool → Bool → Text → Ask
+asked_by here next angle name = record { form = form_of next angle; from = Some (visit_of here); name = name }
+
+-- what a file of the job's words asks for, and the source
+abbrev pub forced_ask : Text → Ask
+forced_ask name = record { form = Forced; from = None; name = name }
+
+abbrev pub source_ask : Text → Ask
+source_ask name = record { form = Source; from = None; name = name }
+
 module _ (world : World) (entering : Entering) where
-  -- an include on a line, whose search gave this
-  abbrev pub found : ℕ → Text → State → Option Located → Step
-  found at name state None = complain at (NotFound name) state
-  found at name state (Some located) = entering at located (touch located state)
+  -- a name on a line, in angles or else in quotes, whose search gave this
+  abbrev pub found : ℕ → Bool → Text → State → Option Hit → Step
+  found at angle name state None = complain at (NotFound angle name) state
+  found at angle name state (Some hit) = entering at hit (touch hit.1 state)
 
-  -- an include of a name, in angle form or else in quote form (6.10.2)
-  abbrev pub include_name : ℕ → Bool → Text → State → Step
-  include_name at true name state = complain at NotBuilt state
-  include_name at false name state = found at name state (world.find (Quote (parent state.here.place) name))
-
-  abbrev pub include : ℕ → Target → State → Step
-  include at (Plain header) state = include_name at header.angle header.name state
-  include at (Computed tokens) state = complain at NotBuilt state
+  -- an include, or an include_next, on a line (6.10.2)
+  abbrev pub include : Bool → ℕ → Target → State → Step
+  include next at (Plain header) state = found at header.angle header.name state (world.find (asked_by state.here next header.angle header.name))
+  include next at (Computed tokens) state = complain at NotBuilt state
 
   -- a directive on a line (6.10)
   abbrev pub directive_step : ℕ → Directive → State → Step
-  directive_step at (named.Include target) state = include at target state
-  directive_step at (named.Next target) state = complain at NotBuilt state
+  directive_step at (named.Include target) state = include false at target state
+  directive_step at (named.Next target) state = include true at target state
   directive_step at (named.Define tokens) state = complain at NotBuilt state
   directive_step at (named.Undef tokens) state = complain at NotBuilt state
   directive_step at (named.If tokens) state = complain at NotBuilt state
@@ -206,11 +222,11 @@ module _ (world : World) (entering : Entering) where
   opening_cost file = suc (length (flat_map (λ line. line) file.lines))
 
   -- a file is opened, and read behind these events
-  unfoldable pub open_file : List Event → Located → State → Step
-  open_file events located state =
-      let body = world.body located.real in
-      let file = lexed false body in
-      let inside = record state { here = record { place = located.place; real = located.real }; opened = state.opened ++ located.place ∷ [] } in
+  unfoldable pub open_file : List Event → Hit → State → Step
+  open_file events hit state =
+      let body = world.body hit.1.real in
+      let file = lexed world.trigraphs body in
+      let inside = record state { here = here_at hit; opened = state.opened ++ hit.0.place ∷ [] } in
       cond (nat_le (length body) body_limit)
       (paid (opening_cost file) (run_file events file file.unended) inside)
       (complain 0 TooLarge inside)
@@ -221,10 +237,10 @@ back_in here at state = say (back (presumed_name here.place) (pos (at + 1)) at �
 
 -- entering an included file, with so many levels of includes left
 unfoldable pub enter_file : World → ℕ → Entering
-enter_file world zero at located state = complain at TooNested state
-enter_file world (suc depth) at located state =
+enter_file world zero at hit state = complain at TooNested state
+enter_file world (suc depth) at hit state =
     and_then (λ after. back_in state.here at after)
-    (open_file world (enter_file world depth) (enter (presumed_name located.place) ∷ []) located state)
+    (open_file world (enter_file world depth) (enter (presumed_name hit.0.place) ∷ []) hit state)
 
 -- how many levels of includes there may be
 abbrev pub depth_limit : ℕ
@@ -255,32 +271,43 @@ abbrev pub work_limit : ℕ
 work_limit = 20000000
 
 -- the state before the source is opened: the output has its marker
-abbrev pub first_state : Located → State
-first_state located = record {
-  source = located.place;
-  output = begun (presumed_name located.place);
+abbrev pub first_state : Hit → State
+first_state hit = record {
+  source = hit.0.place;
+  output = begun (presumed_name hit.0.place);
   left = work_limit;
-  touched = located ∷ [];
+  touched = hit.1 ∷ [];
   opened = [];
-  here = record { place = located.place; real = located.real };
+  here = here_at hit;
 }
 
+-- the files of the job's words, one after another, each as by an include on line 0 of the source
+unfoldable pub run_forced : World → Entering → List Text → State → Step
+run_forced world entering [] state = Go state
+run_forced world entering (name ∷ names) state =
+    and_then (λ after. run_forced world entering names after) (found world entering 0 false name state (world.find (forced_ask name)))
+
+-- the source, in front of all else
+abbrev pub open_source : World → Hit → State → Step
+open_source world hit state = open_file world (enter_file world depth_limit) [] hit state
+
 -- a job whose source's search gave this
-abbrev pub run_job : World → Text → Option Located → Prepared
-run_job world text None = record {
-  outcome = outcome.Diag (diagnostic_text (record { place = text; at = 0; complaint = NoSource }));
+abbrev pub run_job : World → JobData → Option Hit → Prepared
+run_job world job None = record {
+  outcome = outcome.Diag (diagnostic_text (record { place = absolute job.setup.cwd job.source; at = 0; complaint = NoSource }));
   touched = [];
   opened = [];
 }
-run_job world text (Some located) =
-    prepared (and_then (λ state. open_file world (enter_file world depth_limit) [] located state) (limited (first_state located)))
+run_job world job (Some hit) =
+    prepared (and_then (λ state. open_source world hit state)
+    (and_then (λ state. run_forced world (enter_file world depth_limit) job.forced state) (limited (first_state hit))))
 
-unfoldable pub prep : World → Job → Prepared
-prep world job = run_job world (absolute job.cwd job.source) (world.find (Source (absolute job.cwd job.source)))
+unfoldable pub prep : World → JobData → Prepared
+prep world job = run_job world job (world.find (source_ask job.source))
 
 -- preprocessing a job over a tree
-abbrev pub outcome_over : FileTree → Job → Outcome
-outcome_over tree job = (prep (world_of tree) job).outcome
+abbrev pub outcome_over : FileTree → JobData → Outcome
+outcome_over tree job = (prep (world_of tree job.setup) job).outcome
 
 -- a text of at most 67,108,864 bytes, or a diagnostic of 1 to 65,536
 abbrev pub OutcomeFits : Outcome → Type 0

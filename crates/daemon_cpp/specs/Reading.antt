@@ -6,15 +6,15 @@ use Rattle.pp_tokens.specs.declared.Token.{Token}
 use Rattle.directive_scan.specs.declared.Piece.{Piece}
 use Rattle.cpp_output.specs.Layout.{Event, enter, text_limit}
 use Rattle.cpp_output.specs.Laid.{Laid}
-use Rattle.tree_model.specs.Paths.{Text}
+use Rattle.tree_model.specs.Paths.{Text, Path}
 use Rattle.tree_model.specs.Trees.{body_limit}
-use Rattle.tree_model.specs.declared.walk.Located.{Located}
+use Rattle.search_path.specs.Search.{Hit}
 use Rattle.daemon_cpp.specs.Diagnostics.{diagnostic_text}
 use Rattle.daemon_cpp.specs.declared.pieces.Move.{Move}
 use Rattle.daemon_cpp.specs.declared.pieces.Move.TheVariants.{Onward, Enter, Ended}
 use Rattle.daemon_cpp.specs.declared.opening.Opened.{Opened}
 use Rattle.daemon_cpp.specs.declared.opening.Opened.TheVariants.{Pieces, Refused}
-use Rattle.daemon_cpp.specs.Prep.{World, Here, State, Step, Go, Stop, and_then, touch, Entering, presumed_name, piece_step, enter_file, back_in, depth_limit}
+use Rattle.daemon_cpp.specs.Prep.{World, Here, State, Step, Go, Stop, and_then, touch, here_at, Entering, presumed_name, piece_step, enter_file, back_in, depth_limit}
 
 -- a body, where it isn't too large
 abbrev pub body_within : Text → Option Text
@@ -53,17 +53,17 @@ StopsWith words (Stop diagnostic state) = words ≡ diagnostic_text diagnostic
 -- what a piece leads to: the next piece, the file of an include on a line, or an end
 abbrev pub Leads : Entering → State → Move → Step → Type 0
 Leads entering state Onward step = step ≡ Go state
-Leads entering state (Enter at file) step = step ≡ entering at file (touch file state)
+Leads entering state (Enter at hit) step = step ≡ entering at hit (touch hit.1 state)
 Leads entering state (Ended words) step = StopsWith words step
 
 -- the state in a file that was opened
-abbrev pub inside : Located → State → State
-inside file state = record state { here = record { place = file.place; real = file.real }; opened = state.opened ++ file.place ∷ [] }
+abbrev pub inside : Hit → State → State
+inside hit state = record state { here = here_at hit; opened = state.opened ++ hit.0.place ∷ [] }
 
 -- the events in front of a file: an included one's marker
-abbrev pub front_events : Bool → Located → List Event
-front_events true file = enter (presumed_name file.place) ∷ []
-front_events false file = []
+abbrev pub front_events : Bool → Path → List Event
+front_events true place = enter (presumed_name place) ∷ []
+front_events false place = []
 
 -- what opening a file leads to: its pieces, in the state inside it, or an end
 abbrev pub Opens : World → Entering → State → Opened → Step → Type 0

@@ -4,25 +4,29 @@ ghost use Rattle.std.specs.Option.{ForSome};
 ghost use Rattle.base_types.specs.Causes.{HasCause};
 ghost use Rattle.cpp_output.specs.Layout.{text_limit};
 ghost use Rattle.cpp_output.specs.Laid.{finished};
-ghost use Rattle.tree_model.specs.Paths.{spelled};
-ghost use Rattle.daemon_cpp.specs.Diagnostics.{TextLimit, diagnostic_text};
+ghost use Rattle.tree_model.specs.Paths.{Text, spelled};
+ghost use Rattle.search_path.specs.SetupOf.{absolute};
+ghost use Rattle.search_path.specs.Search.{Hit};
+ghost use Rattle.daemon_cpp.specs.Diagnostics.{NoSource, TextLimit, diagnostic_text};
 ghost use Rattle.daemon_cpp.specs.Problems.{complaint_of};
 ghost use Rattle.daemon_cpp.specs.declared.outcome.Outcome.{Outcome};
-ghost use Rattle.daemon_cpp.specs.Prep.{World, world_of, outcome_of_text, outcome_over, OutcomeFits};
-ghost use Rattle.daemon_cpp.specs.Files.{LeadsTo, EntersTo, GoesOn, work_ahead, Advances, opened_outcome, source_outcome};
+ghost use Rattle.daemon_cpp.specs.Prep as prep;
+ghost use Rattle.daemon_cpp.specs.Prep.{World, Go, world_of, outcome_of_text, outcome_over, OutcomeFits};
+ghost use Rattle.daemon_cpp.specs.Files.{After, LeadsTo, EntersTo, ComesTo, GoesOn, ReadsTo, AllRead, EndsRead, work_ahead, Advances, source_behind, begun_outcome, source_outcome};
 
 use crate::diagnostic::{Diagnostic, Problem, shown};
 use crate::opening::{Opened, open_file};
 use crate::pieces::{Move, Places, run_piece};
-use crate::tree::{absolute, cause_of};
+use crate::tree::{absolute_text, cause_of};
 use crate::{CppError, Outcome};
-use base_types::List;
+use base_types::{Bytes, List};
 use cpp_output::{LayError, Layout};
 use directive_scan::Piece;
 use job_words::Job;
+use search_path::{Ask, Form, Setup, Visit, search};
 use std::alloc::{AllocError, Global};
 use std::mem::replace;
-use tree_model::{CanonPath, Located, Tree, locate};
+use tree_model::{CanonPath, Located, Tree};
 
 // How many levels of includes there may be.
 const DEPTH_LIMIT: usize = 200;
@@ -30,9 +34,10 @@ const DEPTH_LIMIT: usize = 200;
 // The work that a job may take, in units.
 const WORK_LIMIT: u32 = 20_000_000;
 
-/// Preprocesses a job over a tree: translation phases 1 to 4 (ISO C 5.1.1.2) of its source, found by the working
-/// directory and the source's name, and of the files that it includes (6.10.2). Time is linear in the bytes of the
-/// files read, each counted as often as it is included. Includes take no more of the program's stack, however deep.
+/// Preprocesses a job over a tree: translation phases 1 to 4 (ISO C 5.1.1.2) of the files that its words name, of its
+/// source, found by the working directory and the source's name, and of the files that these include (6.10.2). Time is
+/// linear in the bytes of the files read, each counted as often as it is included. Includes take no more of the
+/// program's stack, however deep.
 ///
 /// `Fault` comes where the tree failed, `Memory` where no memory was found; all else is an `Outcome`.
 pub fn preprocess<T: Tree>(alloc: Global, tree: &mut T, job: &Job) -> Result<Outcome, CppError>
@@ -41,13 +46,41 @@ pub fn preprocess<T: Tree>(alloc: Global, tree: &mut T, job: &Job) -> Result<Out
     ensures fits { IfOk result OutcomeFits }
     ensures cause { HasCause CppError.Fault (T.faults tree.old) (T.faults tree.new) result }
 {
-    let text = absolute(alloc, job.cwd.as_slice(), job.source.as_slice())?;
-    let root = CanonPath::root(alloc)?;
-    match locate(alloc, tree, &root, &text) {
-        Ok(Some(source)) => preprocess_source(alloc, tree, source),
-        Ok(None) => Ok(refused(alloc, &text, Problem::NoSource)?),
+    let ask = source_ask(alloc, job)?;
+    match search(alloc, tree, job.setup(), &ask) {
+        Ok(Some(source)) => preprocess_source(alloc, tree, job, source),
+        Ok(None) => Ok(no_source(alloc, job)?),
         Err(error) => Err(cause_of(error)),
     }
+}
+
+fn source_ask(alloc: Global, job: &Job) -> Result<Ask, AllocError>
+    ensures { IfOk result (λ ask. ask ≡ prep.source_ask job.now.source) }
+{
+    Ok(Ask {
+        form: Form::Source,
+        from: None,
+        name: Bytes::copy_of(alloc, job.source())?,
+    })
+}
+
+fn forced_ask(alloc: Global, name: &[u8]) -> Result<Ask, AllocError>
+    ensures { IfOk result (λ ask. ask ≡ prep.forced_ask name.now) }
+{
+    Ok(Ask {
+        form: Form::Forced,
+        from: None,
+        name: Bytes::copy_of(alloc, name)?,
+    })
+}
+
+// The source isn't found: the diagnostic is at the text that was searched.
+fn no_source(alloc: Global, job: &Job) -> Result<Outcome, AllocError>
+    ensures outcome { IfOk result (λ outcome. outcome ≡ Outcome.Diag (diagnostic_text (record { place = absolute job.now.setup.cwd job.now.source; at = 0; complaint = NoSource }))) }
+    ensures fits { IfOk result OutcomeFits }
+{
+    let text = absolute_text(alloc, job.setup().cwd(), job.source())?;
+    refused(alloc, &text, Problem::NoSource)
 }
 
 // A file as a whole is the diagnostic.
@@ -74,48 +107,44 @@ fn past_limit(alloc: Global, error: LayError, source: &CanonPath) -> Result<Outc
 fn preprocess_source<T: Tree>(
     alloc: Global,
     tree: &mut T,
-    source: Located,
+    job: &Job,
+    source: (Visit, Located),
 ) -> Result<Outcome, CppError>
     ensures same { T.told tree.new ≡ T.told tree.old }
-    ensures outcome { ForSome (T.told tree.old) (λ told. IfOk result (λ outcome. outcome ≡ source_outcome (world_of told) source)) }
+    ensures outcome { ForSome (T.told tree.old) (λ told. IfOk result (λ outcome. outcome ≡ source_outcome (world_of told job.now.setup) source job.now.forced)) }
     ensures fits { IfOk result OutcomeFits }
     ensures cause { HasCause CppError.Fault (T.faults tree.old) (T.faults tree.new) result }
 {
-    let name = shown(alloc, source.place.bytes())?;
+    let name = shown(alloc, source.0.place.bytes())?;
     match Layout::begin(alloc, &name) {
-        Ok(layout) => read_source(alloc, tree, source, layout),
-        Err(error) => past_limit(alloc, error, &source.place),
+        Ok(layout) => read_files(alloc, tree, job, source, layout),
+        Err(error) => past_limit(alloc, error, &source.0.place),
     }
 }
 
-// A source behind its first marker.
-fn read_source<T: Tree>(
+// The files of a job behind its source's first marker.
+fn read_files<T: Tree>(
     alloc: Global,
     tree: &mut T,
-    source: Located,
-    mut layout: Layout,
+    job: &Job,
+    source: (Visit, Located),
+    layout: Layout,
 ) -> Result<Outcome, CppError>
     requires { length layout.text ≤ text_limit }
     ensures same { T.told tree.new ≡ T.told tree.old }
-    ensures outcome { ForSome (T.told tree.old) (λ told. IfOk result (λ outcome. outcome ≡ opened_outcome (world_of told) source layout)) }
+    ensures outcome { ForSome (T.told tree.old) (λ told. IfOk result (λ outcome. outcome ≡ begun_outcome (world_of told job.now.setup) source job.now.forced layout)) }
     ensures fits { IfOk result OutcomeFits }
     ensures cause { HasCause CppError.Fault (T.faults tree.old) (T.faults tree.new) result }
 {
-    let mut left = WORK_LIMIT;
-    let place = source.place.copy(alloc)?;
-    match open_file(alloc, tree, &mut layout, &mut left, &place, &source, false)? {
-        Opened::Refused(diagnostic) => Ok(Outcome::Diag(diagnostic.into_bytes())),
-        Opened::Pieces(pieces) => {
-            let reader = Reader {
-                source: place,
-                layout,
-                left,
-                file: OpenFile::new(source, pieces),
-                around: Vec::new(alloc),
-            };
-            reader.read(alloc, tree)
-        }
+    let mut reader = Reader::before_source(alloc, &source, layout)?;
+    if let Some(diagnostic) = reader.read_forced(alloc, tree, job)? {
+        return Ok(Outcome::Diag(diagnostic.into_bytes()));
     }
+    if let Some(diagnostic) = reader.read_source(alloc, tree, job.setup(), source)? {
+        return Ok(Outcome::Diag(diagnostic.into_bytes()));
+    }
+    let Reader { source, layout, .. } = reader;
+    finish(alloc, layout, &source)
 }
 
 fn finish(alloc: Global, layout: Layout, source: &CanonPath) -> Result<Outcome, CppError>
@@ -132,17 +161,20 @@ fn finish(alloc: Global, layout: Layout, source: &CanonPath) -> Result<Outcome, 
 // A file that was opened, with the number of the piece that comes next.
 #[derive(Drop)]
 struct OpenFile {
-    located: Located,
+    visit: Visit,
+    real: CanonPath,
     pieces: List<Piece>,
     next: usize,
 }
 
 impl OpenFile {
-    fn new(located: Located, pieces: List<Piece>) -> OpenFile
-        ensures { result ≡ record { located = located; pieces = pieces; next = 0 } }
+    fn new(found: (Visit, Located), pieces: List<Piece>) -> OpenFile
+        ensures { result ≡ record { visit = found.0; real = found.1.real; pieces = pieces; next = 0 } }
     {
+        let (visit, Located { real, .. }) = found;
         OpenFile {
-            located,
+            visit,
+            real,
             pieces,
             next: 0,
         }
@@ -170,8 +202,8 @@ fn line_behind(at: u32) -> i64
     i64::from(at) + 1
 }
 
-// Reads a source and the files that it includes: the source's place, the output so far, the work left, the file that
-// is read, and the files around it, which were left at an include, the source first.
+// Reads the files of a job: the source's place, the output so far, the work left, the file that is read, and the files
+// around it, which were left at an include, the source first.
 #[derive(Drop)]
 struct Reader {
     source: CanonPath,
@@ -182,26 +214,138 @@ struct Reader {
 }
 
 impl Reader {
-    // Reads all that is left, up to the end or the first diagnostic.
-    fn read<T: Tree>(mut self, alloc: Global, tree: &mut T) -> Result<Outcome, CppError>
-        requires { length self.layout.text ≤ text_limit }
+    // A reader before its source is opened: in the source, of which nothing is left to read.
+    fn before_source(
+        alloc: Global,
+        source: &(Visit, Located),
+        layout: Layout,
+    ) -> Result<Reader, AllocError>
+        requires { length layout.text ≤ text_limit }
+        ensures read { IfOk result AllRead }
+        ensures leads { IfOk result (λ reader. (world : World) (forced : List Text) → ComesTo (source_behind world source.now forced) reader (begun_outcome world source.now forced layout)) }
+    {
+        let (visit, located) = source;
+        Ok(Reader {
+            source: visit.place.copy(alloc)?,
+            layout,
+            left: WORK_LIMIT,
+            file: OpenFile {
+                visit: visit.copy(alloc)?,
+                real: located.real.copy(alloc)?,
+                pieces: List::new(alloc),
+                next: 0,
+            },
+            around: Vec::new(alloc),
+        })
+    }
+
+    // Reads the files that the job's words name, up to the first diagnostic.
+    fn read_forced<T: Tree>(
+        &mut self,
+        alloc: Global,
+        tree: &mut T,
+        job: &Job,
+    ) -> Result<Option<Diagnostic>, CppError>
+        requires { AllRead self.old }
         ensures same { T.told tree.new ≡ T.told tree.old }
-        ensures outcome { ForSome (T.told tree.old) (λ told. IfOk result (λ outcome. (whole : Outcome) → LeadsTo (world_of told) self whole → outcome ≡ whole)) }
-        ensures fits { IfOk result OutcomeFits }
+        ensures leads { ForSome (T.told tree.old) (λ told. IfOk result (λ ended. (source : Hit) (whole : Outcome) → ComesTo (source_behind (world_of told job.now.setup) source job.now.forced) self.old whole → ReadsTo (source_behind (world_of told job.now.setup) source []) self.new whole ended)) }
+        ensures read { IfOk result (EndsRead self.new) }
+        ensures cause { HasCause CppError.Fault (T.faults tree.old) (T.faults tree.new) result }
+    {
+        for name in job.forced() {
+            if let Some(diagnostic) = self.read_named(alloc, tree, job.setup(), name.as_slice())? {
+                return Ok(Some(diagnostic));
+            }
+        }
+        Ok(None)
+    }
+
+    // Reads the file of a name of the job's words, as by an include on line 0 of the source.
+    fn read_named<T: Tree>(
+        &mut self,
+        alloc: Global,
+        tree: &mut T,
+        setup: &Setup,
+        name: &[u8],
+    ) -> Result<Option<Diagnostic>, CppError>
+        requires { AllRead self.old }
+        ensures same { T.told tree.new ≡ T.told tree.old }
+        ensures leads { ForSome (T.told tree.old) (λ told. IfOk result (λ ended. (source : Hit) (names : List Text) (whole : Outcome) → ComesTo (source_behind (world_of told setup.now) source (name.now ∷ names)) self.old whole → ReadsTo (source_behind (world_of told setup.now) source names) self.new whole ended)) }
+        ensures read { IfOk result (EndsRead self.new) }
+        ensures cause { HasCause CppError.Fault (T.faults tree.old) (T.faults tree.new) result }
+    {
+        let ask = forced_ask(alloc, name)?;
+        let file = match search(alloc, tree, setup, &ask) {
+            Ok(Some(file)) => file,
+            Ok(None) => {
+                let place = self.file.visit.place.bytes();
+                let problem = Problem::NotFound(false, name);
+                return Ok(Some(Diagnostic::new(alloc, place, 0, problem)?));
+            }
+            Err(error) => return Err(cause_of(error)),
+        };
+        if let Some(diagnostic) = self.enter(alloc, tree, setup, 0, file)? {
+            return Ok(Some(diagnostic));
+        }
+        self.read(alloc, tree, setup)
+    }
+
+    // Opens the source, and reads it.
+    fn read_source<T: Tree>(
+        &mut self,
+        alloc: Global,
+        tree: &mut T,
+        setup: &Setup,
+        source: (Visit, Located),
+    ) -> Result<Option<Diagnostic>, CppError>
+        requires { AllRead self.old }
+        ensures same { T.told tree.new ≡ T.told tree.old }
+        ensures leads { ForSome (T.told tree.old) (λ told. IfOk result (λ ended. (whole : Outcome) → ComesTo (source_behind (world_of told setup.now) source []) self.old whole → ReadsTo Go self.new whole ended)) }
+        ensures read { IfOk result (EndsRead self.new) }
+        ensures cause { HasCause CppError.Fault (T.faults tree.old) (T.faults tree.new) result }
+    {
+        match open_file(
+            alloc,
+            tree,
+            &mut self.layout,
+            &mut self.left,
+            setup,
+            &self.source,
+            &source,
+            false,
+        )? {
+            Opened::Refused(diagnostic) => Ok(Some(diagnostic)),
+            Opened::Pieces(pieces) => {
+                self.file = OpenFile::new(source, pieces);
+                self.read(alloc, tree, setup)
+            }
+        }
+    }
+
+    // Reads the file and those around it, up to their ends or the first diagnostic.
+    fn read<T: Tree>(
+        &mut self,
+        alloc: Global,
+        tree: &mut T,
+        setup: &Setup,
+    ) -> Result<Option<Diagnostic>, CppError>
+        requires { length self.old.layout.text ≤ text_limit }
+        ensures same { T.told tree.new ≡ T.told tree.old }
+        ensures leads { ForSome (T.told tree.old) (λ told. IfOk result (λ ended. (behind : After) (whole : Outcome) → LeadsTo (world_of told setup.now) behind self.old whole → ReadsTo behind self.new whole ended)) }
+        ensures read { IfOk result (EndsRead self.new) }
         ensures cause { HasCause CppError.Fault (T.faults tree.old) (T.faults tree.new) result }
     {
         'files: loop {
             if self.file.next < self.file.pieces.len() {
-                if let Some(diagnostic) = self.next_piece(alloc, tree)? {
-                    return Ok(Outcome::Diag(diagnostic.into_bytes()));
+                if let Some(diagnostic) = self.next_piece(alloc, tree, setup)? {
+                    return Ok(Some(diagnostic));
                 }
             } else if !self.around.is_empty() {
                 if let Some(diagnostic) = self.come_back(alloc)? {
-                    return Ok(Outcome::Diag(diagnostic.into_bytes()));
+                    return Ok(Some(diagnostic));
                 }
             } else {
-                let Reader { source, layout, .. } = self;
-                return finish(alloc, layout, &source);
+                return Ok(None);
             }
         }
     }
@@ -211,25 +355,27 @@ impl Reader {
         &mut self,
         alloc: Global,
         tree: &mut T,
+        setup: &Setup,
     ) -> Result<Option<Diagnostic>, CppError>
         requires within { length self.old.layout.text ≤ text_limit }
         requires goes_on { self.old.file.next < length self.old.file.pieces }
         ensures same { T.told tree.new ≡ T.told tree.old }
-        ensures leads { ForSome (T.told tree.old) (λ told. IfOk result (λ ended. (whole : Outcome) → LeadsTo (world_of told) self.old whole → GoesOn (world_of told) self.new whole ended)) }
+        ensures leads { ForSome (T.told tree.old) (λ told. IfOk result (λ ended. (behind : After) (whole : Outcome) → LeadsTo (world_of told setup.now) behind self.old whole → GoesOn (world_of told setup.now) behind self.new whole ended)) }
         ensures advances { IfOk result (Advances (work_ahead self.old) self.new) }
         ensures cause { HasCause CppError.Fault (T.faults tree.old) (T.faults tree.new) result }
     {
         let piece = &self.file.pieces.as_slice()[self.file.next];
         let places = Places {
+            setup,
             source: &self.source,
-            here: &self.file.located.place,
+            here: &self.file.visit,
         };
         let led = run_piece(alloc, tree, &mut self.layout, places, piece)?;
         self.file.next += 1;
         match led {
             Move::Onward => Ok(None),
             Move::Ended(diagnostic) => Ok(Some(diagnostic)),
-            Move::Enter { at, file } => self.enter(alloc, tree, at, file),
+            Move::Enter { at, file } => self.enter(alloc, tree, setup, at, file),
         }
     }
 
@@ -238,17 +384,18 @@ impl Reader {
         &mut self,
         alloc: Global,
         tree: &mut T,
+        setup: &Setup,
         at: u32,
-        inner: Located,
+        inner: (Visit, Located),
     ) -> Result<Option<Diagnostic>, CppError>
         requires { length self.old.layout.text ≤ text_limit }
         ensures same { T.told tree.new ≡ T.told tree.old }
-        ensures leads { ForSome (T.told tree.old) (λ told. IfOk result (λ ended. (whole : Outcome) → EntersTo (world_of told) self.old at inner whole → GoesOn (world_of told) self.new whole ended)) }
+        ensures leads { ForSome (T.told tree.old) (λ told. IfOk result (λ ended. (behind : After) (whole : Outcome) → EntersTo (world_of told setup.now) behind self.old at inner whole → GoesOn (world_of told setup.now) behind self.new whole ended)) }
         ensures advances { IfOk result (Advances (suc (work_ahead self.old)) self.new) }
         ensures cause { HasCause CppError.Fault (T.faults tree.old) (T.faults tree.new) result }
     {
         if self.around.as_slice().len() >= DEPTH_LIMIT {
-            let place = self.file.located.place.bytes();
+            let place = self.file.visit.place.bytes();
             return Ok(Some(Diagnostic::new(alloc, place, at, Problem::TooNested)?));
         }
         match open_file(
@@ -256,6 +403,7 @@ impl Reader {
             tree,
             &mut self.layout,
             &mut self.left,
+            setup,
             &self.source,
             &inner,
             true,
@@ -273,14 +421,14 @@ impl Reader {
     fn come_back(&mut self, alloc: Global) -> Result<Option<Diagnostic>, CppError>
         requires ended { length self.old.file.pieces ≤ self.old.file.next }
         requires around { 0 < length self.old.around.items }
-        ensures leads { IfOk result (λ ended. (world : World) (whole : Outcome) → LeadsTo world self.old whole → GoesOn world self.new whole ended) }
+        ensures leads { IfOk result (λ ended. (world : World) (behind : After) (whole : Outcome) → LeadsTo world behind self.old whole → GoesOn world behind self.new whole ended) }
         ensures advances { IfOk result (Advances (work_ahead self.old) self.new) }
         ensures no_fault { IsErrOf result CppError.Fault → ⊥ }
     {
         let Some(outer) = self.around.pop() else {
             unreachable!()
         };
-        let name = shown(alloc, outer.file.located.place.bytes())?;
+        let name = shown(alloc, outer.file.visit.place.bytes())?;
         let laid = self.layout.back(&name, line_behind(outer.at), outer.at);
         self.file = outer.file;
         match laid {

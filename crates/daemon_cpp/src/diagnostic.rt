@@ -1,5 +1,5 @@
 // The texts of diagnostics.
-ghost use Rattle.std.specs.Prelude.{◌≡◌, ◌≤◌, ◌++◌, length, codes, IfOk, OnOk};
+ghost use Rattle.std.specs.Prelude.{◌≡◌, ◌≤◌, ◌++◌, ◌∷◌, [], length, codes, IfOk, OnOk};
 ghost use Rattle.std.specs.List.{flat_map};
 ghost use Rattle.daemon_cpp.specs.Diagnostics.{NotFound, ErrorLine, shown, shown_byte, branch_name, error_token, diagnostic_text, words_of};
 ghost use Rattle.daemon_cpp.specs.Problems.{complaint_of};
@@ -22,7 +22,8 @@ pub enum Problem<'a> {
     WithoutIf(BranchName),
     AfterElse(BranchName),
     Unended,
-    NotFound(&'a [u8]),
+    // A header by its name, in angles or else in quotes.
+    NotFound(bool, &'a [u8]),
     TooNested,
     ErrorLine(&'a [Token]),
     UnknownDirective,
@@ -85,7 +86,7 @@ fn add_words(alloc: Global, text: &mut Vec<u8>, problem: Problem<'_>) -> Result<
         Problem::WithoutIf(name) => add_branch(text, name, b" without #if"),
         Problem::AfterElse(name) => add_branch(text, name, b" after #else"),
         Problem::Unended => text.extend_from_slice(b"unterminated conditional"),
-        Problem::NotFound(name) => add_not_found(alloc, text, name),
+        Problem::NotFound(angle, name) => add_not_found(alloc, text, angle, name),
         Problem::TooNested => text.extend_from_slice(b"includes nested more than 200 deep"),
         Problem::ErrorLine(tokens) => add_error_line(alloc, text, tokens),
         Problem::UnknownDirective => text.extend_from_slice(b"unknown directive"),
@@ -135,14 +136,30 @@ fn add_error_token(alloc: Global, text: &mut Vec<u8>, token: &Token) -> Result<(
     text.extend_from_slice(&spelling)
 }
 
-fn add_not_found(alloc: Global, text: &mut Vec<u8>, name: &[u8]) -> Result<(), AllocError>
-    ensures { OnOk result (text.new.items ≡ text.old.items ++ words_of (NotFound name.now)) }
+fn add_not_found(
+    alloc: Global,
+    text: &mut Vec<u8>,
+    angle: bool,
+    name: &[u8],
+) -> Result<(), AllocError>
+    ensures { OnOk result (text.new.items ≡ text.old.items ++ words_of (NotFound angle name.now)) }
 {
     let name = shown(alloc, name)?;
-    text.extend_from_slice(b"cannot find \"")?;
-    text.extend_from_slice(&name)?;
-    text.extend_from_slice(b"\"")?;
-    Ok(())
+    text.extend_from_slice(b"cannot find ")?;
+    if angle {
+        add_between(text, b'<', &name, b'>')
+    } else {
+        add_between(text, b'"', &name, b'"')
+    }
+}
+
+// Adds a name between two bytes.
+fn add_between(text: &mut Vec<u8>, first: u8, name: &[u8], last: u8) -> Result<(), AllocError>
+    ensures { OnOk result (text.new.items ≡ text.old.items ++ first ∷ (name.now ++ last ∷ [])) }
+{
+    text.push(first)?;
+    text.extend_from_slice(name)?;
+    Ok(text.push(last)?)
 }
 
 // A name as it is shown: `\`, `"` and a newline are escaped.

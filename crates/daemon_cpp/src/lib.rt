@@ -11,4 +11,4 @@ mod tree;
 pub use cpp::preprocess;
 pub use outcome::{CppError, Outcome};
 pub use pieces::reserved_line;
-pub use tree::{absolute, read_body};
+pub use tree::read_body;

@@ -17,6 +17,7 @@ use base_types::List;
 use cpp_output::{LayError, Layout};
 use directive_scan::{Malformed, Piece, malformed, nesting_told, one_outline, scan};
 use pp_tokens::{Lexed, lex};
+use search_path::{Setup, Visit};
 use std::alloc::Global;
 use tree_model::{CanonPath, Located, Tree};
 
@@ -35,26 +36,28 @@ pub fn open_file<T: Tree>(
     tree: &mut T,
     layout: &mut Layout,
     left: &mut u32,
+    setup: &Setup,
     source: &CanonPath,
-    file: &Located,
+    file: &(Visit, Located),
     included: bool,
 ) -> Result<Opened, CppError>
     requires { length layout.old.text ≤ text_limit }
     ensures same { T.told tree.new ≡ T.told tree.old }
-    ensures opens { ForSome (T.told tree.old) (λ told. IfOk result (λ opened. (entering : Entering) (state : State) → state.source ≡ source.now → state.output ≡ layout.old → state.left ≡ left.old → Opens (world_of told) entering (inside file.now (record state { output = layout.new; left = left.new })) opened (open_file (world_of told) entering (front_events included file.now) file.now state))) }
+    ensures opens { ForSome (T.told tree.old) (λ told. IfOk result (λ opened. (entering : Entering) (state : State) → state.source ≡ source.now → state.output ≡ layout.old → state.left ≡ left.old → Opens (world_of told setup.now) entering (inside file.now (record state { output = layout.new; left = left.new })) opened (open_file (world_of told setup.now) entering (front_events included file.now.0.place) file.now state))) }
     ensures within { IfOk result (KeepsLimit layout.new) }
     ensures shortens { IfOk result (Shortens left.old left.new) }
     ensures cause { HasCause CppError.Fault (T.faults tree.old) (T.faults tree.new) result }
 {
-    let Some(body) = read_body(alloc, tree, &file.real)? else {
-        return refused(alloc, &file.place, 0, Problem::TooLarge);
+    let (visit, located) = file;
+    let Some(body) = read_body(alloc, tree, &located.real)? else {
+        return refused(alloc, &visit.place, 0, Problem::TooLarge);
     };
-    let lexed = lex(alloc, body.as_slice(), false)?;
+    let lexed = lex(alloc, body.as_slice(), setup.trigraphs())?;
     let Some(rest) = pay(&lexed, *left) else {
         return refused(alloc, source, 0, Problem::WorkLimit);
     };
     *left = rest;
-    open_lexed(alloc, layout, source, file, included, &lexed)
+    open_lexed(alloc, layout, source, &visit.place, included, &lexed)
 }
 
 // A diagnostic at a line of the file at a place.
@@ -90,21 +93,21 @@ fn open_lexed(
     alloc: Global,
     layout: &mut Layout,
     source: &CanonPath,
-    file: &Located,
+    place: &CanonPath,
     included: bool,
     lexed: &Lexed,
 ) -> Result<Opened, CppError>
     requires { length layout.old.text ≤ text_limit }
-    ensures opens { IfOk result (λ opened. (world : World) (entering : Entering) (state : State) → state.source ≡ source.now → state.here.place ≡ file.now.place → state.output ≡ layout.old → Opens world entering (record state { output = layout.new }) opened (run_file world entering (front_events included file.now) lexed.now lexed.now.unended state)) }
+    ensures opens { IfOk result (λ opened. (world : World) (entering : Entering) (state : State) → state.source ≡ source.now → state.here.place ≡ place.now → state.output ≡ layout.old → Opens world entering (record state { output = layout.new }) opened (run_file world entering (front_events included place.now) lexed.now lexed.now.unended state)) }
     ensures within { IfOk result (KeepsLimit layout.new) }
     ensures few { IfOk result (HasAtMost (suc (token_count lexed.now.lines + token_count lexed.now.lines))) }
     ensures no_fault { IsErrOf result CppError.Fault → ⊥ }
 {
     if let Some(line) = lexed.open_comment() {
-        return refused(alloc, &file.place, line, Problem::OpenComment);
+        return refused(alloc, place, line, Problem::OpenComment);
     }
     let pieces = scan(alloc, lexed)?;
-    open_pieces(alloc, layout, source, file, included, pieces)
+    open_pieces(alloc, layout, source, place, included, pieces)
 }
 
 // A file whose comments are ended.
@@ -112,12 +115,12 @@ fn open_pieces(
     alloc: Global,
     layout: &mut Layout,
     source: &CanonPath,
-    file: &Located,
+    place: &CanonPath,
     included: bool,
     pieces: List<Piece>,
 ) -> Result<Opened, CppError>
     requires { length layout.old.text ≤ text_limit }
-    ensures opens { IfOk result (λ opened. (world : World) (entering : Entering) (state : State) → state.source ≡ source.now → state.here.place ≡ file.now.place → state.output ≡ layout.old → Opens world entering (record state { output = layout.new }) opened (run_outline world entering (front_events included file.now) (outline role_of pieces) state)) }
+    ensures opens { IfOk result (λ opened. (world : World) (entering : Entering) (state : State) → state.source ≡ source.now → state.here.place ≡ place.now → state.output ≡ layout.old → Opens world entering (record state { output = layout.new }) opened (run_outline world entering (front_events included place.now) (outline role_of pieces) state)) }
     ensures within { IfOk result (KeepsLimit layout.new) }
     ensures few { IfOk result (HasAtMost (length pieces)) }
     ensures no_fault { IsErrOf result CppError.Fault → ⊥ }
@@ -125,9 +128,9 @@ fn open_pieces(
     nesting_told();
     one_outline();
     if let Some(what) = malformed(alloc, pieces.as_slice())? {
-        return refuse_malformed(alloc, &file.place, what);
+        return refuse_malformed(alloc, place, what);
     }
-    announce(alloc, layout, source, file, included, pieces)
+    announce(alloc, layout, source, place, included, pieces)
 }
 
 // What is wrong with a file's conditionals, as a diagnostic.
@@ -148,12 +151,12 @@ fn announce(
     alloc: Global,
     layout: &mut Layout,
     source: &CanonPath,
-    file: &Located,
+    place: &CanonPath,
     included: bool,
     pieces: List<Piece>,
 ) -> Result<Opened, CppError>
     requires { length layout.old.text ≤ text_limit }
-    ensures opens { IfOk result (λ opened. (world : World) (entering : Entering) (state : State) → state.source ≡ source.now → state.output ≡ layout.old → Opens world entering (record state { output = layout.new }) opened (and_then (λ after. run_pieces world entering pieces after) (say (front_events included file.now) state))) }
+    ensures opens { IfOk result (λ opened. (world : World) (entering : Entering) (state : State) → state.source ≡ source.now → state.output ≡ layout.old → Opens world entering (record state { output = layout.new }) opened (and_then (λ after. run_pieces world entering pieces after) (say (front_events included place.now) state))) }
     ensures within { IfOk result (KeepsLimit layout.new) }
     ensures few { IfOk result (HasAtMost (length pieces)) }
     ensures no_fault { IsErrOf result CppError.Fault → ⊥ }
@@ -161,7 +164,7 @@ fn announce(
     if !included {
         return Ok(Opened::Pieces(pieces));
     }
-    let name = shown(alloc, file.place.bytes())?;
+    let name = shown(alloc, place.bytes())?;
     match layout.enter(&name) {
         Ok(()) => Ok(Opened::Pieces(pieces)),
         Err(LayError::Full) => refused(alloc, source, 0, Problem::TextLimit),

@@ -1,23 +1,26 @@
 // The pieces of a file.
-ghost use Rattle.std.specs.Prelude.{◌≡◌, ◌≤◌, length, false, IfOk, IsErrOf};
+ghost use Rattle.std.specs.Prelude.{◌≡◌, ◌≤◌, length, Some, IfOk, IsErrOf};
 ghost use Rattle.std.specs.Option.{ForSome};
 ghost use Rattle.base_types.specs.Causes.{HasCause};
 ghost use Rattle.cpp_output.specs.Layout.{text_limit};
 ghost use Rattle.tree_model.specs.Paths.{spelled};
+ghost use Rattle.directive_scan.specs.declared.Target.TheVariants.{Plain};
 ghost use Rattle.daemon_cpp.specs.Diagnostics.{diagnostic_text};
 ghost use Rattle.daemon_cpp.specs.Problems.{complaint_of};
-ghost use Rattle.daemon_cpp.specs.Prep.{State, Entering, world_of, piece_step, text_step, directive_step, include, include_name, reserved_line, is_reserved};
+ghost use Rattle.daemon_cpp.specs.Prep.{State, Entering, world_of, visit_of, form_of, piece_step, text_step, directive_step, include, reserved_line, is_reserved};
 ghost use Rattle.daemon_cpp.specs.Reading.{Leads};
 ghost use Rattle.daemon_cpp.specs.Moving.{LaidOut, StaysWithin};
 
 use crate::CppError;
 use crate::diagnostic::{Diagnostic, Problem};
 use crate::tree::cause_of;
+use base_types::Bytes;
 use cpp_output::{LayError, Layout};
-use directive_scan::{Directive, Piece, Target};
+use directive_scan::{Directive, HeaderName, Piece, Target};
 use pp_tokens::{Kind, Token};
-use std::alloc::Global;
-use tree_model::{CanonPath, Located, Tree, locate};
+use search_path::{Ask, Form, Setup, Visit, search};
+use std::alloc::{AllocError, Global};
+use tree_model::{CanonPath, Located, Tree};
 
 // What a piece leads to.
 #[derive(Drop)]
@@ -25,16 +28,17 @@ pub enum Move {
     // The next piece.
     Onward,
     // The file of an include on a line.
-    Enter { at: u32, file: Located },
+    Enter { at: u32, file: (Visit, Located) },
     // The first diagnostic.
     Ended(Diagnostic),
 }
 
-// The job's source and the file that is read, by their places.
+// What the job's words say of searches, its source by its place, and the file that is read.
 #[derive(Clone, Copy)]
 pub struct Places<'a> {
+    pub setup: &'a Setup,
     pub source: &'a CanonPath,
-    pub here: &'a CanonPath,
+    pub here: &'a Visit,
 }
 
 // Reads a piece of the file that is read: text and pragmas go into the output, and includes are searched.
@@ -47,7 +51,7 @@ pub fn run_piece<T: Tree>(
 ) -> Result<Move, CppError>
     requires { length layout.old.text ≤ text_limit }
     ensures same { T.told tree.new ≡ T.told tree.old }
-    ensures leads { ForSome (T.told tree.old) (λ told. IfOk result (λ move. (entering : Entering) (state : State) → state.source ≡ places.entry.source.now → state.here.place ≡ places.entry.here.now → state.output ≡ layout.old → Leads entering (record state { output = layout.new }) move (piece_step (world_of told) entering piece.now state))) }
+    ensures leads { ForSome (T.told tree.old) (λ told. IfOk result (λ move. (entering : Entering) (state : State) → state.source ≡ places.entry.source.now → visit_of state.here ≡ places.entry.here.now → state.output ≡ layout.old → Leads entering (record state { output = layout.new }) move (piece_step (world_of told places.entry.setup.now) entering piece.now state))) }
     ensures within { IfOk result (StaysWithin layout.new) }
     ensures cause { HasCause CppError.Fault (T.faults tree.old) (T.faults tree.new) result }
 {
@@ -65,12 +69,12 @@ fn run_text(
     tokens: &[Token],
 ) -> Result<Move, CppError>
     requires { length layout.old.text ≤ text_limit }
-    ensures leads { IfOk result (λ move. (entering : Entering) (state : State) → state.source ≡ places.entry.source.now → state.here.place ≡ places.entry.here.now → state.output ≡ layout.old → Leads entering (record state { output = layout.new }) move (text_step tokens.now (reserved_line tokens.now) state)) }
+    ensures leads { IfOk result (λ move. (entering : Entering) (state : State) → state.source ≡ places.entry.source.now → visit_of state.here ≡ places.entry.here.now → state.output ≡ layout.old → Leads entering (record state { output = layout.new }) move (text_step tokens.now (reserved_line tokens.now) state)) }
     ensures within { IfOk result (StaysWithin layout.new) }
     ensures no_fault { IsErrOf result CppError.Fault → ⊥ }
 {
     match reserved_line(tokens) {
-        Some(line) => ended(alloc, places.here, line, Problem::NotBuilt),
+        Some(line) => ended(alloc, &places.here.place, line, Problem::NotBuilt),
         None => {
             let laid = layout.run(tokens);
             laid_out(alloc, places.source, laid)
@@ -136,82 +140,88 @@ fn run_directive<T: Tree>(
 ) -> Result<Move, CppError>
     requires { length layout.old.text ≤ text_limit }
     ensures same { T.told tree.new ≡ T.told tree.old }
-    ensures leads { ForSome (T.told tree.old) (λ told. IfOk result (λ move. (entering : Entering) (state : State) → state.source ≡ places.entry.source.now → state.here.place ≡ places.entry.here.now → state.output ≡ layout.old → Leads entering (record state { output = layout.new }) move (directive_step (world_of told) entering at what.now state))) }
+    ensures leads { ForSome (T.told tree.old) (λ told. IfOk result (λ move. (entering : Entering) (state : State) → state.source ≡ places.entry.source.now → visit_of state.here ≡ places.entry.here.now → state.output ≡ layout.old → Leads entering (record state { output = layout.new }) move (directive_step (world_of told places.entry.setup.now) entering at what.now state))) }
     ensures within { IfOk result (StaysWithin layout.new) }
     ensures cause { HasCause CppError.Fault (T.faults tree.old) (T.faults tree.new) result }
 {
     match what {
-        Directive::Include(target) => run_include(alloc, tree, places.here, at, target),
+        Directive::Include(target) => run_include(alloc, tree, places, false, at, target),
+        Directive::Next(target) => run_include(alloc, tree, places, true, at, target),
         Directive::Error(tokens) => {
             let problem = Problem::ErrorLine(tokens.as_slice());
-            ended(alloc, places.here, at, problem)
+            ended(alloc, &places.here.place, at, problem)
         }
         Directive::Pragma(tokens) => {
             let laid = layout.pragma(at, tokens.as_slice());
             laid_out(alloc, places.source, laid)
         }
         Directive::Warning | Directive::Null => Ok(Move::Onward),
-        Directive::Unknown => ended(alloc, places.here, at, Problem::UnknownDirective),
-        _ => ended(alloc, places.here, at, Problem::NotBuilt),
+        Directive::Unknown => ended(alloc, &places.here.place, at, Problem::UnknownDirective),
+        _ => ended(alloc, &places.here.place, at, Problem::NotBuilt),
     }
 }
 
-// An include on a line (ISO C 6.10.2).
+// An include, or an include_next, on a line (ISO C 6.10.2).
 fn run_include<T: Tree>(
     alloc: Global,
     tree: &mut T,
-    here: &CanonPath,
+    places: Places<'_>,
+    next: bool,
     at: u32,
     target: &Target,
 ) -> Result<Move, CppError>
     ensures same { T.told tree.new ≡ T.told tree.old }
-    ensures leads { ForSome (T.told tree.old) (λ told. IfOk result (λ move. (entering : Entering) (state : State) → state.here.place ≡ here.now → Leads entering state move (include (world_of told) entering at target.now state))) }
+    ensures leads { ForSome (T.told tree.old) (λ told. IfOk result (λ move. (entering : Entering) (state : State) → visit_of state.here ≡ places.entry.here.now → Leads entering state move (include (world_of told places.entry.setup.now) entering next at target.now state))) }
     ensures cause { HasCause CppError.Fault (T.faults tree.old) (T.faults tree.new) result }
 {
     match target {
-        Target::Plain(header) => {
-            include_name(alloc, tree, here, at, header.angle, header.name.as_slice())
-        }
-        Target::Computed(_) => ended(alloc, here, at, Problem::NotBuilt),
+        Target::Plain(header) => find_header(alloc, tree, places, next, at, header),
+        Target::Computed(_) => ended(alloc, &places.here.place, at, Problem::NotBuilt),
     }
 }
 
-// An include of a name, in angle form or else in quote form.
-fn include_name<T: Tree>(
-    alloc: Global,
-    tree: &mut T,
-    here: &CanonPath,
-    at: u32,
-    angle: bool,
-    name: &[u8],
-) -> Result<Move, CppError>
-    ensures same { T.told tree.new ≡ T.told tree.old }
-    ensures leads { ForSome (T.told tree.old) (λ told. IfOk result (λ move. (entering : Entering) (state : State) → state.here.place ≡ here.now → Leads entering state move (include_name (world_of told) entering at angle name.now state))) }
-    ensures cause { HasCause CppError.Fault (T.faults tree.old) (T.faults tree.new) result }
+fn form_of(next: bool, angle: bool) -> Form
+    ensures { result ≡ form_of next angle }
 {
-    if angle {
-        ended(alloc, here, at, Problem::NotBuilt)
-    } else {
-        find_quoted(alloc, tree, here, at, name)
+    match (next, angle) {
+        (false, false) => Form::Quote,
+        (false, true) => Form::Angle,
+        (true, false) => Form::NextQuote,
+        (true, true) => Form::NextAngle,
     }
 }
 
-// The file of a quoted name, searched first in the directory of the file that is read.
-fn find_quoted<T: Tree>(
+// What the file that is read asks for by a header's name.
+fn ask_of(alloc: Global, here: &Visit, next: bool, header: &HeaderName) -> Result<Ask, AllocError>
+    ensures { IfOk result (λ ask. ask ≡ record { form = form_of next header.now.angle; from = Some here.now; name = header.now.name }) }
+{
+    Ok(Ask {
+        form: form_of(next, header.angle),
+        from: Some(here.copy(alloc)?),
+        name: Bytes::copy_of(alloc, header.name.as_slice())?,
+    })
+}
+
+// The file of a header's name.
+fn find_header<T: Tree>(
     alloc: Global,
     tree: &mut T,
-    here: &CanonPath,
+    places: Places<'_>,
+    next: bool,
     at: u32,
-    name: &[u8],
+    header: &HeaderName,
 ) -> Result<Move, CppError>
     ensures same { T.told tree.new ≡ T.told tree.old }
-    ensures leads { ForSome (T.told tree.old) (λ told. IfOk result (λ move. (entering : Entering) (state : State) → state.here.place ≡ here.now → Leads entering state move (include_name (world_of told) entering at false name.now state))) }
+    ensures leads { ForSome (T.told tree.old) (λ told. IfOk result (λ move. (entering : Entering) (state : State) → visit_of state.here ≡ places.entry.here.now → Leads entering state move (include (world_of told places.entry.setup.now) entering next at (Plain header.now) state))) }
     ensures cause { HasCause CppError.Fault (T.faults tree.old) (T.faults tree.new) result }
 {
-    let dir = here.parent(alloc)?;
-    match locate(alloc, tree, &dir, name) {
+    let ask = ask_of(alloc, places.here, next, header)?;
+    match search(alloc, tree, places.setup, &ask) {
         Ok(Some(file)) => Ok(Move::Enter { at, file }),
-        Ok(None) => ended(alloc, here, at, Problem::NotFound(name)),
+        Ok(None) => {
+            let problem = Problem::NotFound(header.angle, header.name.as_slice());
+            ended(alloc, &places.here.place, at, problem)
+        }
         Err(error) => Err(cause_of(error)),
     }
 }

@@ -2,7 +2,8 @@
 ghost use Rattle.std.specs.Prelude.{◌≡◌, ◌≢◌, ◌≤◌, length, IfOk, IfSome};
 ghost use Rattle.std.specs.Option.{ForSome};
 ghost use Rattle.base_types.specs.Causes.{HasCause};
-ghost use Rattle.daemon_cpp.specs.Prep as prep;
+ghost use Rattle.search_path.specs.SetupOf as setups;
+ghost use Rattle.search_path.specs.SetupOf.{SetupData};
 ghost use Rattle.daemon_cpp.specs.Prep.{world_of};
 ghost use Rattle.daemon_cpp.specs.Reading.{body_within};
 
@@ -24,8 +25,8 @@ pub fn cause_of(error: TreeError) -> CppError
 }
 
 /// A text below the working directory, or itself where it begins with `/`.
-pub fn absolute(alloc: Global, cwd: &[u8], text: &[u8]) -> Result<Vec<u8>, AllocError>
-    ensures { IfOk result (λ whole. whole.items ≡ prep.absolute cwd.now text.now) }
+pub fn absolute_text(alloc: Global, cwd: &[u8], text: &[u8]) -> Result<Vec<u8>, AllocError>
+    ensures { IfOk result (λ whole. whole.items ≡ setups.absolute cwd.now text.now) }
 {
     if text.first() == Some(&b'/') {
         return text.to_vec(alloc);
@@ -43,7 +44,7 @@ pub fn read_body<T: Tree>(
     path: &CanonPath,
 ) -> Result<Option<Bytes>, CppError>
     ensures same { T.told tree.new ≡ T.told tree.old }
-    ensures body { ForSome (T.told tree.old) (λ told. IfOk result (λ body. body ≡ body_within ((world_of told).body path.now))) }
+    ensures body { ForSome (T.told tree.old) (λ told. IfOk result (λ body. (setup : SetupData) → body ≡ body_within ((world_of told setup).body path.now))) }
     ensures within { IfOk result (λ body. IfSome body (λ bytes. length bytes ≤ 16777216)) }
     ensures cause { HasCause CppError.Fault (T.faults tree.old) (T.faults tree.new) result }
 {

@@ -3,3 +3,4 @@ pub mod Outcome
 pub mod Paired
 pub mod Standing
 pub mod WholeTrees
+pub mod WholeRequests

@@ -1,5 +1,5 @@
 -- Pairs of numbers are told apart by their test.
-use Rattle.std.proofs.Common.{◌≡◌, ℕ, ◌&&◌, nat_eq, ap, ◌∙◌}
+use Rattle.std.proofs.Common.{ℕ, ◌&&◌, nat_eq, ap, ◌∙◌}
 use Rattle.std.proofs.lemmas.Bool.Decides.{Decides-and, Decides-eqb}
 use Rattle.base_types.specs.Calls.{TellsApart}
 

@@ -49,7 +49,7 @@ fn read_request(alloc: Global, sent: &[u8]) -> Result<(Job, List<(CanonPath, Ent
     reader.feed(sent);
     match reader.end() {
         Fed::Done => match reader.finish() {
-            Some(request) => return Ok(request),
+            Some((job, entries)) => return Ok((job, entries)),
             None => unreachable!(),
         },
         Fed::Refused(why) => return Err(why),

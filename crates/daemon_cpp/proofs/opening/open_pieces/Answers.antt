@@ -15,10 +15,10 @@ returns-clause-opens c =
     let fine : malformed_by (outline role_of c.args.pieces) ≡ None =
     ap (λ (ps : List Piece). malformed_by (outline role_of ps)) (sym c.as_slice.ensures) ∙ sym c.in_ok-what.ensures ∙ c.in_default.is in
     IfOk-weaker c.announce.result
-    (λ opened. (world : World) (entering : Entering) (state : State) → state.source ≡ c.args.source.now → state.output ≡ c.args.layout.now → Opens world entering (record state { output = c.announce.new.layout }) opened (and_then (λ after. run_pieces world entering c.args.pieces after) (say (front_events c.args.included c.args.file.now) state)))
-    (λ opened. (world : World) (entering : Entering) (state : State) → state.source ≡ c.args.source.now → state.here.place ≡ c.args.file.now.place → state.output ≡ c.args.layout.now → Opens world entering (record state { output = c.announce.new.layout }) opened (run_outline world entering (front_events c.args.included c.args.file.now) (outline role_of c.args.pieces) state))
+    (λ opened. (world : World) (entering : Entering) (state : State) → state.source ≡ c.args.source.now → state.output ≡ c.args.layout.now → Opens world entering (record state { output = c.announce.new.layout }) opened (and_then (λ after. run_pieces world entering c.args.pieces after) (say (front_events c.args.included c.args.place.now) state)))
+    (λ opened. (world : World) (entering : Entering) (state : State) → state.source ≡ c.args.source.now → state.here.place ≡ c.args.place.now → state.output ≡ c.args.layout.now → Opens world entering (record state { output = c.announce.new.layout }) opened (run_outline world entering (front_events c.args.included c.args.place.now) (outline role_of c.args.pieces) state))
     (λ opened all world entering state source here output.
     subst (λ (step : Step). Opens world entering (record state { output = c.announce.new.layout }) opened step)
-    (sym (run-outline world entering (front_events c.args.included c.args.file.now) c.args.pieces state (c.nesting_told.ensures c.args.pieces) (c.one_outline.ensures role_of c.args.pieces) fine))
+    (sym (run-outline world entering (front_events c.args.included c.args.place.now) c.args.pieces state (c.nesting_told.ensures c.args.pieces) (c.one_outline.ensures role_of c.args.pieces) fine))
     (all world entering state source output))
     c.announce.ensures.opens

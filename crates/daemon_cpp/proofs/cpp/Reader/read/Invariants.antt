@@ -3,7 +3,7 @@ use Rattle.cpp_output.specs.Layout.{text_limit}
 use Rattle.tree_model.specs.Trees.{FileTree}
 use Rattle.daemon_cpp.specs.declared.outcome.Outcome.{Outcome}
 use Rattle.daemon_cpp.specs.Prep.{world_of}
-use Rattle.daemon_cpp.specs.Files.{LeadsTo, work_ahead}
+use Rattle.daemon_cpp.specs.Files.{After, LeadsTo, work_ahead}
 use Rattle.daemon_cpp.proofs.cpp.Reader.read.Given as goal
 
 abbrev pub invariant-files : goal.invariant-files
@@ -12,7 +12,7 @@ invariant-files g l =
       same : g.T.Tree.told l.tree ≡ g.T.Tree.told l.fn.tree;
       later : g.T.Tree.faults l.fn.tree ≤ g.T.Tree.faults l.tree;
       within : length l.self.layout.text ≤ text_limit;
-      left : (told : FileTree) → g.T.Tree.told l.fn.tree ≡ Some told → (whole : Outcome) → LeadsTo (world_of told) l.fn.self whole → LeadsTo (world_of told) l.self whole;
+      left : (told : FileTree) → g.T.Tree.told l.fn.tree ≡ Some told → (behind : After) (whole : Outcome) → LeadsTo (world_of told l.fn.setup) behind l.fn.self whole → LeadsTo (world_of told l.fn.setup) behind l.self whole;
     }
 
 abbrev pub decreases-files : goal.decreases-files

@@ -1,0 +1,110 @@
+// Includes through links: the directory behind a link is where `..` goes up from, and the 41st link ends a search.
+use crate::checked::Stands::{Dir, File, Link};
+use crate::checked::{Stands, check};
+use std::alloc::{AllocError, Global};
+use std::test::Fail;
+
+#[test]
+fn a_directory_behind_a_link(rt: HostRuntime) -> Result<(), Fail> {
+    let nodes = [
+        ("/v", Dir),
+        ("/v/inc", Dir),
+        ("/v/x.h", File("int v;\n")),
+        ("/w", Dir),
+        ("/w/a.c", File("#include \"l/../x.h\"\n")),
+        ("/w/b.c", File("#include \"k//.././x.h\"\n")),
+        ("/w/k", Link("./l/")),
+        ("/w/l", Link("/v/inc")),
+        ("/w/x.h", File("int w;\n")),
+    ];
+    let rows = [
+        (
+            "a.c",
+            "T# 1 \"/w/a.c\"\n# 1 \"/v/x.h\" 1\nint v;\n# 2 \"/w/a.c\" 2\n",
+        ),
+        (
+            "b.c",
+            "T# 1 \"/w/b.c\"\n# 1 \"/v/x.h\" 1\nint v;\n# 2 \"/w/b.c\" 2\n",
+        ),
+    ];
+    assert!(rt; check(&rt, rt.alloc(), &nodes, &rows)?);
+    Ok(())
+}
+
+#[test]
+fn an_empty_directory_on_the_way(rt: HostRuntime) -> Result<(), Fail> {
+    let source = ("/w/a.c", File("#include \"gone/../x.h\"\n"));
+    let with = [
+        ("/w", Dir),
+        source,
+        ("/w/gone", Dir),
+        ("/w/x.h", File("int x;\n")),
+    ];
+    let rows = [(
+        "a.c",
+        "T# 1 \"/w/a.c\"\n# 1 \"/w/x.h\" 1\nint x;\n# 2 \"/w/a.c\" 2\n",
+    )];
+    assert!(rt; check(&rt, rt.alloc(), &with, &rows)?);
+    let without = [("/w", Dir), source, ("/w/x.h", File("int x;\n"))];
+    let rows = [("a.c", "D/w/a.c:1: error: cannot find \"gone/../x.h\"")];
+    assert!(rt; check(&rt, rt.alloc(), &without, &rows)?);
+    Ok(())
+}
+
+// The paths of 41 links, and their names.
+const PATHS: [&str; 41] = [
+    "/w/l01", "/w/l02", "/w/l03", "/w/l04", "/w/l05", "/w/l06", "/w/l07", "/w/l08", "/w/l09",
+    "/w/l10", "/w/l11", "/w/l12", "/w/l13", "/w/l14", "/w/l15", "/w/l16", "/w/l17", "/w/l18",
+    "/w/l19", "/w/l20", "/w/l21", "/w/l22", "/w/l23", "/w/l24", "/w/l25", "/w/l26", "/w/l27",
+    "/w/l28", "/w/l29", "/w/l30", "/w/l31", "/w/l32", "/w/l33", "/w/l34", "/w/l35", "/w/l36",
+    "/w/l37", "/w/l38", "/w/l39", "/w/l40", "/w/l41",
+];
+
+const NAMES: [&str; 41] = [
+    "l01", "l02", "l03", "l04", "l05", "l06", "l07", "l08", "l09", "l10", "l11", "l12", "l13",
+    "l14", "l15", "l16", "l17", "l18", "l19", "l20", "l21", "l22", "l23", "l24", "l25", "l26",
+    "l27", "l28", "l29", "l30", "l31", "l32", "l33", "l34", "l35", "l36", "l37", "l38", "l39",
+    "l40", "l41",
+];
+
+// A source that asks for the first of so many links, each of which leads to the next and the last to a file; and a file of
+// the first one's name in a directory. Links behind the last lead on as well.
+fn links(alloc: Global, count: usize) -> Result<Vec<(&'static str, Stands<'static>)>, AllocError> {
+    let mut nodes = vec![in alloc; ("/w", Dir)]?;
+    nodes.push(("/w/a.c", File("#include \"l01\"\n")))?;
+    nodes.push(("/w/i", Dir))?;
+    nodes.push(("/w/i/l01", File("int i;\n")))?;
+    for (k, path) in PATHS.iter().enumerate() {
+        let next = k.saturating_add(1);
+        if next == count {
+            nodes.push((*path, Link("x.h")))?;
+        } else if let Some(name) = NAMES.get(next) {
+            nodes.push((*path, Link(name)))?;
+        }
+    }
+    nodes.push(("/w/x.h", File("int x;\n")))?;
+    Ok(nodes)
+}
+
+#[test]
+fn forty_links_and_one_more(rt: HostRuntime) -> Result<(), Fail> {
+    let alloc = rt.alloc();
+    let followed = "T# 1 \"/w/a.c\"\n# 1 \"/w/l01\" 1\nint x;\n# 2 \"/w/a.c\" 2\n";
+    assert!(rt;
+        check(
+            &rt,
+            alloc,
+            &links(alloc, 40)?,
+            &[("a.c", followed), ("a.c -Ii", followed)]
+        )?
+    );
+    let rows = [
+        ("a.c", "D/w/a.c:1: error: cannot find \"l01\""),
+        (
+            "a.c -Ii",
+            "T# 1 \"/w/a.c\"\n# 1 \"/w/i/l01\" 1\nint i;\n# 2 \"/w/a.c\" 2\n",
+        ),
+    ];
+    assert!(rt; check(&rt, alloc, &links(alloc, 41)?, &rows)?);
+    Ok(())
+}
