@@ -1,26 +1,28 @@
 -- An analysis holds: the entries gathered are those of the job, and nothing is refused wrongly.
 use Rattle.std.proofs.Common.{◌≡◌, ◌<◌, ◌≤◌, ℕ, List, [], ◌∷◌, ◌++◌, length, Option, None, Some, IsSome, Bool, true, false, ◌&&◌, cond, refl, sym, ◌∙◌, ap, subst, arith, inl, inr, ◌⊎◌, ltb-true, ltb-false}
 use Rattle.std.specs.Prelude.{All, IsTrue, Result, Ok, Err, nat_lt, ◌↔◌, IfSome}
-use Rattle.std.specs.Option.{ForSome}
+use Rattle.std.specs.Option.{ForSome, option_map}
 use Rattle.std.specs.List.{list_all, flat_map, filter_map, cons_option}
 use Rattle.base_types.specs.Members.{Member}
 use Rattle.tree_model.specs.Paths.{Text, Path, parent, spelled, IsAtOrAbove}
 use Rattle.tree_model.specs.Entries.{Entries, is_increasing, below}
 use Rattle.tree_model.specs.Trees.{FileTree, IsTree, IsTooLarge, entry_at, body_of}
-use Rattle.tree_model.specs.Walk.{locate}
-use Rattle.tree_model.specs.Frame.{HoldsOfLocated}
+use Rattle.tree_model.specs.Frame.{HoldsOfLocated, LocatedHolds}
 use Rattle.tree_model.specs.declared.walk.Located.{Located}
 use Rattle.tree_model.specs.declared.entry.Entry.{Entry}
 use Rattle.tree_model.specs.declared.entry.Entry.TheVariants.{Dir, File, Link}
+use Rattle.search_path.specs.Search.{Hit, search}
+use Rattle.search_path.specs.Laws.{IsStart, SearchesLocate}
+use Rattle.search_path.specs.declared.asking.Visit.{Visit}
 use Rattle.job_words.specs.declared.job.Job.{Job}
 use Rattle.job_frames.specs.Request.{HasSpelling, request_bytes, most}
-use Rattle.daemon_cpp.specs.Prep.{absolute}
+use Rattle.daemon_cpp.specs.Prep.{source_ask}
 use Rattle.closure_fixpoint.specs.declared.job_analysis.Refusal.{Refusal}
 use Rattle.closure_fixpoint.specs.declared.job_analysis.Refusal.TheVariants as refusal
 use Rattle.closure_fixpoint.specs.declared.job_analysis.Analysed.{Analysed}
 use Rattle.closure_fixpoint.specs.declared.job_analysis.Analysed.TheVariants as analysed
 use Rattle.closure_fixpoint.specs.Simple.{names_asked}
-use Rattle.closure_fixpoint.specs.Analysis.{IsNodeOf, AreEntriesOf, Holds, NothingHolds, AnalysisHolds, source_of, found_files, found_from, targets_of, body_found, is_unbuilt}
+use Rattle.closure_fixpoint.specs.Analysis.{IsNodeOf, AreEntriesOf, Holds, NothingHolds, AnalysisHolds, source_of, quoted_by, found_files, found_from, target_of, targets_of, body_found, is_unbuilt}
 use Rattle.closure_fixpoint.specs.Gathering.{files_from, upward, all_upward, nodes_of, comes_before, are_rising, with_path, entries_at, request_from}
 use Rattle.closure_fixpoint.proofs.Orders.{left-member, right-member, of-either, at-member, in_order}
 
@@ -109,16 +111,54 @@ some-of : (o : Option Entry) → IsSome o → (entry : Entry) × (o ≡ Some ent
 some-of None is = absurd (cc)
 some-of (Some entry) is = (entry, refl)
 
-module _ (holds : HoldsOfLocated) (tree : FileTree) (whole : IsTree tree) (job : Job) where
-  walked-there : (got : Option Located) → source_of tree job ≡ got → (located : Located) → Member located (found_from tree got) → (met : Path) → Member met located.walked → IsSome (entry_at tree met)
+-- a file that was found is that of a search that found it
+of-hit : (got : Option Hit) (located : Located) → option_map (λ (h : Hit). h.1) got ≡ Some located → (hit : Hit) × (got ≡ Some hit) × (hit.1 ≡ located)
+of-hit None located e = absurd (cc)
+of-hit (Some hit) located e = let same : hit.1 ≡ located = cc in (hit, refl, same)
+
+-- the source is located from the root
+source-start : (job : Job) (dir : Path) → IsStart (source_ask job.source) dir → dir ≡ []
+source-start job dir (inl e) = e
+source-start job dir (inr (visit, from, e)) = let never : None ≡ Some visit = from in absurd (cc)
+
+-- an included file from there, or from the directory of the file that asks
+target-start : (visit : Visit) (name : Text) (dir : Path) → IsStart (quoted_by visit name) dir → (dir ≡ []) ⊎ (dir ≡ parent visit.place)
+target-start visit name dir (inl e) = inl e
+target-start visit name dir (inr (other, from, e)) =
+    let is : Some visit ≡ Some other = from in
+    let same : visit ≡ other = cc in inr (e ∙ ap (λ (v : Visit). parent v.place) (sym same))
+
+module _ (holds : HoldsOfLocated) (locates : SearchesLocate) (tree : FileTree) (whole : IsTree tree) (job : Job) where
+  source-holds : (source : Hit) → source_of tree job ≡ Some source → (text : Text) × LocatedHolds tree text source.1
+  source-holds source e =
+      let hit = locates tree job.setup (source_ask job.source) source e in
+      let dir : entry_at tree hit.dir ≡ Some Dir = ap (entry_at tree) (source-start job hit.dir hit.start) ∙ whole.root in
+      (hit.text, holds tree hit.dir hit.text source.1 whole dir hit.located)
+
+  -- the source stands in a directory
+  source-dir : (source : Hit) → source_of tree job ≡ Some source → entry_at tree (parent source.0.place) ≡ Some Dir
+  source-dir source e =
+      let hit = locates tree job.setup (source_ask job.source) source e in
+      let facts = (source-holds source e).1 in
+      ap (λ (p : Path). entry_at tree (parent p)) (hit.place ∙ facts.below) ∙ facts.dir
+
+  target-holds : (source : Hit) → source_of tree job ≡ Some source → (name : Text) (hit : Hit) → search tree job.setup (quoted_by source.0 name) ≡ Some hit → (text : Text) × LocatedHolds tree text hit.1
+  target-holds source e name hit is =
+      let found = locates tree job.setup (quoted_by source.0 name) hit is in
+      (found.text, holds tree found.dir found.text hit.1 whole (dir_there found.dir (target-start source.0 name found.dir found.start)) found.located)
+    where
+      dir_there : (dir : Path) → (dir ≡ []) ⊎ (dir ≡ parent source.0.place) → entry_at tree dir ≡ Some Dir
+      dir_there dir (inl at) = ap (entry_at tree) at ∙ whole.root
+      dir_there dir (inr at) = ap (entry_at tree) at ∙ source-dir source e
+
+  walked-there : (got : Option Hit) → source_of tree job ≡ got → (located : Located) → Member located (found_from tree job.setup got) → (met : Path) → Member met located.walked → IsSome (entry_at tree met)
   walked-there None e located m met walked = elim m [ ]
   walked-there (Some source) e located (inl same) met walked =
-      (holds tree [] (absolute job.cwd job.source) source whole whole.root e).nodes met (subst (λ (l : Located). Member met l.walked) (sym same) walked)
+      (source-holds source e).1.nodes met (subst (λ (l : Located). Member met l.walked) (sym same) walked)
   walked-there (Some source) e located (inr m) met walked =
-      let facts = holds tree [] (absolute job.cwd job.source) source whole whole.root e in
-      let dir : entry_at tree (parent source.place) ≡ Some Dir = ap (λ (p : Path). entry_at tree (parent p)) facts.below ∙ facts.dir in
-      let asked = of-given (λ (name : Text). locate tree (parent source.place) name) located (names_asked (body_found tree source)) m in
-      (holds tree (parent source.place) asked.0 located whole dir asked.2).nodes met walked
+      let asked = of-given (target_of tree job.setup source.0) located (names_asked (body_found tree source.1)) m in
+      let hit = of-hit (search tree job.setup (quoted_by source.0 asked.0)) located asked.2 in
+      (target-holds source e asked.0 hit.0 hit.1).1.nodes met (subst (λ (l : Located). Member met l.walked) (sym hit.2) walked)
 
   node-there : (path : Path) → IsNodeOf tree job path → IsSome (entry_at tree path)
   node-there path node = there-above tree whole path node.met (walked-there (source_of tree job) refl node.located node.found node.met node.walked) node.above
@@ -239,27 +279,27 @@ err-chosen : (b : Bool) (x : List Located) (why : Refusal) → ◌≡◌ {A = Fi
 err-chosen true x why e = (refl, cc)
 err-chosen false x why e = absurd (cc)
 
-found-of : (tree : FileTree) (got : Option Located) (files : List Located) → ◌≡◌ {A = Files} (Ok files) (files_from tree got) → found_from tree got ≡ files
-found-of tree None files e = absurd (cc)
-found-of tree (Some source) files e = (ok-chosen (is_unbuilt tree (Some source)) (source ∷ targets_of tree source) files e).1
+found-of : (tree : FileTree) (job : Job) (got : Option Hit) (files : List Located) → ◌≡◌ {A = Files} (Ok files) (files_from tree job got) → found_from tree job.setup got ≡ files
+found-of tree job None files e = absurd (cc)
+found-of tree job (Some source) files e = (ok-chosen (is_unbuilt tree job (Some source)) (source.1 ∷ targets_of tree job.setup source) files e).1
 
-has-source : (tree : FileTree) (got : Option Located) (files : List Located) → ◌≡◌ {A = Files} (Ok files) (files_from tree got) → got ≡ None → ⊥
-has-source tree None files e none = absurd (cc)
-has-source tree (Some source) files e none = absurd (cc)
+has-source : (tree : FileTree) (job : Job) (got : Option Hit) (files : List Located) → ◌≡◌ {A = Files} (Ok files) (files_from tree job got) → got ≡ None → ⊥
+has-source tree job None files e none = absurd (cc)
+has-source tree job (Some source) files e none = absurd (cc)
 
-is-built : (tree : FileTree) (got : Option Located) (files : List Located) → ◌≡◌ {A = Files} (Ok files) (files_from tree got) → is_unbuilt tree got ≡ true → ⊥
-is-built tree None files e unbuilt = absurd (cc)
-is-built tree (Some source) files e unbuilt =
-    let built : is_unbuilt tree (Some source) ≡ false = (ok-chosen (is_unbuilt tree (Some source)) (source ∷ targets_of tree source) files e).0 in absurd (cc)
+is-built : (tree : FileTree) (job : Job) (got : Option Hit) (files : List Located) → ◌≡◌ {A = Files} (Ok files) (files_from tree job got) → is_unbuilt tree job got ≡ true → ⊥
+is-built tree job None files e unbuilt = absurd (cc)
+is-built tree job (Some source) files e unbuilt =
+    let built : is_unbuilt tree job (Some source) ≡ false = (ok-chosen (is_unbuilt tree job (Some source)) (source.1 ∷ targets_of tree job.setup source) files e).0 in absurd (cc)
 
-refused-from : (tree : FileTree) (job : Job) (budget : ℕ) (got : Option Located) → source_of tree job ≡ got → (why : Refusal) → ◌≡◌ {A = Files} (Err why) (files_from tree got) → Holds why tree job budget
+refused-from : (tree : FileTree) (job : Job) (budget : ℕ) (got : Option Hit) → source_of tree job ≡ got → (why : Refusal) → ◌≡◌ {A = Files} (Err why) (files_from tree job got) → Holds why tree job budget
 refused-from tree job budget None is why e =
     let same : why ≡ refusal.NoSource = cc in subst (λ (r : Refusal). Holds r tree job budget) (sym same) is
 refused-from tree job budget (Some source) is why e =
-    let chosen = err-chosen (is_unbuilt tree (Some source)) (source ∷ targets_of tree source) why e in
-    subst (λ (r : Refusal). Holds r tree job budget) (sym chosen.1) (ap (is_unbuilt tree) is ∙ chosen.0)
+    let chosen = err-chosen (is_unbuilt tree job (Some source)) (source.1 ∷ targets_of tree job.setup source) why e in
+    subst (λ (r : Refusal). Holds r tree job budget) (sym chosen.1) (ap (is_unbuilt tree job) is ∙ chosen.0)
 
-pub refused : (tree : FileTree) (job : Job) (budget : ℕ) (why : Refusal) → ◌≡◌ {A = Files} (Err why) (files_from tree (source_of tree job)) → Holds why tree job budget
+pub refused : (tree : FileTree) (job : Job) (budget : ℕ) (why : Refusal) → ◌≡◌ {A = Files} (Err why) (files_from tree job (source_of tree job)) → Holds why tree job budget
 refused tree job budget why e = refused-from tree job budget (source_of tree job) refl why e
 
 -- THE ANALYSIS
@@ -277,10 +317,11 @@ not-large tree path (File other) e fits (body, is, large) =
 few : (a b : ℕ) → nat_lt a b ≡ false → a < b → ⊥
 few a b e lt = let above : b ≤ a = ltb-false a b e in absurd (omega (arith, above, lt))
 
-module _ (holds : HoldsOfLocated) (tree : FileTree) (whole : IsTree tree) (job : Job) (budget : ℕ) (files : List Located) (found : ◌≡◌ {A = Files} (Ok files) (files_from tree (source_of tree job)))
+module _ (holds : HoldsOfLocated) (locates : SearchesLocate) (tree : FileTree) (whole : IsTree tree) (job : Job) (budget : ℕ) (files : List Located)
+    (found : ◌≡◌ {A = Files} (Ok files) (files_from tree job (source_of tree job)))
     (nodes sorted : List Path) (nodes_are : nodes ≡ nodes_of files) (rising : IsTrue (are_rising sorted)) (same : (path : Path) → Member path sorted ↔ Member path nodes) where
   files_are : found_files tree job ≡ files
-  files_are = found-of tree (source_of tree job) files found
+  files_are = found-of tree job (source_of tree job) files found
 
   sorted-node : (path : Path) → Member path sorted → IsNodeOf tree job path
   sorted-node path m = is-node tree job files files_are path (subst (λ (l : List Path). Member path l) nodes_are ((same path).0 m))
@@ -293,7 +334,7 @@ module _ (holds : HoldsOfLocated) (tree : FileTree) (whole : IsTree tree) (job :
     increasing = entries-rise tree sorted rising;
     nodes = λ path entry m. sorted-node path (of-entries tree sorted path entry m).0;
     same = λ path entry m. (of-entries tree sorted path entry m).1;
-    whole = λ path node. let there = some-of (entry_at tree path) (node-there holds tree whole job path node) in (there.0, at-entries tree sorted path there.0 (node-sorted path node) there.1);
+    whole = λ path node. let there = some-of (entry_at tree path) (node-there holds locates tree whole job path node) in (there.0, at-entries tree sorted path there.0 (node-sorted path node) there.1);
   }
 
   pub large-holds : (path : Path) → Member path sorted → IsTooLarge tree path → Holds refusal.Large tree job budget
@@ -318,8 +359,8 @@ module _ (holds : HoldsOfLocated) (tree : FileTree) (whole : IsTree tree) (job :
         few 100000 (length entries) short (subst (λ (e : Entries). 100000 < length e) (same-entries tree job others entries be are) many)
     nothing short small refusal.Request (others, be, inr long) =
         few most (length (request_bytes job entries)) small (subst (λ (e : Entries). most < length (request_bytes job e)) (same-entries tree job others entries be are) long)
-    nothing short small refusal.NoSource none = has-source tree (source_of tree job) files found none
-    nothing short small refusal.Unbuilt unbuilt = is-built tree (source_of tree job) files found unbuilt
+    nothing short small refusal.NoSource none = has-source tree job (source_of tree job) files found none
+    nothing short small refusal.Unbuilt unbuilt = is-built tree job (source_of tree job) files found unbuilt
 
     many : (a b : ℕ) → nat_lt a b ≡ true → a < b
     many a b e = ltb-true a b e

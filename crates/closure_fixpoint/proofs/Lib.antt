@@ -4,4 +4,4 @@ pub mod Tokens
 pub mod Targets
 pub mod Orders
 pub mod Gathered
-pub mod Jobs
+pub mod ToldTrees

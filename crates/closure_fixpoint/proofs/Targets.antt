@@ -3,16 +3,20 @@ use Rattle.std.proofs.Common.{◌≡◌, ◌<◌, ◌+◌, ℕ, List, [], ◌∷
 use Rattle.std.specs.Prelude.{Result, Ok, Err, nat_le}
 use Rattle.std.specs.List.{list_any, filter_map, cons_option}
 use Rattle.std.proofs.lemmas.Bool.{lt-leb}
-use Rattle.tree_model.specs.Paths.{Text, Path, parent}
+use Rattle.std.specs.Option.{option_map}
+use Rattle.tree_model.specs.Paths.{Text}
 use Rattle.tree_model.specs.Trees.{FileTree, body_limit}
-use Rattle.tree_model.specs.Walk.{locate}
 use Rattle.tree_model.specs.declared.walk.Located.{Located}
+use Rattle.search_path.specs.SetupOf.{SetupData}
+use Rattle.search_path.specs.Search.{Hit, search}
+use Rattle.search_path.specs.declared.asking.Visit.{Visit}
+use Rattle.job_words.specs.declared.job.Job.{Job}
 use Rattle.directive_scan.specs.declared.Piece.{Piece}
 use Rattle.daemon_cpp.specs.Reading.{body_within}
 use Rattle.closure_fixpoint.specs.declared.job_analysis.Refusal.{Refusal}
 use Rattle.closure_fixpoint.specs.declared.job_analysis.Refusal.TheVariants.{Unbuilt}
 use Rattle.closure_fixpoint.specs.Simple.{name_asked, asks, pieces_of, is_simple, is_flat}
-use Rattle.closure_fixpoint.specs.Analysis.{body_found, targets_of}
+use Rattle.closure_fixpoint.specs.Analysis.{body_found, quoted_by, target_of, targets_of, is_plain_job}
 use Rattle.closure_fixpoint.specs.Gathering.{simple_of, is_flat_file, targets_from, are_flat, files_from}
 use Rattle.closure_fixpoint.proofs.Steps.{next-at}
 
@@ -58,50 +62,64 @@ too-large body e =
     let long : nat_le (length body) 65536 ≡ false = lt-leb (length body) 65536 (omega (arith, above)) in
     rw long refl
 
+-- what was read of a body is all of it
+pub read-pieces : (body read : Text) (file : Option (List Piece)) → Some read ≡ body_within body → file ≡ simple_of read → file ≡ simple_of body
+read-pieces body read file e is = is ∙ ap (λ (b : Text). simple_of b) (some-found (nat_le (length body) body_limit) body read e)
+
 -- A SOURCE
 
-err-unless_simple : {A : Type 0} (s a : Bool) (x y : A) → s ≡ false → x ≡ cond (not s || a) x y
-err-unless_simple true a x y e = cc
-err-unless_simple false a x y e = refl
+err-unless_simple : {A : Type 0} (p s a : Bool) (x y : A) → p ≡ true → s ≡ false → x ≡ cond (not p || (not s || a)) x y
+err-unless_simple true true a x y e f = cc
+err-unless_simple true false a x y e f = refl
+err-unless_simple false s a x y e f = cc
 
-err-unless_flat : {A : Type 0} (s a : Bool) (x y : A) → s ≡ true → not a ≡ false → x ≡ cond (not s || a) x y
-err-unless_flat true true x y e f = refl
-err-unless_flat true false x y e f = cc
-err-unless_flat false a x y e f = cc
+err-unless_flat : {A : Type 0} (p s a : Bool) (x y : A) → p ≡ true → s ≡ true → not a ≡ false → x ≡ cond (not p || (not s || a)) x y
+err-unless_flat true true true x y e f g = refl
+err-unless_flat true true false x y e f g = cc
+err-unless_flat true false a x y e f g = cc
+err-unless_flat false s a x y e f g = cc
 
-ok-where_flat : {A : Type 0} (s a : Bool) (x y : A) → s ≡ true → not a ≡ true → y ≡ cond (not s || a) x y
-ok-where_flat true true x y e f = cc
-ok-where_flat true false x y e f = refl
-ok-where_flat false a x y e f = cc
+ok-where_flat : {A : Type 0} (p s a : Bool) (x y : A) → p ≡ true → s ≡ true → not a ≡ true → y ≡ cond (not p || (not s || a)) x y
+ok-where_flat true true true x y e f g = cc
+ok-where_flat true true false x y e f g = refl
+ok-where_flat true false a x y e f g = cc
+ok-where_flat false s a x y e f g = cc
 
 abbrev Files : Type 0
 Files = Result (List Located) Refusal
 
-module _ (tree : FileTree) (source : Located) where
+module _ (tree : FileTree) (job : Job) (source : Hit) where
+  abbrev its_simple : Bool
+  its_simple = is_simple (body_found tree source.1)
+
   abbrev any_not_flat : Bool
-  any_not_flat = list_any (λ other. not (is_flat (body_found tree other))) (targets_of tree source)
+  any_not_flat = list_any (λ other. not (is_flat (body_found tree other))) (targets_of tree job.setup source)
 
-  pub unbuilt-source : None ≡ simple_of (body_found tree source) → ◌≡◌ {A = Files} (Err Unbuilt) (files_from tree (Some source))
-  unbuilt-source e = err-unless_simple {A = Files} (is_simple (body_found tree source)) any_not_flat (Err Unbuilt) (Ok (source ∷ targets_of tree source)) (not-simple (body_found tree source) e)
+  abbrev built : Files
+  built = Ok (source.1 ∷ targets_of tree job.setup source)
 
-  asked_by : (pieces : List Piece) (dir : Path) → Some pieces ≡ simple_of (body_found tree source) → dir ≡ parent source.place → targets_from tree dir pieces ≡ targets_of tree source
-  asked_by pieces dir e at =
-      ap (λ (d : Path). targets_from tree d pieces) at
-      ∙ ap (λ (ps : List Piece). targets_from tree (parent source.place) ps) (its-pieces (body_found tree source) pieces e)
+  pub unbuilt-source : is_plain_job job ≡ true → None ≡ simple_of (body_found tree source.1) → ◌≡◌ {A = Files} (Err Unbuilt) (files_from tree job (Some source))
+  unbuilt-source plain e = err-unless_simple {A = Files} (is_plain_job job) its_simple any_not_flat (Err Unbuilt) built plain (not-simple (body_found tree source.1) e)
 
-  pub unflat-source : (pieces : List Piece) (dir : Path) → Some pieces ≡ simple_of (body_found tree source) → dir ≡ parent source.place
-      → (flat : Bool) → flat ≡ are_flat tree (targets_from tree dir pieces) → flat ≡ false → ◌≡◌ {A = Files} (Err Unbuilt) (files_from tree (Some source))
-  unflat-source pieces dir e at flat is no_flat =
-      err-unless_flat {A = Files} (is_simple (body_found tree source)) any_not_flat (Err Unbuilt) (Ok (source ∷ targets_of tree source)) (simple (body_found tree source) pieces e)
-      (ap (λ (files : List Located). are_flat tree files) (sym (asked_by pieces dir e at)) ∙ sym is ∙ no_flat)
+  module _ (plain : is_plain_job job ≡ true) (setup : SetupData) (setup_is : setup ≡ job.setup) (given : List Piece) (e : Some given ≡ simple_of (body_found tree source.1))
+      (flat : Bool) (is : flat ≡ are_flat tree (targets_from tree setup source.0 given)) where
+    asked_by : targets_from tree setup source.0 given ≡ targets_of tree job.setup source
+    asked_by =
+        ap (λ (s : SetupData). targets_from tree s source.0 given) setup_is
+        ∙ ap (λ (ps : List Piece). targets_from tree job.setup source.0 ps) (its-pieces (body_found tree source.1) given e)
 
-  pub built-source : (pieces : List Piece) (dir : Path) → Some pieces ≡ simple_of (body_found tree source) → dir ≡ parent source.place
-      → (flat : Bool) → flat ≡ are_flat tree (targets_from tree dir pieces) → flat ≡ true
-      → (started files : List Located) → started ≡ source ∷ [] → files ≡ started ++ targets_from tree dir pieces → ◌≡◌ {A = Files} (Ok files) (files_from tree (Some source))
-  built-source pieces dir e at flat is yes_flat started files begun added =
-      ap (λ (l : List Located). Ok l) (added ∙ ap (λ (s : List Located). s ++ targets_from tree dir pieces) begun ∙ ap (λ (t : List Located). source ∷ t) (asked_by pieces dir e at))
-      ∙ ok-where_flat {A = Files} (is_simple (body_found tree source)) any_not_flat (Err Unbuilt) (Ok (source ∷ targets_of tree source)) (simple (body_found tree source) pieces e)
-      (ap (λ (l : List Located). are_flat tree l) (sym (asked_by pieces dir e at)) ∙ sym is ∙ yes_flat)
+    flat_is : not any_not_flat ≡ flat
+    flat_is = ap (λ (files : List Located). are_flat tree files) (sym asked_by) ∙ sym is
+
+    pub unflat-source : flat ≡ false → ◌≡◌ {A = Files} (Err Unbuilt) (files_from tree job (Some source))
+    unflat-source no_flat =
+        err-unless_flat {A = Files} (is_plain_job job) its_simple any_not_flat (Err Unbuilt) built plain (simple (body_found tree source.1) given e) (flat_is ∙ no_flat)
+
+    pub built-source : flat ≡ true → (started files : List Located) → started ≡ source.1 ∷ [] → files ≡ started ++ targets_from tree setup source.0 given
+        → ◌≡◌ {A = Files} (Ok files) (files_from tree job (Some source))
+    built-source yes_flat started files begun added =
+        ap (λ (l : List Located). Ok l) (added ∙ ap (λ (s : List Located). s ++ targets_from tree setup source.0 given) begun ∙ ap (λ (t : List Located). source.1 ∷ t) asked_by)
+        ∙ ok-where_flat {A = Files} (is_plain_job job) its_simple any_not_flat (Err Unbuilt) built plain (simple (body_found tree source.1) given e) (flat_is ∙ yes_flat)
 
 -- A PIECE
 
@@ -109,20 +127,20 @@ one-flat : (b : Bool) → not (not b || false) ≡ b
 one-flat true = refl
 one-flat false = refl
 
-module _ (tree : FileTree) (dir : Path) where
+module _ (tree : FileTree) (setup : SetupData) (visit : Visit) where
   abbrev located_by : List Text → List Located
-  located_by names = filter_map (λ name. locate tree dir name) names
+  located_by names = filter_map (target_of tree setup visit) names
 
-  pub nothing-asked : (piece : Piece) → None ≡ name_asked piece → targets_from tree dir (piece ∷ []) ≡ []
-  nothing-asked piece e = ap (λ (o : Option Text). located_by (cons_option o [])) (sym e)
+  -- a piece whose name was searched
+  pub piece-asks : (piece : Piece) (name text : Text) (copy : Visit) (got : Option Hit) (hit : Hit) → Some name ≡ name_asked piece
+      → got ≡ search tree setup (quoted_by copy text) → copy ≡ visit → text ≡ name → got ≡ Some hit → targets_from tree setup visit (piece ∷ []) ≡ hit.1 ∷ []
+  piece-asks piece name text copy got hit asks is same_visit same_name found =
+      let asked : got ≡ search tree setup (quoted_by visit name) =
+      is ∙ ap (λ (v : Visit). search tree setup (quoted_by v text)) same_visit ∙ ap (λ (n : Text). search tree setup (quoted_by visit n)) same_name in
+      ap (λ (o : Option Text). located_by (cons_option o [])) (sym asks)
+      ∙ ap (λ (o : Option Hit). cons_option (option_map (λ h. h.1) o) []) (sym asked ∙ found)
 
-  pub name-asked : (piece : Piece) (name : Text) (got : Option Located) → Some name ≡ name_asked piece → got ≡ locate tree dir name → targets_from tree dir (piece ∷ []) ≡ cons_option got []
-  name-asked piece name got e is = ap (λ (o : Option Text). located_by (cons_option o [])) (sym e) ∙ ap (λ (o : Option Located). cons_option o []) (sym is)
-
-  pub flat-where_none : (piece : Piece) → targets_from tree dir (piece ∷ []) ≡ [] → true ≡ are_flat tree (targets_from tree dir (piece ∷ []))
-  flat-where_none piece e = sym (ap (λ (l : List Located). are_flat tree l) e)
-
-  pub flat-where_one : (piece : Piece) (found : Located) (flat : Bool) → targets_from tree dir (piece ∷ []) ≡ found ∷ [] → flat ≡ is_flat (body_found tree found) → flat ≡ are_flat tree (targets_from tree dir (piece ∷ []))
+  pub flat-where_one : (piece : Piece) (found : Located) (flat : Bool) → targets_from tree setup visit (piece ∷ []) ≡ found ∷ [] → flat ≡ is_flat (body_found tree found) → flat ≡ are_flat tree (targets_from tree setup visit (piece ∷ []))
   flat-where_one piece found flat e is = is ∙ sym (ap (λ (l : List Located). are_flat tree l) e ∙ one-flat (is_flat (body_found tree found)))
 
   -- ALL PIECES
@@ -133,12 +151,12 @@ module _ (tree : FileTree) (dir : Path) where
 
   name-first : (o : Option Text) (names : List Text) → located_by (cons_option o names) ≡ located_by (cons_option o []) ++ located_by names
   name-first None names = refl
-  name-first (Some name) names = found-first (locate tree dir name) (located_by names)
+  name-first (Some name) names = found-first (target_of tree setup visit name) (located_by names)
 
   pub pieces-ask : (pieces : List Piece) (i : ℕ) (piece : Piece) → i < length pieces → piece ≡ get_or pieces i piece
-      → targets_from tree dir (drop i pieces) ≡ targets_from tree dir (piece ∷ []) ++ targets_from tree dir (drop (i + 1) pieces)
+      → targets_from tree setup visit (drop i pieces) ≡ targets_from tree setup visit (piece ∷ []) ++ targets_from tree setup visit (drop (i + 1) pieces)
   pieces-ask pieces i piece below is =
-      ap (λ (ps : List Piece). targets_from tree dir ps) (next-at pieces i piece below is) ∙ name-first (name_asked piece) (filter_map name_asked (drop (i + 1) pieces))
+      ap (λ (ps : List Piece). targets_from tree setup visit ps) (next-at pieces i piece below is) ∙ name-first (name_asked piece) (filter_map name_asked (drop (i + 1) pieces))
 
   flat-both : (xs ys : List Located) → are_flat tree (xs ++ ys) ≡ (are_flat tree xs && are_flat tree ys)
   flat-both [] ys = refl
@@ -148,9 +166,9 @@ module _ (tree : FileTree) (dir : Path) where
       by_first true all first second e = e
       by_first false all first second e = refl
 
-  pub flat-next : (pieces : List Piece) (i : ℕ) (piece : Piece) (flat : Bool) → i < length pieces → piece ≡ get_or pieces i piece → flat ≡ are_flat tree (targets_from tree dir (piece ∷ []))
-      → are_flat tree (targets_from tree dir (drop i pieces)) ≡ (flat && are_flat tree (targets_from tree dir (drop (i + 1) pieces)))
+  pub flat-next : (pieces : List Piece) (i : ℕ) (piece : Piece) (flat : Bool) → i < length pieces → piece ≡ get_or pieces i piece → flat ≡ are_flat tree (targets_from tree setup visit (piece ∷ []))
+      → are_flat tree (targets_from tree setup visit (drop i pieces)) ≡ (flat && are_flat tree (targets_from tree setup visit (drop (i + 1) pieces)))
   flat-next pieces i piece flat below is e =
       ap (λ (l : List Located). are_flat tree l) (pieces-ask pieces i piece below is)
-      ∙ flat-both (targets_from tree dir (piece ∷ [])) (targets_from tree dir (drop (i + 1) pieces))
-      ∙ ap (λ (b : Bool). b && are_flat tree (targets_from tree dir (drop (i + 1) pieces))) (sym e)
+      ∙ flat-both (targets_from tree setup visit (piece ∷ [])) (targets_from tree setup visit (drop (i + 1) pieces))
+      ∙ ap (λ (b : Bool). b && are_flat tree (targets_from tree setup visit (drop (i + 1) pieces))) (sym e)

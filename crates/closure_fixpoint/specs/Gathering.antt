@@ -5,10 +5,12 @@ use Rattle.std.specs.Option.{option_map}
 use Rattle.tree_model.specs.Paths.{Text, Path, spelled}
 use Rattle.tree_model.specs.Entries.{Entries, IsLinkText, below}
 use Rattle.tree_model.specs.Trees.{FileTree, entry_at, body_limit}
-use Rattle.tree_model.specs.Walk.{locate}
 use Rattle.tree_model.specs.declared.walk.Located.{Located}
 use Rattle.tree_model.specs.declared.entry.Entry.{Entry}
 use Rattle.tree_model.specs.declared.entry.Entry.TheVariants.{Dir, File, Link}
+use Rattle.search_path.specs.SetupOf.{SetupData}
+use Rattle.search_path.specs.Search.{Hit}
+use Rattle.search_path.specs.declared.asking.Visit.{Visit}
 use Rattle.job_words.specs.declared.job.Job.{Job}
 use Rattle.job_frames.specs.Request.{request_bytes, most}
 use Rattle.directive_scan.specs.declared.Piece.{Piece}
@@ -17,7 +19,7 @@ use Rattle.closure_fixpoint.specs.declared.job_analysis.Refusal.{Refusal}
 use Rattle.closure_fixpoint.specs.declared.job_analysis.Refusal.TheVariants as refusal
 use Rattle.closure_fixpoint.specs.declared.job_analysis.Analysed.{Analysed}
 use Rattle.closure_fixpoint.specs.declared.job_analysis.Analysed.TheVariants as analysed
-use Rattle.closure_fixpoint.specs.Analysis.{body_found, targets_of, is_unbuilt}
+use Rattle.closure_fixpoint.specs.Analysis.{body_found, target_of, targets_of, is_unbuilt}
 
 -- ---- the files ----
 
@@ -30,18 +32,18 @@ abbrev pub is_flat_file : Option (List Piece) → Bool
 is_flat_file None = false
 is_flat_file (Some pieces) = not (list_any asks pieces)
 
--- the files that pieces ask for from a directory, where they are found
-abbrev pub targets_from : FileTree → Path → List Piece → List Located
-targets_from tree dir pieces = filter_map (λ name. locate tree dir name) (filter_map name_asked pieces)
+-- the files that pieces of a file ask for, where they are found
+abbrev pub targets_from : FileTree → SetupData → Visit → List Piece → List Located
+targets_from tree setup visit pieces = filter_map (target_of tree setup visit) (filter_map name_asked pieces)
 
 -- none of the files isn't flat
 abbrev pub are_flat : FileTree → List Located → Bool
 are_flat tree files = not (list_any (λ other. not (is_flat (body_found tree other))) files)
 
 -- the files of a job whose source's search gave this, or why there are none
-abbrev pub files_from : FileTree → Option Located → Result (List Located) Refusal
-files_from tree None = Err refusal.NoSource
-files_from tree (Some source) = cond (is_unbuilt tree (Some source)) (Err refusal.Unbuilt) (Ok (source ∷ targets_of tree source))
+abbrev pub files_from : FileTree → Job → Option Hit → Result (List Located) Refusal
+files_from tree job None = Err refusal.NoSource
+files_from tree job (Some hit) = cond (is_unbuilt tree job (Some hit)) (Err refusal.Unbuilt) (Ok (hit.1 ∷ targets_of tree job.setup hit))
 
 -- ---- the nodes ----
 

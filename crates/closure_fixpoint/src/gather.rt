@@ -6,14 +6,13 @@ ghost use Rattle.base_types.specs.Members.{Member};
 ghost use Rattle.tree_model.specs.Paths.{Path, IsCanonical};
 ghost use Rattle.tree_model.specs.Trees as trees;
 ghost use Rattle.tree_model.specs.Trees.{IsTooLarge, node_at};
-ghost use Rattle.job_words.specs.Words.{IsJob};
 ghost use Rattle.job_frames.specs.Request.{HasSpelling};
 ghost use Rattle.closure_fixpoint.specs.Gathering.{IsSendable, entries_at, request_from};
 
 use crate::{Analysed, Refusal};
 use base_types::Bytes;
 use job_frames::write_request;
-use job_words::{Job, jobs_are_short};
+use job_words::Job;
 use std::alloc::{AllocError, Global};
 use tree_model::{CanonPath, Entry, Node, Tree, TreeError};
 
@@ -113,11 +112,9 @@ pub fn request_of(
     job: &Job,
     entries: &[(CanonPath, Entry)],
 ) -> Result<Analysed, AllocError>
-    requires job { IsJob job.now }
-    requires spellable { All HasSpelling entries.now }
+    requires { All HasSpelling entries.now }
     ensures { IfOk result (λ answer. answer ≡ request_from job.now entries.now) }
 {
-    jobs_are_short();
     if entries.len() > ENTRY_LIMIT {
         return Ok(Analysed::Refused(Refusal::Request));
     }

@@ -1,7 +1,6 @@
 // The analysis of a job.
 ghost use Rattle.std.specs.Prelude.{◌≡◌, IfOk, IfSome, IsErrOf};
 ghost use Rattle.base_types.specs.Causes.{HasCause};
-ghost use Rattle.job_words.specs.Words.{IsJob};
 ghost use Rattle.closure_fixpoint.specs.Analysis.{AnalysisHolds};
 
 use crate::files::files_found;
@@ -9,6 +8,7 @@ use crate::gather::{gather, request_of};
 use crate::nodes::{nodes_of, sorted};
 use base_types::Bytes;
 use job_words::Job;
+use search_path::searches_locate;
 use std::alloc::Global;
 use tree_model::{Tree, TreeError, walked_law};
 
@@ -29,7 +29,7 @@ pub enum Refusal {
     Request,
     /// The source isn't found.
     NoSource,
-    /// Analysing a file of the job isn't built yet.
+    /// Analysing the job isn't built yet: a file of it isn't simple, or its words name files to include or trigraphs.
     Unbuilt,
 }
 
@@ -47,13 +47,13 @@ pub fn analyse<T: Tree>(
     job: &Job,
     budget: u32,
 ) -> Result<Analysed, TreeError>
-    requires { IsJob job.now }
     ensures same { T.told tree.new ≡ T.told tree.old }
     ensures answer { IfOk result (λ answer. IfSome (T.told tree.old) (λ told. AnalysisHolds told job.now budget answer)) }
     ensures cause { HasCause TreeError.Fault (T.faults tree.old) (T.faults tree.new) result }
     ensures never_large { IsErrOf result TreeError.Large → ⊥ }
 {
     walked_law();
+    searches_locate();
     let files = match files_found(alloc, tree, job)? {
         Ok(files) => files,
         Err(refusal) => return Ok(Analysed::Refused(refusal)),

@@ -2,7 +2,7 @@
 ghost use Rattle.std.specs.Prelude.{◌≡◌, ◌==◌, ◌&&◌, [], count_by, codes, nat_eq, IfOk, unwrap_or, option_map};
 ghost use Rattle.std.specs.List.{list_any, slice_get, starts_with};
 ghost use Rattle.daemon_cpp.specs.Prep.{is_identifier, is_reserved};
-ghost use Rattle.closure_fixpoint.specs.Simple.{name_in_form, name_asked, asks, has_reserved};
+ghost use Rattle.closure_fixpoint.specs.Simple.{name_in_form, name_asked, asks, has_reserved, is_next_or_angle};
 ghost use Rattle.closure_fixpoint.specs.Gathering as gathering;
 ghost use Rattle.closure_fixpoint.specs.Gathering.{simple_of};
 
@@ -28,7 +28,11 @@ pub fn simple_pieces(alloc: Global, body: &[u8]) -> Result<Option<List<Piece>>, 
     if has_reserved(&file) {
         return Ok(None);
     }
-    Ok(Some(scan(alloc, &file)?))
+    let pieces = scan(alloc, &file)?;
+    if has_next_or_angle(pieces.as_slice()) {
+        return Ok(None);
+    }
+    Ok(Some(pieces))
 }
 
 fn newlines(body: &[u8]) -> usize
@@ -67,6 +71,29 @@ fn is_reserved_name(kind: Kind, text: &[u8]) -> bool
     ensures { result ≡ (is_identifier kind && starts_with nat_eq text.now (codes "__")) }
 {
     kind == Kind::Ident && text.starts_with(b"__")
+}
+
+fn has_next_or_angle(pieces: &[Piece]) -> bool
+    ensures { result ≡ list_any is_next_or_angle pieces.now }
+{
+    pieces.iter().any(|piece| is_next_or_angle(piece))
+}
+
+// Whether a piece is an include in angle form, or an include_next.
+fn is_next_or_angle(piece: &Piece) -> bool
+    ensures { result ≡ is_next_or_angle piece.now }
+{
+    match piece {
+        Piece::Line {
+            what: Directive::Include(Target::Plain(header)),
+            ..
+        } => header.angle,
+        Piece::Line {
+            what: Directive::Next(_),
+            ..
+        } => true,
+        _ => false,
+    }
 }
 
 // The name that a piece asks for: that of an include in quote form.

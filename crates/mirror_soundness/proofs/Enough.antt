@@ -1,24 +1,28 @@
 -- Preprocessing over the tree of a job's entries is preprocessing over the whole tree.
-use Rattle.std.proofs.Common.{◌≡◌, ◌∷◌, [], List, ℕ, Bool, true, false, ◌||◌, not, Option, Some, None, IsTrue, inl, inr, refl, sym, ap, subst, ◌∙◌}
+use Rattle.std.proofs.Common.{◌≡◌, ◌∷◌, [], List, ℕ, Bool, true, false, ◌||◌, not, length, Option, Some, None, IsTrue, inl, inr, refl, sym, ap, subst, ◌∙◌, arith, suc}
+use Rattle.std.specs.Prelude.{◌==◌}
+use Rattle.std.proofs.lemmas.Bool.{eqb-true}
 use Rattle.std.specs.List.{list_any, filter_map}
+use Rattle.std.specs.Option.{option_map}
 use Rattle.base_types.specs.Members.{Member}
-use Rattle.tree_model.specs.Paths.{Text, Path, parent}
+use Rattle.tree_model.specs.Paths.{Text}
 use Rattle.tree_model.specs.Entries.{Entries, makes_tree}
-use Rattle.tree_model.specs.Trees.{FileTree, IsTree, Sub, tree_of, entry_at}
-use Rattle.tree_model.specs.Walk.{locate}
-use Rattle.tree_model.specs.Frame.{IsLocatedInPart, IsLocatedInNoPart, HoldsOfLocated}
+use Rattle.tree_model.specs.Trees.{FileTree, IsTree, Sub, tree_of}
+use Rattle.tree_model.specs.Frame.{HoldsOfLocated}
 use Rattle.tree_model.specs.Laws.{ListsMakeTrees, EntriesAreNodes, NodesAreEntries, TestsDecide, ParentsMakeTrees}
-use Rattle.tree_model.specs.declared.entry.Entry.TheVariants.{Dir}
 use Rattle.tree_model.specs.declared.walk.Located.{Located}
+use Rattle.search_path.specs.Search.{Hit, search}
+use Rattle.search_path.specs.Laws.{SearchesLocate, IsFoundInPart, IsFoundInNoPart}
 use Rattle.job_words.specs.declared.job.Job.{Job}
-use Rattle.daemon_cpp.specs.Prep.{World, State, world_of, absolute, limited, first_state, open_file, enter_file, run_job, prepared, and_then, prep, depth_limit}
+use Rattle.daemon_cpp.specs.Prep.{World, State, Step, Go, Stop, world_of, source_ask, limited, first_state, open_file, enter_file, run_forced, run_job, prepared, Prepared, and_then, prep, depth_limit}
 use Rattle.closure_fixpoint.specs.declared.job_analysis.Refusal.TheVariants.{NoSource, Unbuilt}
-use Rattle.closure_fixpoint.specs.Simple.{names_asked, is_simple, is_flat}
-use Rattle.closure_fixpoint.specs.Analysis.{AreEntriesOf, Holds, found_files, found_from, source_of, targets_of, body_found, is_unbuilt}
+use Rattle.closure_fixpoint.specs.Simple.{names_asked, pieces_of, is_simple, is_flat}
+use Rattle.closure_fixpoint.specs.Analysis.{AreEntriesOf, Holds, found_files, found_from, source_of, quoted_by, target_of, targets_of, body_found, is_plain_job, has_unbuilt, is_unbuilt}
 use Rattle.mirror_soundness.specs.Mirror.{MirrorIsEnough}
 use Rattle.mirror_soundness.proofs.MadeTree.{any_of_member, makes_tree_of, part_of_whole}
-use Rattle.mirror_soundness.proofs.SameSearches.{same_found, same_none, same_body}
-use Rattle.mirror_soundness.proofs.SamePrep.{OutlineHolds, SameFile, Agrees, in_front, behind, and_same, opened_same, alike_where_agree}
+use Rattle.mirror_soundness.proofs.SameSearches.{source_walked, target_walked, same_found, same_none, same_body}
+use Rattle.mirror_soundness.proofs.Deeds.{Asked, quoted, asked_in, in_front, behind, quoted_alone}
+use Rattle.mirror_soundness.proofs.SamePrep.{OutlineHolds, SameFile, Agrees, and_same, first_true, second_true, not_so, simple_quotes, opened_same, alike_where_agree}
 
 -- what a member of a list gives is one of what the list gives
 pub given_by_member : {X Y : Type 0} (give : X → Option Y) (xs : List X) (x : X) (y : Y) → Member x xs → give x ≡ Some y → Member y (filter_map give xs)
@@ -35,89 +39,129 @@ pub passes : (test : Bool) → (not test ≡ true → ⊥) → test ≡ true
 passes true never = refl
 passes false never = absurd (never refl)
 
-module _ (lists : ListsMakeTrees) (nodes : EntriesAreNodes) (found_in_part : IsLocatedInPart) (none_in_part : IsLocatedInNoPart) (holds : HoldsOfLocated)
+-- JOBS THAT ARE BUILT
+
+no_names : (names : List Text) → (length names == 0) ≡ true → names ≡ []
+no_names [] e = refl
+no_names (name ∷ names) e =
+    let never : suc (length names) ≡ 0 = eqb-true (suc (length names)) 0 e in absurd (omega arith)
+
+-- a job whose analysis is built includes no file in front, leaves trigraphs alone, and has a simple source whose targets are flat
+pub record IsBuilt (tree : FileTree) (job : Job) (source : Hit) : Type 0 where
+  pub unforced : job.forced ≡ []
+  pub plain : job.setup.trigraphs ≡ false
+  pub simple : is_simple (body_found tree source.1) ≡ true
+  pub flat : (target : Located) → Member target (targets_of tree job.setup source) → is_flat (body_found tree target) ≡ true
+
+pub is_built : (tree : FileTree) (job : Job) (source : Hit) → (is_unbuilt tree job (Some source) ≡ true → ⊥) → IsBuilt tree job source
+is_built tree job source built =
+    let plain = none_fails (is_plain_job job) (has_unbuilt tree job.setup source) built in
+    let files = none_fails (is_simple (body_found tree source.1)) (list_any (λ other. not (is_flat (body_found tree other))) (targets_of tree job.setup source)) plain.1 in
+    record {
+      unforced = no_names job.forced (first_true (length job.forced == 0) (not job.setup.trigraphs) plain.0);
+      plain = not_so job.setup.trigraphs (second_true (length job.forced == 0) (not job.setup.trigraphs) plain.0);
+      simple = files.0;
+      flat = λ target m.
+          passes (is_flat (body_found tree target))
+          (λ e. files.1 (any_of_member (λ (other : Located). not (is_flat (body_found tree other))) (targets_of tree job.setup source) target m e));
+    }
+
+and_go : (step : Step) → and_then (λ state. Go state) step ≡ step
+and_go (Go state) = refl
+and_go (Stop diagnostic state) = refl
+
+-- a source alone
+abbrev pub run_source : World → Hit → ℕ → Prepared
+run_source world source depth = prepared (and_then (λ state. open_file world (enter_file world depth) [] source state) (limited (first_state source)))
+
+-- a job that includes no file in front is its source alone
+pub unforced_run : (world : World) (job : Job) (source : Hit) → job.forced ≡ [] → run_job world job (Some source) ≡ run_source world source depth_limit
+unfolding run_forced
+unforced_run world job source none =
+    ap (λ (names : List Text). prepared (and_then (λ state. open_file world (enter_file world depth_limit) [] source state)
+    (and_then (λ state. run_forced world (enter_file world depth_limit) names state) (limited (first_state source))))) none
+    ∙ ap (λ (step : Step). prepared (and_then (λ state. open_file world (enter_file world depth_limit) [] source state) step)) (and_go (limited (first_state source)))
+
+-- A SOURCE
+
+module _ (lists : ListsMakeTrees) (nodes : EntriesAreNodes) (found_in_part : IsFoundInPart) (none_in_part : IsFoundInNoPart) (holds : HoldsOfLocated) (locates : SearchesLocate)
     (tree : FileTree) (job : Job) (entries : Entries) (whole : IsTree tree) (are : AreEntriesOf tree job entries) (makes : IsTrue (makes_tree entries)) (sub : Sub (tree_of entries) tree)
-    (source : Located) (source_is : source_of tree job ≡ Some source) (built : is_unbuilt tree (Some source) ≡ true → ⊥) where
+    (source : Hit) (source_is : source_of tree job ≡ Some source) (built : IsBuilt tree job source) where
   abbrev mirrored : World
-  mirrored = world_of (tree_of entries)
+  mirrored = world_of (tree_of entries) job.setup
 
   abbrev all : World
-  all = world_of tree
+  all = world_of tree job.setup
 
-  source_found : Member source (found_files tree job)
-  source_found = subst (λ (o : Option Located). Member source (found_from tree o)) (sym source_is) (inl refl)
+  source_found : Member source.1 (found_files tree job)
+  source_found = subst (λ (o : Option Hit). Member source.1 (found_from tree job.setup o)) (sym source_is) (inl refl)
 
-  target_found : (name : Text) (target : Located) → Member name (names_asked (body_found tree source)) → locate tree (parent source.place) name ≡ Some target
-      → Member target (targets_of tree source)
+  target_found : (name : Text) (target : Hit) → Member name (names_asked (body_found tree source.1)) → search tree job.setup (quoted_by source.0 name) ≡ Some target
+      → Member target.1 (targets_of tree job.setup source)
   target_found name target asked e =
-      given_by_member (λ (n : Text). locate tree (parent source.place) n) (names_asked (body_found tree source)) name target asked e
+      given_by_member (target_of tree job.setup source.0) (names_asked (body_found tree source.1)) name target.1 asked (ap (λ (o : Option Hit). option_map (λ h. h.1) o) e)
 
-  among_found : (target : Located) → Member target (targets_of tree source) → Member target (found_files tree job)
-  among_found target m = subst (λ (o : Option Located). Member target (found_from tree o)) (sym source_is) (inr m)
+  among_found : (target : Located) → Member target (targets_of tree job.setup source) → Member target (found_files tree job)
+  among_found target m = subst (λ (o : Option Hit). Member target (found_from tree job.setup o)) (sym source_is) (inr m)
 
-  target_flat : (target : Located) → Member target (targets_of tree source) → is_flat (body_found tree target) ≡ true
-  target_flat target m =
-      let none = (none_fails (is_simple (body_found tree source)) (list_any (λ other. not (is_flat (body_found tree other))) (targets_of tree source)) built).1 in
-      passes (is_flat (body_found tree target))
-      (λ e. none (any_of_member (λ (other : Located). not (is_flat (body_found tree other))) (targets_of tree source) target m e))
-
-  at_source_dir : entry_at tree (parent source.place) ≡ Some Dir
-  at_source_dir =
-      let facts = holds tree [] (absolute job.cwd job.source) source whole whole.root source_is in
-      ap (λ (p : Path). entry_at tree (parent p)) facts.below ∙ facts.dir
-
-  same_target : (name : Text) (target : Located) → Member name (names_asked (body_found tree source)) → locate tree (parent source.place) name ≡ Some target → SameFile mirrored all target
+  same_target : (name : Text) (target : Hit) → Member name (names_asked (body_found tree source.1)) → search tree job.setup (quoted_by source.0 name) ≡ Some target → SameFile mirrored all target
   same_target name target asked e =
       let m = target_found name target asked e in
       record {
-        body = same_body lists nodes found_in_part none_in_part holds tree job entries whole are makes sub (parent source.place) name target at_source_dir (among_found target m) e;
-        flat = target_flat target m;
+        body = same_body lists nodes found_in_part none_in_part tree job entries whole are makes sub target.1 (among_found target.1 m) (target_walked holds locates tree whole job source source_is name target e);
+        flat = built.flat target.1 m;
       }
 
-  same_search : (name : Text) → Member name (names_asked (body_found tree source)) → (got : Option Located) → locate tree (parent source.place) name ≡ got
-      → locate (tree_of entries) (parent source.place) name ≡ got
-  same_search name asked None e = same_none lists nodes found_in_part none_in_part holds tree job entries whole are makes sub (parent source.place) name e
+  same_search : (name : Text) → Member name (names_asked (body_found tree source.1)) → (got : Option Hit) → search tree job.setup (quoted_by source.0 name) ≡ got
+      → search (tree_of entries) job.setup (quoted_by source.0 name) ≡ got
+  same_search name asked None e = same_none lists nodes found_in_part none_in_part tree job entries whole are makes sub (quoted_by source.0 name) e
   same_search name asked (Some target) e =
-      same_found lists nodes found_in_part none_in_part holds tree job entries whole are makes sub (parent source.place) name target (among_found target (target_found name target asked e)) e
+      same_found lists nodes found_in_part none_in_part tree job entries whole are makes sub (quoted_by source.0 name) target (among_found target.1 (target_found name target asked e)) e
 
-  agree : (name : Text) → Member name (names_asked (body_found tree source)) → Agrees mirrored all source.place name
-  agree name asked = record {
-    search = same_search name asked (locate tree (parent source.place) name) refl;
+  quoted_agree : (name : Text) → Member name (names_asked (body_found tree source.1)) → Agrees mirrored all source.0 (quoted name)
+  quoted_agree name asked = record {
+    search = same_search name asked (search tree job.setup (quoted_by source.0 name)) refl;
     file = λ target e. same_target name target asked e;
   }
 
-  same_source : locate (tree_of entries) [] (absolute job.cwd job.source) ≡ Some source
-  same_source = same_found lists nodes found_in_part none_in_part holds tree job entries whole are makes sub [] (absolute job.cwd job.source) source source_found source_is
+  -- all that a simple source asks for are names in quotes
+  agree : (asked : Asked) → Member asked (filter_map asked_in (pieces_of (body_found tree source.1))) → Agrees mirrored all source.0 asked
+  agree asked m =
+      let alone = quoted_alone (pieces_of (body_found tree source.1)) (simple_quotes (body_found tree source.1) built.simple) asked m in
+      subst (λ (a : Asked). Agrees mirrored all source.0 a) (sym alone.0) (quoted_agree asked.name alone.1)
 
-  same_source_body : mirrored.body source.real ≡ all.body source.real
-  same_source_body = same_body lists nodes found_in_part none_in_part holds tree job entries whole are makes sub [] (absolute job.cwd job.source) source whole.root source_found source_is
+  pub same_source : search (tree_of entries) job.setup (source_ask job.source) ≡ Some source
+  same_source = same_found lists nodes found_in_part none_in_part tree job entries whole are makes sub (source_ask job.source) source source_found source_is
+
+  same_source_body : mirrored.body source.1.real ≡ all.body source.1.real
+  same_source_body = same_body lists nodes found_in_part none_in_part tree job entries whole are makes sub source.1 source_found (source_walked holds locates tree whole job source source_is)
 
   source_opened : OutlineHolds → (depth : ℕ) (state : State) → open_file mirrored (enter_file mirrored depth) [] source state ≡ open_file all (enter_file all depth) [] source state
   source_opened outlines depth state =
-      opened_same outlines mirrored all (enter_file mirrored depth) (enter_file all depth) [] source state (all.body source.real) same_source_body refl
-      (λ name asked. alike_where_agree outlines mirrored all depth source.place name (agree name asked))
+      opened_same outlines mirrored all built.plain built.plain (enter_file mirrored depth) (enter_file all depth) [] source state (all.body source.1.real) same_source_body refl
+      (λ asked m. alike_where_agree outlines mirrored all built.plain built.plain depth source.0 asked (agree asked m))
 
-  pub same_run : OutlineHolds → (depth : ℕ)
-      → prepared (and_then (λ state. open_file mirrored (enter_file mirrored depth) [] source state) (limited (first_state source)))
-      ≡ prepared (and_then (λ state. open_file all (enter_file all depth) [] source state) (limited (first_state source)))
+  pub same_run : OutlineHolds → (depth : ℕ) → run_source mirrored source depth ≡ run_source all source depth
   same_run outlines depth =
       ap prepared (and_same (limited (first_state source)) (λ state. open_file mirrored (enter_file mirrored depth) [] source state)
       (λ state. open_file all (enter_file all depth) [] source state) (λ after goes. source_opened outlines depth after))
 
 -- both sides of a job whose source is found
-from_source : (lists : ListsMakeTrees) (nodes : EntriesAreNodes) (found_in_part : IsLocatedInPart) (none_in_part : IsLocatedInNoPart) (holds : HoldsOfLocated) → OutlineHolds
+from_source : (lists : ListsMakeTrees) (nodes : EntriesAreNodes) (found_in_part : IsFoundInPart) (none_in_part : IsFoundInNoPart) (holds : HoldsOfLocated) (locates : SearchesLocate) → OutlineHolds
     → (tree : FileTree) (job : Job) (entries : Entries) → IsTree tree → AreEntriesOf tree job entries → IsTrue (makes_tree entries) → Sub (tree_of entries) tree
     → (Holds NoSource tree job 0 → ⊥) → (Holds Unbuilt tree job 0 → ⊥)
-    → (got : Option Located) → source_of tree job ≡ got → prep (world_of (tree_of entries)) job ≡ prep (world_of tree) job
+    → (got : Option Hit) → source_of tree job ≡ got → prep (world_of (tree_of entries) job.setup) job ≡ prep (world_of tree job.setup) job
 unfolding prep
-from_source lists nodes found_in_part none_in_part holds outlines tree job entries whole are makes sub there built None e = absurd (there e)
-from_source lists nodes found_in_part none_in_part holds outlines tree job entries whole are makes sub there built (Some source) e =
-    let built_there : is_unbuilt tree (Some source) ≡ true → ⊥ = λ unbuilt. built (ap (is_unbuilt tree) e ∙ unbuilt) in
-    ap (run_job (world_of (tree_of entries)) (absolute job.cwd job.source)) (same_source lists nodes found_in_part none_in_part holds tree job entries whole are makes sub source e built_there)
-    ∙ same_run lists nodes found_in_part none_in_part holds tree job entries whole are makes sub source e built_there outlines depth_limit
-    ∙ ap (run_job (world_of tree) (absolute job.cwd job.source)) (sym e)
+from_source lists nodes found_in_part none_in_part holds locates outlines tree job entries whole are makes sub there built None e = absurd (there e)
+from_source lists nodes found_in_part none_in_part holds locates outlines tree job entries whole are makes sub there built (Some source) e =
+    let is : IsBuilt tree job source = is_built tree job source (λ unbuilt. built (ap (is_unbuilt tree job) e ∙ unbuilt)) in
+    ap (run_job (world_of (tree_of entries) job.setup) job) (same_source lists nodes found_in_part none_in_part holds locates tree job entries whole are makes sub source e is)
+    ∙ unforced_run (world_of (tree_of entries) job.setup) job source is.unforced
+    ∙ same_run lists nodes found_in_part none_in_part holds locates tree job entries whole are makes sub source e is outlines depth_limit
+    ∙ sym (unforced_run (world_of tree job.setup) job source is.unforced)
+    ∙ ap (run_job (world_of tree job.setup) job) (sym e)
 
-pub is_enough : ListsMakeTrees → EntriesAreNodes → NodesAreEntries → TestsDecide → ParentsMakeTrees → IsLocatedInPart → IsLocatedInNoPart → HoldsOfLocated → OutlineHolds → MirrorIsEnough
-is_enough lists nodes nodes_back tests made found_in_part none_in_part holds outlines tree job entries whole are there built =
-    from_source lists nodes found_in_part none_in_part holds outlines tree job entries whole are (makes_tree_of tests tree job entries whole are made) (part_of_whole tests tree job entries whole are nodes_back)
+pub is_enough : ListsMakeTrees → EntriesAreNodes → NodesAreEntries → TestsDecide → ParentsMakeTrees → IsFoundInPart → IsFoundInNoPart → HoldsOfLocated → SearchesLocate → OutlineHolds → MirrorIsEnough
+is_enough lists nodes nodes_back tests made found_in_part none_in_part holds locates outlines tree job entries whole are there built =
+    from_source lists nodes found_in_part none_in_part holds locates outlines tree job entries whole are (makes_tree_of tests tree job entries whole are made) (part_of_whole tests tree job entries whole are nodes_back)
     there built (source_of tree job) refl

@@ -20,10 +20,10 @@ EntriesMakeTree = (tree : FileTree) (job : Job) (entries : Entries) → IsTree t
 abbrev pub MirrorIsEnough : Type 0
 MirrorIsEnough = (tree : FileTree) (job : Job) (entries : Entries) → IsTree tree → AreEntriesOf tree job entries
     → (Holds NoSource tree job 0 → ⊥) → (Holds Unbuilt tree job 0 → ⊥)
-    → prep (world_of (tree_of entries)) job ≡ prep (world_of tree) job
+    → prep (world_of (tree_of entries) job.setup) job ≡ prep (world_of tree job.setup) job
 
 -- each node but the root that is walked by a search that succeeds in preprocessing is a node of the job
 abbrev pub TouchesNodesAlone : Type 0
 TouchesNodesAlone = (tree : FileTree) (job : Job) → (Holds Unbuilt tree job 0 → ⊥)
-    → (located : Located) → Member located (prep (world_of tree) job).touched
+    → (located : Located) → Member located (prep (world_of tree job.setup) job).touched
     → (path : Path) → Member path located.walked → (path ≡ [] → ⊥) → IsNodeOf tree job path

@@ -5,8 +5,9 @@
 ghost use Rattle.mirror_soundness.specs.Mirror.{EntriesMakeTree, MirrorIsEnough, TouchesNodesAlone};
 
 use directive_scan::outline_holds;
+use search_path::{search_frame, searches_locate};
 use tree_model::{
-    entries_of_trees, frame_law, lists_make_trees, parents_make_trees, tests_decide, walked_law,
+    entries_of_trees, lists_make_trees, parents_make_trees, tests_decide, walked_law,
 };
 
 /// A law, which takes no work.
@@ -19,7 +20,8 @@ pub fn mirror_is_enough()
     entries_of_trees();
     tests_decide();
     parents_make_trees();
-    frame_law();
     walked_law();
+    searches_locate();
+    search_frame();
     outline_holds();
 }

@@ -14,4 +14,4 @@ returns-clause-touched c = touches_nodes c.outline_holds.ensures
 pub returns-clause-enough : goal.returns-clause-enough
 returns-clause-enough c =
     is_enough c.lists_make_trees.ensures c.entries_of_trees.ensures.entries c.entries_of_trees.ensures.nodes c.tests_decide.ensures c.parents_make_trees.ensures
-    c.frame_law.ensures.found c.frame_law.ensures.not_found c.walked_law.ensures c.outline_holds.ensures
+    c.search_frame.ensures.found c.search_frame.ensures.not_found c.walked_law.ensures c.searches_locate.ensures c.outline_holds.ensures

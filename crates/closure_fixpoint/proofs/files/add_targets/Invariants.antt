@@ -8,6 +8,6 @@ invariant-loop-piece g l =
     record {
       same : g.T.Tree.told l.tree ≡ g.T.Tree.told l.fn.tree;
       later : g.T.Tree.faults l.fn.tree ≤ g.T.Tree.faults l.tree;
-      flat : (told : FileTree) → g.T.Tree.told l.fn.tree ≡ Some told → are_flat told (targets_from told l.dir (drop l.piece-index l.pieces)) ≡ are_flat told (targets_from told l.dir l.pieces);
-      files : (told : FileTree) → g.T.Tree.told l.fn.tree ≡ Some told → l.files ++ targets_from told l.dir (drop l.piece-index l.pieces) ≡ l.fn.files ++ targets_from told l.dir l.pieces;
+      flat : (told : FileTree) → g.T.Tree.told l.fn.tree ≡ Some told → are_flat told (targets_from told l.setup l.visit (drop l.piece-index l.pieces)) ≡ are_flat told (targets_from told l.setup l.visit l.pieces);
+      files : (told : FileTree) → g.T.Tree.told l.fn.tree ≡ Some told → l.files ++ targets_from told l.setup l.visit (drop l.piece-index l.pieces) ≡ l.fn.files ++ targets_from told l.setup l.visit l.pieces;
     }

@@ -3,7 +3,7 @@ use Rattle.std.proofs.lemmas.Result.{IfOk-weaker}
 use Rattle.tree_model.specs.Trees as trees
 use Rattle.tree_model.specs.Trees.{FileTree, node_at}
 use Rattle.tree_model.specs.declared.entry.Node.TheVariants as node
-use Rattle.closure_fixpoint.proofs.Jobs.{told-clause}
+use Rattle.closure_fixpoint.proofs.ToldTrees.{told-clause}
 use Rattle.closure_fixpoint.proofs.gather.entry_at.Goals as goal
 
 pub returns-in-Some-File-clause-entry : goal.returns-in-Some-File-clause-entry

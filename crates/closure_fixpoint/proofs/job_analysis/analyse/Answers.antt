@@ -19,7 +19,7 @@ pub returns-in-Ok-gather-clause-answer : goal.returns-in-Ok-gather-clause-answer
 returns-in-Ok-gather-clause-answer g c =
     for-told (g.T.Tree.told c.args.tree.now) (λ told. AnalysisHolds told c.args.job.now c.args.budget c.in_ok-request_of-in-Ok-gather.field-0)
     (λ told is.
-    analysis-holds c.walked_law.ensures told (g.met.T.Tree.whole c.args.tree.now told is) c.args.job.now c.args.budget c.in-Ok.files (sym c.in-Ok.is ∙ c.in_ok-files.ensures.found told is)
+    analysis-holds c.walked_law.ensures c.searches_locate.ensures told (g.met.T.Tree.whole c.args.tree.now told is) c.args.job.now c.args.budget c.in-Ok.files (sym c.in-Ok.is ∙ c.in_ok-files.ensures.found told is)
     c.in_ok-nodes_of.field-0.items c.in_ok-nodes.nodes.items (c.in_ok-nodes_of.ensures.nodes ∙ ap (λ (files : List Located). nodes_of files) c.as_slice.ensures)
     c.in_ok-nodes.ensures.rising c.in_ok-nodes.ensures.same
     c.in-Ok-gather.entries.items
@@ -33,7 +33,7 @@ returns-in-Err-Large-clause-answer g c =
     for-told (g.T.Tree.told c.args.tree.now) (λ told. AnalysisHolds told c.args.job.now c.args.budget (analysed.Refused refusal.Large))
     (λ told is.
     let large = c.in-Err-Large.ensures.large told (c.in_ok-files.ensures.same ∙ is) (ap (λ e. Err e) c.in-Err-Large.field-0-is) in
-    large-holds c.walked_law.ensures told (g.met.T.Tree.whole c.args.tree.now told is) c.args.job.now c.args.budget c.in-Ok.files (sym c.in-Ok.is ∙ c.in_ok-files.ensures.found told is)
+    large-holds c.walked_law.ensures c.searches_locate.ensures told (g.met.T.Tree.whole c.args.tree.now told is) c.args.job.now c.args.budget c.in-Ok.files (sym c.in-Ok.is ∙ c.in_ok-files.ensures.found told is)
     c.in_ok-nodes_of.field-0.items c.in_ok-nodes.nodes.items (c.in_ok-nodes_of.ensures.nodes ∙ ap (λ (files : List Located). nodes_of files) c.as_slice.ensures)
     c.in_ok-nodes.ensures.rising c.in_ok-nodes.ensures.same
     large.0 (subst (λ (paths : List Path). Member large.0 paths) c.deref.ensures.value large.1) large.2)
