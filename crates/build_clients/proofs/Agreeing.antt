@@ -3,20 +3,20 @@ use Rattle.std.proofs.Common.{◌≡◌, ◌⊎◌, ℕ, ◌≤◌, List, [], �
 use Rattle.std.specs.List.{AllByRecursion}
 use Rattle.std.proofs.lemmas.Bool.{cases_lt}
 use Rattle.base_types.specs.Members.{Member}
-use Rattle.tree_model.specs.Paths.{Text, Path}
+use Rattle.tree_model.specs.Paths.{Path}
 use Rattle.tree_model.specs.Entries.{Entries, makes_tree}
 use Rattle.tree_model.specs.Trees.{FileTree, IsTree, tree_of, body_of, body_limit}
 use Rattle.tree_model.specs.declared.entry.Entry.{Entry}
 use Rattle.tree_model.specs.declared.entry.Entry.TheVariants.{Dir, File, Link}
 use Rattle.job_words.specs.declared.job.Job.{Job}
-use Rattle.job_words.specs.Words.{IsJob, IsShort, JobsAreShort}
+use Rattle.job_words.specs.Words.{IsJob, JobsAreShort}
 use Rattle.io_edges.specs.declared.wire.Exchange.{Exchange}
 use Rattle.io_edges.specs.Talk.{IsAnswered}
 use Rattle.job_frames.specs.declared.answer.Answer.{Answer}
 use Rattle.job_frames.specs.declared.answer.Answer.TheVariants as answer
 use Rattle.job_frames.specs.Daemon.{Daemon, IsReply}
 use Rattle.job_frames.specs.Outcomes.{Verdict, done, whatever_follows}
-use Rattle.job_frames.specs.Request.{Got, FitsRequest, IsSmall, AreWords, request_at, request_bytes, most}
+use Rattle.job_frames.specs.Request.{Got, FitsRequest, IsSmall, request_at, request_bytes, most}
 use Rattle.job_frames.specs.Reply.{IsAnswer, reply_bytes}
 use Rattle.job_frames.specs.Laws.{RequestsAreWhole, TreesMakeRequests, RepliesAreApart}
 use Rattle.daemon_cpp.specs.declared.outcome.Outcome.{Outcome}
@@ -32,19 +32,6 @@ use Rattle.build_clients.specs.declared.record.JobOutcome.{JobOutcome}
 use Rattle.build_clients.specs.declared.record.JobOutcome.TheVariants as end
 use Rattle.build_clients.specs.Record.{Deeds, known, IsNoAnswer, WayHolds, OutcomeHolds, Gives}
 use Rattle.build_clients.specs.Agree.{AreServed, EntriesAreEnough, AgreesWith, AreStill, IsNoFault, IsCalm, RecordsAgree, RecordsAreCalm}
-
--- ---- a job's words and working directory fit into a request ----
-
-record Fitting (dir : Text) (list : List Text) : Type 0 where
-  place : (1 ≤ length dir) × (length dir ≤ 4096)
-  few : length list ≤ 1000
-  words : AreWords list
-
-fitting : (cwd : Text) (words : List Text) → IsShort cwd words → Fitting cwd words
-fitting cwd [] short = absurd short
-fitting cwd (source ∷ []) (low, high, some, few) =
-    record { place = (low, high); few = omega arith; words = ((some, omega (arith, few)), tt) }
-fitting cwd (source ∷ second ∷ words) short = absurd short
 
 -- ---- a job's entries fit into a request ----
 
@@ -69,12 +56,12 @@ module _ (tree : FileTree) (budget : ℕ) (job : Job) (entries : Entries) (are :
 
   fits-request : JobsAreShort → IsJob job → IsTrue (makes_tree entries) → FitsRequest job entries
   fits-request jobs is made =
-      let fits = fitting job.cwd job.words (jobs job.cwd job.words job is) in
+      let fits = jobs job.setup.cwd job.words job is in
       record {
         is_job = is;
         place = fits.place;
         few_words = fits.few;
-        words = fits.words;
+        words = fits.each;
         tree = made;
         few = few;
         bodies = each-small entries entry-small;

@@ -1,7 +1,6 @@
 // One job of a client, from its analysis to its record.
 ghost use Rattle.std.specs.Prelude.{◌≡◌};
 ghost use Rattle.io_edges.specs.Talk.{EachAnswered};
-ghost use Rattle.job_words.specs.Words.{IsJob};
 ghost use Rattle.build_clients.specs.Outside.{seen_end};
 ghost use Rattle.build_clients.specs.Record.{DidJob, known};
 
@@ -23,7 +22,6 @@ pub fn do_job<T: Tree, W: Wire, O: Outs>(
     job: &Job,
     host: &Host,
 ) -> Done
-    requires job { IsJob job.now }
     requires closed { W.state end.old.wire ≡ LinkState.Closed }
     requires answered { EachAnswered W.peer (W.talk end.old.wire) }
     ensures number { result.job ≡ number }

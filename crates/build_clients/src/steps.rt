@@ -1,6 +1,5 @@
 // The steps of a job at its client's end, but for the exchange: the analysis, and the end of the job.
 ghost use Rattle.std.specs.Prelude.{◌≡◌};
-ghost use Rattle.job_words.specs.Words.{IsJob};
 ghost use Rattle.build_clients.specs.Outside.{seen_end};
 ghost use Rattle.build_clients.specs.Record.{known};
 ghost use Rattle.build_clients.specs.Steps.{Prepares, PutsText, DoesLocally, Concludes};
@@ -33,7 +32,6 @@ pub fn prepare<T: Tree, W: Wire, O: Outs>(
     budget: u32,
     job: &Job,
 ) -> Prepared
-    requires { IsJob job.now }
     ensures prepared { let seen = seen_end T.told T.Tree.faults T.reads W.talk W.state W.Wire.faults O.kept O.Outs.faults in
         Prepares (known T.Of.named budget) job.now result (seen end.old) (seen end.new) }
     ensures wire { end.new.wire ≡ end.old.wire }
@@ -58,7 +56,7 @@ pub fn put_text<T: Tree, W: Wire, O: Outs>(
     ensures wire { end.new.wire ≡ end.old.wire }
     ensures tree { end.new.tree ≡ end.old.tree }
 {
-    match end.outs.put(job.output.as_slice(), text.as_slice()) {
+    match end.outs.put(job.output(), text.as_slice()) {
         Ok(()) => return JobOutcome::Text(text.len() as u64),
         Err(OutFault::Fault) => return JobOutcome::OutFault,
         Err(OutFault::Memory) => return JobOutcome::Memory,

@@ -1,8 +1,9 @@
 -- Lemmas.
 --     SixWords    the words of the top call
 --     Consumed    bytes that were consumed one piece after another
---     LongLists   lists of more bytes than any job of the grammar has
+--     LongLists   lists of more bytes than are read
 --     Lines       the lines of refusals
+--     RefusalLines  the lines that say why a list is refused
 --     Still       ends that nothing was done at
 --     Refused     runs that are refused before their job
 --     OneEnd      a run at the first end
@@ -12,6 +13,7 @@ pub mod SixWords
 pub mod Consumed
 pub mod LongLists
 pub mod Lines
+pub mod RefusalLines
 pub mod Still
 pub mod Refused
 pub mod OneEnd

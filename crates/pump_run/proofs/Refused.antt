@@ -1,26 +1,21 @@
 -- A run that is refused before its jobs, and puts one line on the report.
-use Rattle.std.proofs.Common.{◌≡◌, ℕ, List, [], ◌∷◌, Option, None, Some, Ok, Err, refl, sym, ◌∙◌, subst, inl, ◌⊎◌, arith}
+use Rattle.std.proofs.Common.{◌≡◌, ℕ, List, Option, None, Some, Ok, Err, refl, sym, ◌∙◌, subst, inl, ◌⊎◌, arith}
 use Rattle.std.specs.List.{AllByRecursion}
 use Rattle.std.specs.Option.{ForSome}
-use Rattle.std.specs.Fmt.{digits}
 use Rattle.base_types.specs.Causes.{Rose}
 use Rattle.job_words.specs.declared.job.Job.{Job}
-use Rattle.pump_run.specs.Asked.{Settings, settings_of, NotBuilt, not_built, jobs_of}
+use Rattle.pump_run.specs.Asked.{Settings, settings_of, line_of_why, refused_for, jobs_of}
+use Rattle.pump_run.specs.declared.list.ListWhy.{ListWhy}
 use Rattle.pump_run.specs.Report.{Ending, Usage, ListRefused, ListFault, NoMemory, report_text}
 use Rattle.pump_run.specs.Run.{IsRun, Outside, Given, IsFresh, IsPut, Reports, HasEnding, EachEnd, ran, StatusIs, NoFaults, IsComplete, AsksSomething}
-use Rattle.pump_run.specs.Steps.{LineIsPut}
+use Rattle.pump_run.specs.Steps.{LineIsPut, refusal_text_of}
 use Rattle.pump_run.proofs.Still.{still-ends, fresh-answered}
 
 no_settings : (words : List (List ℕ)) (settings : Settings) → settings_of words ≡ None → settings_of words ≡ Some settings → ⊥
 no_settings words settings none some = let both : None ≡ Some settings = sym none ∙ some in cc
 
-no_jobs : (bytes : List ℕ) (jobs : List Job) → jobs_of bytes ≡ Err not_built → jobs_of bytes ≡ Ok jobs → ⊥
-no_jobs bytes jobs none some = let both = sym none ∙ some in cc
-
--- the line of a list that isn't built, as its bytes
-not_built-line : report_text (ListRefused 0 NotBuilt) ≡ 112 ∷ 117 ∷ 109 ∷ 112 ∷ 58 ∷ 32 ∷ 108 ∷ 105 ∷ 115 ∷ 116 ∷ 32 ∷ 48 ∷ 58 ∷ 32 ∷ 110 ∷ 111 ∷ 116 ∷ 32 ∷ 98 ∷ 117 ∷ 105 ∷ 108 ∷ 116 ∷ 10 ∷ []
-unfolding digits
-not_built-line = refl
+no_jobs : (bytes : List ℕ) (jobs : List Job) (why : ListWhy) → jobs_of bytes ≡ Err (refused_for why) → jobs_of bytes ≡ Ok jobs → ⊥
+no_jobs bytes jobs why none some = let both = sym none ∙ some in cc
 
 module _ (given : Given) (before : Outside) (fresh : AllByRecursion IsFresh before.ends) (left report : Option (List ℕ)) (list count status : ℕ) (text : List ℕ) where
   -- the outside after the list was read in part and the line was put
@@ -54,10 +49,11 @@ module _ (given : Given) (before : Outside) (fresh : AllByRecursion IsFresh befo
   fault-run asked rose is line = refused ListFault (asked, rose) (still-ends 0 before.ends) (subst Put is line.line_is) line.status_is
       (λ settings asks bytes left_is jobs lists calm. calm.list rose)
 
-  pub not-built-run : AsksSomething given → ForSome before.left (λ bytes. jobs_of bytes ≡ Err not_built) → text ≡ 112 ∷ 117 ∷ 109 ∷ 112 ∷ 58 ∷ 32 ∷ 108 ∷ 105 ∷ 115 ∷ 116 ∷ 32 ∷ 48 ∷ 58 ∷ 32 ∷ 110 ∷ 111 ∷ 116 ∷ 32 ∷ 98 ∷ 117 ∷ 105 ∷ 108 ∷ 116 ∷ 10 ∷ []
-      → LineIsPut text 3 before.report report before.counts.report count status → IsRun given before after status
-  not-built-run asked none is line = refused (ListRefused 0 NotBuilt) (asked, none) (still-ends 0 before.ends) (subst Put (is ∙ sym not_built-line) line.line_is) line.status_is
-      (λ settings asks bytes left_is jobs lists calm. no_jobs bytes jobs (none bytes left_is) lists)
+  pub list-refused-run : (why : ListWhy) → AsksSomething given → ForSome before.left (λ bytes. jobs_of bytes ≡ Err (refused_for why))
+      → text ≡ refusal_text_of why → LineIsPut text 3 before.report report before.counts.report count status → IsRun given before after status
+  unfolding refusal_text_of
+  list-refused-run why asked none is line = refused (ListRefused (line_of_why why) why) (asked, none) (still-ends 0 before.ends) (subst Put is line.line_is) line.status_is
+      (λ settings asks bytes left_is jobs lists calm. no_jobs bytes jobs why (none bytes left_is) lists)
 
   pub starved-run : text ≡ report_text NoMemory → LineIsPut text 5 before.report report before.counts.report count status → IsRun given before after status
   starved-run is line = let five : status ≡ 5 = omega (arith, line.status_is) in

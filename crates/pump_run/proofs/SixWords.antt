@@ -1,5 +1,5 @@
 -- The settings of six words, and of any other number of words.
-use Rattle.std.proofs.Common.{◌≡◌, ℕ, ◌∷◌, [], List, length, map, get_or, Bool, true, false, if◌then◌else◌, Option, Some, None, refl, ap, arith}
+use Rattle.std.proofs.Common.{◌≡◌, ℕ, ◌∷◌, [], List, length, map, get_or, Bool, true, false, if◌then◌else◌, Some, None, refl, arith}
 use Rattle.pump_run.specs.Asked.{Settings, settings_of, settings_with, is_grammar}
 
 chosen : (test : Bool) (settings : Settings) → test ≡ true → (if test then Some settings else None) ≡ Some settings

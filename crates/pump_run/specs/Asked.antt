@@ -1,11 +1,13 @@
 -- What the words of the top call and the compile list ask for.
-use Rattle.std.specs.Prelude.{◌≡◌, ℕ, ◌-◌, ◌≤◌, List, [], ◌∷◌, ◌++◌, length, Bool, true, false, ◌&&◌, ◌||◌, not, if◌then◌else◌, nat_le, nat_eq, ◌+◌, ◌==◌, bytes_eq, codes, Option, None, Some, Result, Ok, Err}
-use Rattle.std.specs.List.{list_any, list_all, position_or_len, before_first, after_first}
-use Rattle.std.specs.Option.{option_map}
+use Rattle.std.specs.Prelude.{ℕ, List, [], ◌∷◌, length, Bool, false, ◌&&◌, ◌||◌, if◌then◌else◌, nat_le, nat_lt, nat_eq, ◌+◌, ◌==◌, bytes_eq, codes, Option, None, Some, Result, Ok, Err}
+use Rattle.std.specs.List.{list_any, list_all, filter, slice_split, position_or_len, before_first}
 use Rattle.tree_model.specs.Paths.{Text}
 use Rattle.io_edges.specs.declared.wire.Host.{Host}
 use Rattle.job_words.specs.declared.job.Job.{Job}
-use Rattle.job_words.specs.Words.{job_of}
+use Rattle.job_words.specs.Words.{reading}
+use Rattle.job_words.specs.declared.reading.WordError.{WordError}
+use Rattle.pump_run.specs.declared.list.ListWhy.{ListWhy}
+use Rattle.pump_run.specs.declared.list.ListWhy.TheVariants.{NotBuilt, Words}
 
 -- ---- words ----
 
@@ -50,38 +52,53 @@ settings_of (a ∷ b ∷ c ∷ d ∷ e ∷ f ∷ g ∷ words) = None
 
 -- ---- the list ----
 
--- why a list is refused
-pub data ListWhy : Type 0 where
-  NotBuilt : ListWhy
-
 -- the line at which a list is refused, 0 for the list as a whole, and why
 pub record ListRefusal : Type 0 where
   pub line : ℕ
   pub why : ListWhy
 
-abbrev pub not_built : ListRefusal
-not_built = record { line = 0; why = NotBuilt }
+abbrev pub line_of_why : ListWhy → ℕ
+line_of_why NotBuilt = 0
+line_of_why (Words why) = 1
 
--- a byte that no word of a list may have: a blank, a `\`, or an end of a line
-abbrev pub ends_word : ℕ → Bool
-ends_word b = (b == 32) || ((b == 9) || ((b == 92) || ((b == 10) || (b == 13))))
+abbrev pub refused_for : ListWhy → ListRefusal
+refused_for why = record { line = line_of_why why; why = why }
 
--- the job of a line of two words, a working directory and a source
-abbrev pub job_of_words : Text → Text → Option Job
-job_of_words cwd source = if list_any ends_word cwd then None else job_of cwd (source ∷ [])
+-- a space or a tab, which stands between words
+abbrev pub is_blank : ℕ → Bool
+is_blank b = (b == 32) || (b == 9)
+
+-- a byte that no line of a list may have so far: a `\`, or one that ends a line
+abbrev pub is_strange : ℕ → Bool
+is_strange b = (b == 92) || ((b == 10) || (b == 13))
+
+-- the words of a line: its parts between blanks that aren't empty
+abbrev pub line_words : Text → List Text
+line_words line = filter (λ part. nat_lt 0 (length part)) (slice_split is_blank line)
 
 -- all but a line feed at the end, where it is the only one
 abbrev pub line_of : Text → Option Text
 line_of bytes = if nat_eq (position_or_len (λ b. b == 10) bytes + 1) (length bytes) then Some (before_first (λ b. b == 10) bytes) else None
 
-abbrev pub job_of_line : Option Text → Option Job
-job_of_line None = None
-job_of_line (Some line) = job_of_words (before_first (λ b. b == 32) line) (after_first (λ b. b == 32) line)
+abbrev pub begins_comment : Text → Bool
+begins_comment [] = false
+begins_comment (b ∷ line) = b == 35
 
-abbrev pub listed : Option Job → Result (List Job) ListRefusal
-listed None = Err not_built
-listed (Some job) = Ok (job ∷ [])
+abbrev pub listed : Result Job WordError → Result (List Job) ListRefusal
+listed (Ok job) = Ok (job ∷ [])
+listed (Err why) = Err (refused_for (Words why))
 
--- The jobs of a list: one line `CWD SOURCE` and a line feed; anything else isn't built.
+-- the job of a line's words: a working directory and compile words
+abbrev pub job_of_words : List Text → Result (List Job) ListRefusal
+job_of_words [] = Err (refused_for NotBuilt)
+job_of_words (cwd ∷ []) = Err (refused_for NotBuilt)
+job_of_words (cwd ∷ word ∷ words) = listed (reading cwd (word ∷ words))
+
+abbrev pub job_of_line : Option Text → Result (List Job) ListRefusal
+job_of_line None = Err (refused_for NotBuilt)
+job_of_line (Some line) = if begins_comment line || list_any is_strange line then Err (refused_for NotBuilt) else job_of_words (line_words line)
+
+-- The jobs of a list of at most 16,777,216 bytes: one line of a working directory and compile words, with a line feed;
+-- anything else isn't built.
 unfoldable pub jobs_of : Text → Result (List Job) ListRefusal
-jobs_of bytes = listed (job_of_line (line_of bytes))
+jobs_of bytes = if nat_le (length bytes) 16777216 then job_of_line (line_of bytes) else Err (refused_for NotBuilt)

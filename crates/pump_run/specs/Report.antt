@@ -1,5 +1,5 @@
 -- The text of a report, and how a run of pump may end.
-use Rattle.std.specs.Prelude.{◌≡◌, ℕ, ◌-◌, ◌+◌, List, [], ◌∷◌, ◌++◌, length, map, codes, Bool, true, false, not}
+use Rattle.std.specs.Prelude.{ℕ, List, [], ◌∷◌, ◌++◌, length, map, codes, Bool, true, false}
 use Rattle.std.specs.List.{flat_map, count_by}
 use Rattle.std.specs.Fmt.{decimal}
 use Rattle.build_clients.specs.declared.record.Done.{Done}
@@ -7,12 +7,14 @@ use Rattle.closure_fixpoint.specs.declared.job_analysis.Refusal.{Refusal}
 use Rattle.closure_fixpoint.specs.declared.job_analysis.Refusal.TheVariants as refusal
 use Rattle.build_clients.specs.declared.record.Way.{Way}
 use Rattle.build_clients.specs.declared.record.Way.TheVariants.{Remote, Local, Broken}
-use Rattle.build_clients.specs.declared.record.Cause.{Cause}
 use Rattle.build_clients.specs.declared.record.Cause.TheVariants as cause
 use Rattle.build_clients.specs.declared.record.JobOutcome.{JobOutcome}
 use Rattle.build_clients.specs.declared.record.JobOutcome.TheVariants as end
 use Rattle.build_clients.specs.Record.{Deeds}
-use Rattle.pump_run.specs.Asked.{ListWhy, NotBuilt}
+use Rattle.job_words.specs.declared.reading.WordError.{WordError}
+use Rattle.job_words.specs.declared.reading.WordError.TheVariants as word
+use Rattle.pump_run.specs.declared.list.ListWhy.{ListWhy}
+use Rattle.pump_run.specs.declared.list.ListWhy.TheVariants.{NotBuilt, Words}
 
 -- a job of the run: what is recorded of it, and what it did at its client's end
 pub record Work : Type 0 where
@@ -93,8 +95,20 @@ totals_text records =
 unfoldable pub jobs_text : List Done → List ℕ
 jobs_text records = flat_map job_text records ++ totals_text records
 
+-- the number of the reason why words give no job
+abbrev pub word_number : WordError → List ℕ
+word_number word.NoSource = codes "1"
+word_number word.TwoSources = codes "2"
+word_number word.Unknown = codes "3"
+word_number word.NoOperand = codes "4"
+word_number word.BadMacro = codes "5"
+word_number word.Limit = codes "6"
+word_number word.Cwd = codes "7"
+word_number word.Memory = codes "8"
+
 abbrev pub why_text : ListWhy → List ℕ
 why_text NotBuilt = codes "not built"
+why_text (Words why) = codes "words " ++ word_number why
 
 -- the whole text of the report
 abbrev pub report_text : Ending → List ℕ

@@ -1,7 +1,6 @@
 // The job of a run, done by the first client.
 ghost use Rattle.std.specs.Prelude.{◌≤◌, length, map};
 ghost use Rattle.std.specs.List.{AllByRecursion};
-ghost use Rattle.job_words.specs.Words.{IsJob};
 ghost use Rattle.build_clients.specs.Outside.{seen_end};
 ghost use Rattle.pump_run.specs.Run.{IsFresh};
 ghost use Rattle.pump_run.specs.Steps.{FirstDid};
@@ -24,7 +23,6 @@ pub fn run_first<T: Tree, W: Wire, O: Outs>(
 ) -> Done
     requires some { 1 ≤ length ends.old.items }
     requires fresh { AllByRecursion IsFresh (map (seen_end T.told T.Tree.faults T.reads W.talk W.state W.Wire.faults O.kept O.Outs.faults) ends.old.items) }
-    requires job { IsJob job.now }
     ensures did { let seen = seen_end T.told T.Tree.faults T.reads W.talk W.state W.Wire.faults O.kept O.Outs.faults in
         FirstDid T.Of.named W.peer job.now host.now result (map seen ends.old.items) (map seen ends.new.items) }
 {

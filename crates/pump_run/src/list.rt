@@ -1,19 +1,20 @@
 // The list, read to its end or past its limit, and the job that it gives.
-ghost use Rattle.std.specs.Prelude.{◌≡◌, ◌<◌, ◌≤◌, ◌==◌, ◌⊎◌, ℕ, List, ◌++◌, length, take, drop, IfOk, IfSome, true, false, Err, IsTrue};
-ghost use Rattle.std.specs.List.{position_or_len, before_first, after_first, list_any};
+ghost use Rattle.std.specs.Prelude.{◌≡◌, ◌<◌, ◌≤◌, ◌==◌, ◌⊎◌, ℕ, List, [], ◌∷◌, ◌++◌, length, map, nat_lt, IfOk, OnOk, true, false, Err, Some};
+ghost use Rattle.std.specs.List.{filter, position_or_len, list_any, slice_split};
 ghost use Rattle.std.specs.Option.{option_map};
 ghost use Rattle.std.specs.Io.KnownBytes.{Consumes, IsAtEnd};
 ghost use Rattle.base_types.specs.Causes.{HasCause};
-ghost use Rattle.job_words.specs.Words.{IsJob};
-ghost use Rattle.pump_run.specs.Asked.{jobs_of, listed, not_built, line_of, job_of_words, job_of_line, ends_word};
+ghost use Rattle.pump_run.specs.declared.list.ListWhy.TheVariants.{NotBuilt};
+ghost use Rattle.pump_run.specs.Asked.{jobs_of, refused_for, line_of, line_words, job_of_words, job_of_line, begins_comment, is_blank, is_strange};
+ghost use Rattle.pump_run.specs.Steps.{given};
 
-use base_types::Bytes;
+use base_types::{Bytes, List};
 use io_edges::{ReadFault, Source};
-use job_words::{Job, jobs_are_short, jobs_keep_words, read_words};
+use job_words::{Job, WordError, read_words};
 use std::alloc::{AllocError, Global};
 
 // The longest list, in bytes.
-const LIST_LIMIT: usize = 16_777_216;
+pub const LIST_LIMIT: usize = 16_777_216;
 
 // How many bytes are taken at a time.
 const ROOM: usize = 16_384;
@@ -59,14 +60,22 @@ pub fn read_all<S: Source>(alloc: Global, source: &mut S) -> Result<ListBytes, L
     })
 }
 
-/// The job of a list, or None where the list isn't in its grammar.
+/// Why a list is refused. `NotBuilt`: it isn't one line of a working directory and compile words, which alone is built so
+/// far. `Words`: the words of its line give no job.
+#[derive(Clone, Copy, Debug, PartialEq, Eq, Drop)]
+pub enum ListWhy {
+    NotBuilt,
+    Words(WordError),
+}
+
+/// The job of a list, or why there is none.
 #[tactic(auto, unfolding(crate::specs::Asked::jobs_of))]
-pub fn job_in(alloc: Global, bytes: &[u8]) -> Result<Option<Job>, AllocError>
-    ensures listed { IfOk result (λ job. jobs_of bytes.now ≡ listed job) }
-    ensures job { IfOk result (λ job. IfSome job IsJob) }
+pub fn job_in(alloc: Global, bytes: &[u8]) -> Result<Result<Job, ListWhy>, AllocError>
+    requires { length bytes.now ≤ 16777216 }
+    ensures { IfOk result (λ job. jobs_of bytes.now ≡ given job) }
 {
     match line_in(bytes) {
-        None => Ok(None),
+        None => Ok(Err(ListWhy::NotBuilt)),
         Some(line) => job_in_line(alloc, line),
     }
 }
@@ -75,7 +84,7 @@ pub fn job_in(alloc: Global, bytes: &[u8]) -> Result<Option<Job>, AllocError>
 fn line_in(bytes: &[u8]) -> Option<&[u8]>
     ensures { option_map (λ line. line.now) result ≡ line_of bytes.now }
 {
-    let end = place_of(bytes, b'\n');
+    let end = end_of_line(bytes);
     if end + 1 == bytes.len() {
         Some(&bytes[..end])
     } else {
@@ -83,54 +92,110 @@ fn line_in(bytes: &[u8]) -> Option<&[u8]>
     }
 }
 
-// The job of a line of two words.
-fn job_in_line(alloc: Global, line: &[u8]) -> Result<Option<Job>, AllocError>
-    ensures is { IfOk result (λ job. job ≡ job_of_words (before_first (λ b. b == 32) line.now) (after_first (λ b. b == 32) line.now)) }
-    ensures job { IfOk result (λ job. IfSome job IsJob) }
-{
-    let end = place_of(line, b' ');
-    let cwd = &line[..end];
-    if has_end_of_word(cwd) {
-        return Ok(None);
-    }
-    let source = if end < line.len() {
-        &line[end + 1..]
-    } else {
-        &line[end..]
-    };
-    let words = [Bytes::copy_of(alloc, source)?];
-    jobs_keep_words();
-    read_words(alloc, cwd, &words)
-}
-
-fn has_end_of_word(word: &[u8]) -> bool
-    ensures { result ≡ list_any ends_word word.now }
-{
-    word.iter().any(|b| ends_word(*b))
-}
-
-fn ends_word(b: u8) -> bool
-    ensures { result ≡ ends_word b }
-{
-    b == b' ' || (b == b'\t' || (b == b'\\' || (b == b'\n' || b == b'\r')))
-}
-
-// Where a byte stands first, or the length where it stands nowhere.
-fn place_of(bytes: &[u8], mark: u8) -> usize
-    ensures place { result ≡ position_or_len (λ b. b == mark) bytes.now }
+// Where the first line feed stands, or the length where there is none.
+fn end_of_line(bytes: &[u8]) -> usize
+    ensures place { result ≡ position_or_len (λ b. b == 10) bytes.now }
     ensures within { result ≤ length bytes.now }
 {
     for (i, b) in bytes.iter().enumerate() {
-        if *b == mark {
+        if *b == b'\n' {
             return i;
         }
     }
     bytes.len()
 }
 
+// The job of a line.
+fn job_in_line(alloc: Global, line: &[u8]) -> Result<Result<Job, ListWhy>, AllocError>
+    ensures { IfOk result (λ job. job_of_line (Some line.now) ≡ given job) }
+{
+    if begins_comment(line) {
+        return Ok(Err(ListWhy::NotBuilt));
+    }
+    if has_strange(line) {
+        return Ok(Err(ListWhy::NotBuilt));
+    }
+    let words = line_words(alloc, line)?;
+    job_of_words(alloc, words.as_slice())
+}
+
+// The job of a line's words.
+fn job_of_words(alloc: Global, words: &[Bytes]) -> Result<Result<Job, ListWhy>, AllocError>
+    ensures { IfOk result (λ job. job_of_words words.now ≡ given job) }
+{
+    let [cwd, words @ ..] = words else {
+        return Ok(Err(ListWhy::NotBuilt));
+    };
+    if words.is_empty() {
+        return Ok(Err(ListWhy::NotBuilt));
+    }
+    match read_words(alloc, cwd.as_slice(), words) {
+        Ok(job) => Ok(Ok(job)),
+        Err(WordError::Memory) => Err(AllocError),
+        Err(why) => Ok(Err(ListWhy::Words(why))),
+    }
+}
+
+// The words of a line, between blanks.
+fn line_words(alloc: Global, line: &[u8]) -> Result<List<Bytes>, AllocError>
+    ensures { IfOk result (λ words. words ≡ line_words line.now) }
+{
+    let parts = parts_of(alloc, line)?;
+    let mut words = List::new(alloc);
+    for part in &parts {
+        add_word(alloc, part, &mut words)?;
+    }
+    Ok(words)
+}
+
+// The parts of a line between blanks, empty ones too.
+fn parts_of(alloc: Global, line: &[u8]) -> Result<Vec<&[u8]>, AllocError>
+    ensures { IfOk result (λ parts. map (λ part. part.now) parts.items ≡ slice_split is_blank line.now) }
+{
+    line.split(|b| is_blank(*b)).collect(alloc)
+}
+
+// Adds a part that isn't empty.
+fn add_word(alloc: Global, part: &[u8], words: &mut List<Bytes>) -> Result<(), AllocError>
+    ensures { OnOk result (words.new ≡ words.old ++ filter (λ part. nat_lt 0 (length part)) (part.now ∷ [])) }
+{
+    if part.is_empty() {
+        return Ok(());
+    }
+    words.push(Bytes::copy_of(alloc, part)?)?;
+    Ok(())
+}
+
+// A space or a tab.
+fn is_blank(b: u8) -> bool
+    ensures { result ≡ is_blank b }
+{
+    b == b' ' || b == b'\t'
+}
+
+fn begins_comment(line: &[u8]) -> bool
+    ensures { result ≡ begins_comment line.now }
+{
+    match line {
+        [first, ..] => *first == b'#',
+        [] => false,
+    }
+}
+
+fn has_strange(line: &[u8]) -> bool
+    ensures { result ≡ list_any is_strange line.now }
+{
+    line.iter().any(|b| is_strange(*b))
+}
+
+// A `\`, or a byte that ends a line.
+fn is_strange(b: u8) -> bool
+    ensures { result ≡ is_strange b }
+{
+    b == b'\\' || (b == b'\n' || b == b'\r')
+}
+
 /// A law, which takes no work: a list of more bytes than the limit isn't in its grammar, whatever follows.
 pub fn long_lists_are_refused()
-    ensures { (bytes more : List ℕ) → 16777216 < length bytes → jobs_of (bytes ++ more) ≡ Err not_built }
-{
-    jobs_are_short();
-}
+    ensures { (bytes more : List ℕ) → 16777216 < length bytes → jobs_of (bytes ++ more) ≡ Err (refused_for NotBuilt) }
+{}

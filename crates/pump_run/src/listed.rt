@@ -1,7 +1,7 @@
 // The job that the list gives.
 ghost use Rattle.pump_run.specs.Steps.{ListGives};
 
-use crate::list::{ListStop, job_in, long_lists_are_refused, read_all};
+use crate::list::{LIST_LIMIT, ListStop, ListWhy, job_in, long_lists_are_refused, read_all};
 use io_edges::Source;
 use job_words::Job;
 use std::alloc::Global;
@@ -13,8 +13,8 @@ pub enum NoJob {
     Fault,
     /// There was no memory for the list or its job.
     Memory,
-    /// The list has more bytes than its limit, or isn't in its grammar.
-    NotBuilt,
+    /// The list has more bytes than its limit, isn't in its grammar, or its words give no job.
+    Refused(ListWhy),
 }
 
 /// Reads the list to its end, and answers its one job.
@@ -27,12 +27,15 @@ pub fn listed_job<S: Source>(alloc: Global, list: &mut S) -> Result<Job, NoJob>
         Err(ListStop::Fault) => return Err(NoJob::Fault),
         Err(ListStop::Memory) => return Err(NoJob::Memory),
     };
-    if !read.ended {
-        return Err(NoJob::NotBuilt);
+    if !read.ended || read.bytes.len() > LIST_LIMIT {
+        return Err(NoJob::Refused(ListWhy::NotBuilt));
     }
     match job_in(alloc, read.bytes.as_slice()) {
-        Ok(Some(job)) => return Ok(job),
-        Ok(None) => return Err(NoJob::NotBuilt),
+        Ok(Ok(job)) => {
+            job.is_reading();
+            return Ok(job);
+        }
+        Ok(Err(why)) => return Err(NoJob::Refused(why)),
         Err(_) => return Err(NoJob::Memory),
     }
 }

@@ -1,10 +1,14 @@
 // The report of the jobs.
 ghost use Rattle.std.specs.Prelude.{◌≡◌, ◌++◌, [], ◌∷◌, count_by, codes, IfOk, OnOk};
+ghost use Rattle.pump_run.specs.declared.list.ListWhy.TheVariants.{Words};
+ghost use Rattle.pump_run.specs.Steps.{refusal_text_of};
 ghost use Rattle.pump_run.specs.Report.{jobs_text, job_text, totals_text, outcome_text, after_text, way_text, refusal_text, is_remote, is_local, is_broken};
 
+use crate::list::ListWhy;
 use base_types::Bytes;
 use build_clients::{Cause, Done, JobOutcome, Way};
 use closure_fixpoint::Refusal;
+use job_words::WordError;
 use std::alloc::{AllocError, Global};
 
 /// The report of these jobs: their lines, and the line of how many were done where.
@@ -18,6 +22,32 @@ pub fn report_of(alloc: Global, records: &[Done]) -> Result<Bytes, AllocError>
     }
     add_totals(alloc, &mut text, records)?;
     Ok(Bytes::of(text))
+}
+
+/// The line that says why a list is refused.
+pub fn refusal_line(why: ListWhy) -> &'static [u8]
+    ensures { result.now ≡ refusal_text_of why }
+{
+    match why {
+        ListWhy::NotBuilt => b"pump: list 0: not built\n",
+        ListWhy::Words(why) => words_line(why),
+    }
+}
+
+// The line that says why words give no job.
+fn words_line(why: WordError) -> &'static [u8]
+    ensures { result.now ≡ refusal_text_of (Words why) }
+{
+    match why {
+        WordError::NoSource => b"pump: list 1: words 1\n",
+        WordError::TwoSources => b"pump: list 1: words 2\n",
+        WordError::Unknown => b"pump: list 1: words 3\n",
+        WordError::NoOperand => b"pump: list 1: words 4\n",
+        WordError::BadMacro => b"pump: list 1: words 5\n",
+        WordError::Limit => b"pump: list 1: words 6\n",
+        WordError::Cwd => b"pump: list 1: words 7\n",
+        WordError::Memory => b"pump: list 1: words 8\n",
+    }
 }
 
 // Adds the lines of a job.

@@ -8,6 +8,7 @@ use crate::ending::{FAULT, NO_MEMORY, REFUSED, USAGE, refuse, tell};
 use crate::first::run_first;
 use crate::laws::outcomes_agree;
 use crate::listed::{NoJob, listed_job};
+use crate::report::refusal_line;
 use crate::words::{host_in, named_host};
 use build_clients::End;
 use io_edges::{Outs, Sink, Source, Spawner, Wire};
@@ -16,11 +17,12 @@ use std::sync::Wait;
 use std::thread::Threads;
 use tree_model::Tree;
 
-/// Reads the words `order - --hosts HOST -j 1` and the list, does its job at the first of the ends, puts the job's text on
+/// Reads the words `order - --hosts HOST -j 1` and the list, one line of a working directory and compile words, does its job at the first of the ends, puts the job's text on
 /// that end's outs, and writes the report: a line for the job and one of totals, or one line that says why nothing was done.
 /// The ends weren't used before, and the spawner isn't called: hosts are given by name.
 ///
-/// The status is 0 for a text, 1 for a diagnostic, 2 for other words, 3 for a list that isn't in its grammar, 4 where the
+/// The status is 0 for a text, 1 for a diagnostic, 2 for other words, 3 for a list that isn't in its grammar or
+/// whose words give no job, 4 where the
 /// list, the outs or the report failed, 5 for want of memory, and 6 where the tree failed. A line of refusal that can't be
 /// written whole leaves the status.
 pub fn pump<T: Tree, W: Wire, O: Outs, P: Spawner, S: Source, K: Sink, R: Threads + Wait + Sync>(
@@ -48,9 +50,7 @@ pub fn pump<T: Tree, W: Wire, O: Outs, P: Spawner, S: Source, K: Sink, R: Thread
     };
     let job = match listed_job(alloc, list) {
         Ok(job) => job,
-        Err(NoJob::NotBuilt) => {
-            return refuse(report, b"pump: list 0: not built\n".as_slice(), REFUSED);
-        }
+        Err(NoJob::Refused(why)) => return refuse(report, refusal_line(why), REFUSED),
         Err(NoJob::Fault) => {
             return refuse(report, b"pump: list read fault\n".as_slice(), FAULT);
         }

@@ -2,4 +2,4 @@ use Rattle.pump_run.proofs.LongLists.{long-lists}
 use Rattle.pump_run.proofs.list.long_lists_are_refused.Goals as goal
 
 pub returns : goal.returns
-returns c = long-lists c.jobs_are_short.ensures
+returns c = long-lists
