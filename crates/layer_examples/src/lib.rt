@@ -4,8 +4,6 @@
 #[cfg(test)]
 mod edges;
 #[cfg(test)]
-mod jobs;
-#[cfg(test)]
 mod layouts;
 #[cfg(test)]
 mod lists;

@@ -3,9 +3,9 @@ ghost use Rattle.std.specs.Prelude.{◌≡◌, ◌∷◌, [], ◌≤◌, length,
 ghost use Rattle.job_frames.specs.Request.{HasSpelling};
 
 use crate::files::path;
-use base_types::{Bytes, List};
+use base_types::Bytes;
 use job_frames::{Answer, Fed, FrameError, RequestReader, reply_of, write_reply, write_request};
-use job_words::Job;
+use job_words::read_words;
 use std::alloc::{AllocError, Global};
 use std::test::Fail;
 use tree_model::{CanonPath, Entry};
@@ -119,13 +119,9 @@ fn entries(alloc: Global) -> Result<Vec<(CanonPath, Entry)>, Fail>
 #[test]
 fn a_request_is_written(rt: HostRuntime) -> Result<(), Fail> {
     let alloc = rt.alloc();
-    let mut words = List::new(alloc);
-    words.push(Bytes::copy_of(alloc, b"a.c")?)?;
-    let job = Job {
-        words,
-        cwd: Bytes::copy_of(alloc, b"/work")?,
-        source: Bytes::copy_of(alloc, b"a.c")?,
-        output: Bytes::copy_of(alloc, b"a.i")?,
+    let words = [Bytes::copy_of(alloc, b"a.c")?];
+    let Ok(job) = read_words(alloc, b"/work", &words) else {
+        return Ok(assert!(rt; false));
     };
     let written = write_request(alloc, &job, &entries(alloc)?)?;
     assert_eq!(rt; written.as_slice(), request());
@@ -146,7 +142,7 @@ fn a_request_is_read_byte_by_byte(rt: HostRuntime) -> Result<(), Fail> {
     match reader.finish() {
         None => assert!(rt; false, "a whole request gives a job"),
         Some((job, entries)) => {
-            assert_eq!(rt; job.cwd.as_slice(), b"/work".as_slice());
+            assert_eq!(rt; job.setup().cwd(), b"/work".as_slice());
             assert_eq!(rt; entries.len(), 2);
         }
     }

@@ -4,6 +4,8 @@
 #[cfg(test)]
 mod analyses;
 #[cfg(test)]
+mod cached;
+#[cfg(test)]
 mod files;
 #[cfg(test)]
 mod frames;

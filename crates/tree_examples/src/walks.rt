@@ -41,7 +41,7 @@ fn with_link(
 
 // Two files, `/w/a.c` and `/w/d/h`, and links to itself, to a directory, to a file through a link, to the root and to
 // a directory by a text that ends with `/`.
-fn entries(alloc: Global) -> Result<Vec<(CanonPath, Entry)>, Fail>
+pub(crate) fn entries(alloc: Global) -> Result<Vec<(CanonPath, Entry)>, Fail>
     ensures { IfOk result (λ entries. IsTrue (links_fit entries.items)) }
 {
     let entries = with(alloc, Vec::new(alloc), b"/w", Entry::Dir)?;
@@ -56,7 +56,12 @@ fn entries(alloc: Global) -> Result<Vec<(CanonPath, Entry)>, Fail>
 }
 
 // The place and the file that a text locates, and the nodes walked, each behind a blank; nothing where it locates none.
-fn shown<T: Tree>(alloc: Global, tree: &mut T, dir: &[u8], text: &[u8]) -> Result<Vec<u8>, Fail> {
+pub(crate) fn shown<T: Tree>(
+    alloc: Global,
+    tree: &mut T,
+    dir: &[u8],
+    text: &[u8],
+) -> Result<Vec<u8>, Fail> {
     let mut line = Vec::new(alloc);
     let dir = path(alloc, dir)?;
     if let Ok(Some(found)) = locate(alloc, tree, &dir, text) {

@@ -1,6 +1,5 @@
 // The steps of a job at its client, each by itself.
 ghost use Rattle.std.specs.Prelude.{◌≡◌, [], IfOk, IfSome};
-ghost use Rattle.job_words.specs.Words.{IsJob};
 
 use crate::example::{entries_of, shown};
 use crate::header::{FILES, TALK, TEXT};
@@ -11,7 +10,7 @@ use build_clients::{
 };
 use daemon_serve::{MemWire, ServePeer};
 use io_edges::{Host, LinkState, MemOuts};
-use job_words::{Job, jobs_keep_words, read_words};
+use job_words::{Job, read_words};
 use std::alloc::{AllocError, Global};
 use std::process::Abort;
 use std::test::Fail;
@@ -36,12 +35,9 @@ fn an_end(alloc: Global) -> Result<Option<MemEnd>, Fail>
 }
 
 // The job of `a.c` in `/w`.
-fn a_job(alloc: Global) -> Result<Option<Job>, AllocError>
-    ensures { IfOk result (λ job. IfSome job IsJob) }
-{
-    jobs_keep_words();
+fn a_job(alloc: Global) -> Result<Option<Job>, AllocError> {
     let words = [Bytes::copy_of(alloc, b"a.c")?];
-    read_words(alloc, b"/w", &words)
+    Ok(read_words(alloc, b"/w", &words).ok())
 }
 
 fn a_host(alloc: Global) -> Result<Host, AllocError> {

@@ -17,17 +17,30 @@ fn other_words_are_refused(rt: HostRuntime) -> Result<(), Fail> {
     gives(&rt, rt.alloc(), &given, &want)
 }
 
+// Lists, and the lines that refuse them.
+const LISTS: [(&str, &str); 9] = [
+    ("nonsense", "pump: list 0: not built\n"),
+    ("/w\n", "pump: list 0: not built\n"),
+    ("/w a\\ b.c\n", "pump: list 0: not built\n"),
+    ("/w -c -O2\n", "pump: list 1: words 1\n"),
+    ("/w a.c b.c\n", "pump: list 1: words 2\n"),
+    ("/w -q a.c b.c\n", "pump: list 1: words 3\n"),
+    ("/w a.c -I\n", "pump: list 1: words 4\n"),
+    ("/w -DX=1 a.c\n", "pump: list 1: words 3\n"),
+    ("w a.c\n", "pump: list 1: words 7\n"),
+];
+
 #[test]
-fn another_list_is_refused(rt: HostRuntime) -> Result<(), Fail> {
-    let given = Given {
-        list: "nonsense",
-        ..asked(&[])
-    };
-    let want = Want {
-        status: 3,
-        report: "pump: list 0: not built\n",
-        text: None,
-        exchange: None,
-    };
-    gives(&rt, rt.alloc(), &given, &want)
+fn other_lists_are_refused(rt: HostRuntime) -> Result<(), Fail> {
+    for (list, report) in LISTS {
+        let given = Given { list, ..asked(&[]) };
+        let want = Want {
+            status: 3,
+            report,
+            text: None,
+            exchange: None,
+        };
+        gives(&rt, rt.alloc(), &given, &want)?;
+    }
+    Ok(())
 }
