@@ -1,5 +1,5 @@
 #!/usr/bin/env python3
-"""Measures the lexer and the program, and prints tables: bench.py LEX_PROGRAM PUMP_PROGRAM|none RUNS.
+"""Measures the lexer, searches and the program, and prints tables: bench.py LEX_PROGRAM TREE_PROGRAM PUMP_PROGRAM|none RUNS.
 
 A figure is processor time of the child, user and system, and the least of its runs. The runs are interleaved: each
 round runs every measurement once.
@@ -16,6 +16,8 @@ WHOLE = 20_000_000
 TENTH = 2_000_000
 TEXT = 14_000_000
 GOAL = 10.0  # nanoseconds a byte, which are 100 MB/s
+SEARCH_GOAL = 100.0  # microseconds a search in 100 directories
+WORDS_GOAL = 1000.0  # microseconds to read 1,000 words
 
 HEADERS = """
     assert complex ctype errno fenv float inttypes iso646 limits locale math setjmp signal stdalign stdarg stdatomic
@@ -130,9 +132,22 @@ class Measurement:
 TITLE = f"{'':<34} {'bytes':>11} {'seconds':>8} {'MB/s':>7} {'ns/byte':>8} {'tokens':>11} {'ns/token':>9}"
 
 
+class Repeated:
+    """What one of many repetitions takes: the time of many less that of one."""
+
+    def __init__(self, bench, label, words, times, goal=None):
+        self.label, self.times, self.goal = label, times, goal
+        self.one, self.many = (bench.add(label, [bench.tree, *words, str(n)], 0) for n in (1, times + 1))
+
+    def row(self):
+        micros = (self.many.seconds - self.one.seconds) / self.times * 1e6
+        wanted = "" if self.goal is None else f" ({judged(micros <= self.goal)}: {self.goal:.0f})"
+        return f"{self.label:<34} {micros:>9.2f} us{wanted}"
+
+
 class Bench:
-    def __init__(self, folder, lexer, pump):
-        self.folder, self.lexer, self.pump = folder, lexer, pump
+    def __init__(self, folder, lexer, tree, pump):
+        self.folder, self.lexer, self.tree, self.pump = folder, lexer, tree, pump
         self.all = []
         self.has_gcc = shutil.which("gcc") is not None
 
@@ -166,6 +181,12 @@ class Bench:
             command = ["gcc", "-E", "-fpreprocessed", *quiet, *paths]
             self.gcc = self.add("gcc -E -fpreprocessed, headers", command, len(text))
             self.make_job()
+        self.repeated = [
+            Repeated(self, "search in 10 directories", ["search", "10"], 20_000),
+            Repeated(self, "search in 100 directories", ["search", "100"], 2_000, SEARCH_GOAL),
+            Repeated(self, "search in 900 directories", ["search", "900"], 200),
+            Repeated(self, "read_words, 1,000 words", ["words", "999"], 500, WORDS_GOAL),
+        ]
 
     def make_job(self):
         text = preprocessed_text()
@@ -182,7 +203,7 @@ class Bench:
             for measurement in self.all:
                 measurement.run(self.folder)
         for measurement in self.all:
-            if measurement.command[0] == self.lexer and measurement.status != 0:
+            if measurement.command[0] in (self.lexer, self.tree) and measurement.status != 0:
                 sys.exit(f"{measurement.label}: status {measurement.status}")
 
     def print_tables(self):
@@ -196,6 +217,9 @@ class Bench:
             self.print_job()
         for measurement in self.hostile:
             print(measurement.row(measurement.tokens()))
+        print()
+        for repeated in self.repeated:
+            print(repeated.row())
         print()
         self.print_ratios()
 
@@ -227,9 +251,9 @@ def judged(met):
 
 
 def main():
-    lexer, pump, runs = sys.argv[1:]
+    lexer, tree, pump, runs = sys.argv[1:]
     with tempfile.TemporaryDirectory(prefix="bench") as folder:
-        bench = Bench(folder, os.path.abspath(lexer), pump if pump == "none" else os.path.abspath(pump))
+        bench = Bench(folder, os.path.abspath(lexer), os.path.abspath(tree), pump if pump == "none" else os.path.abspath(pump))
         bench.make()
         bench.measure(int(runs))
         bench.print_tables()
