@@ -1,0 +1,2 @@
+#include_next <list.h>
+extern int version;

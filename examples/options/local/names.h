@@ -1,0 +1,1 @@
+extern list *first;

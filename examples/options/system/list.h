@@ -1,0 +1,2 @@
+typedef struct list list;
+count list_count(list *first);
