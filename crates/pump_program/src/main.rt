@@ -18,19 +18,24 @@ use std::process::ExitCode;
 use std::sync::Wait;
 use std::thread::Threads;
 use std::{env, io};
-use tree_model::Tree;
+use tree_model::{Cached, Tree};
 
 const HELP: &str = "usage: pump_program order - --hosts HOST -j 1 < LIST
 
-LIST has one line, CWD SOURCE: a working directory, as a canonical path, and a
-C source in it. The source is preprocessed as `cc -E` would, by a daemon that
-gets just the files that it may include. The text is written below the folder
-`out`, under the source's name with `.i`, and a report to standard output.
+LIST has one line: a working directory, and the words of a compile command with
+one C source in it. Of its options -I, -iquote, -isystem, -idirafter, -include,
+-o and -trigraphs are read, and those without effect on preprocessing passed
+over. The source is preprocessed as `cc -E` would, by a daemon that gets just
+the files that it may include, or else here. The text is written below the
+folder `out`, under the name of -o or the source's with `.i`, and a report to
+standard output.
 
 status: 0 a text, 1 a diagnostic, 2 wrong words, 3 a wrong list, 4 a failed
 read, write or start, 5 out of memory, 6 a failed read of the tree";
 
-type HostEnd = End<Folder<HostRuntime>, MemWire<ServePeer>, FolderOuts<HostRuntime>>;
+type HostTree = Cached<Folder<HostRuntime>>;
+
+type HostEnd = End<HostTree, MemWire<ServePeer>, FolderOuts<HostRuntime>>;
 
 fn main(rt: HostRuntime) -> io::Result<ExitCode> {
     let arguments = env::args(&rt)?.collect(rt.alloc())?;
@@ -82,13 +87,13 @@ fn run<H: Threads + Wait + Sync>(
     Ok(ExitCode::from(status))
 }
 
-// An end that wasn't used yet: the host's files, a daemon in this process, and the folder of outputs.
+// An end that wasn't used yet: the host's files, whose nodes are remembered, a daemon in this process, and the folder of outputs.
 fn new_end(rt: &HostRuntime) -> io::Result<HostEnd>
-    ensures { IfOk result (λ end. IsFresh (seen_end ⟦<Folder<HostRuntime> as Tree>⟧.told ⟦<Folder<HostRuntime> as Tree>⟧.faults ⟦<Folder<HostRuntime> as Tree>⟧.reads ⟦<MemWire<ServePeer> as Wire>⟧.talk ⟦<MemWire<ServePeer> as Wire>⟧.state ⟦<MemWire<ServePeer> as Wire>⟧.faults ⟦<FolderOuts<HostRuntime> as Outs>⟧.kept ⟦<FolderOuts<HostRuntime> as Outs>⟧.faults end)) }
+    ensures { IfOk result (λ end. IsFresh (seen_end ⟦<Cached<Folder<HostRuntime>> as Tree>⟧.told ⟦<Cached<Folder<HostRuntime>> as Tree>⟧.faults ⟦<Cached<Folder<HostRuntime>> as Tree>⟧.reads ⟦<MemWire<ServePeer> as Wire>⟧.talk ⟦<MemWire<ServePeer> as Wire>⟧.state ⟦<MemWire<ServePeer> as Wire>⟧.faults ⟦<FolderOuts<HostRuntime> as Outs>⟧.kept ⟦<FolderOuts<HostRuntime> as Outs>⟧.faults end)) }
 {
     let alloc = rt.alloc();
     Ok(End {
-        tree: Folder::new(rt.clone()?),
+        tree: Cached::over(alloc, Folder::new(rt.clone()?)),
         wire: MemWire::new(alloc, ServePeer, Vec::new(alloc), Vec::new(alloc)),
         outs: FolderOuts::new(rt.clone()?, alloc, "out")?,
     })
