@@ -1,5 +1,5 @@
 -- The tree of a list of entries: what is found in it by names and by bytes, and that it is a tree.
-use Rattle.std.proofs.Common.{◌≡◌, [], ◌∷◌, refl, sym, ◌∙◌, ap, subst, cond, true, false, Bool, Option, Some, None, inl, inr, ◌⊎◌, IsSome, lit≤}
+use Rattle.std.proofs.Common.{◌≡◌, [], ◌∷◌, refl, sym, ◌∙◌, ap, subst, cond, true, false, Bool, Option, Some, None, inl, inr, ◌⊎◌, IsSome, lit≤, length, ◌≤◌}
 use Rattle.std.specs.Prelude.{nat_eq}
 use Rattle.std.specs.List.{list_all}
 use Rattle.std.specs.Ordering.{eq_by_cmp, is_eq}
@@ -8,13 +8,13 @@ use Rattle.std.specs.declared.cmp.Ordering.{Ordering}
 use Rattle.std.specs.declared.cmp.Ordering.TheVariants.{Less, Equal, Greater}
 use Rattle.std.specs.FinMap.{get, from_entries, get-empty, get-insert, get-from_entries, slice_cmp-IsAntisymmetric, nat_cmp-IsAntisymmetric}
 use Rattle.std.specs.FinMap.Entries.{find}
-use Rattle.std.proofs.lemmas.Bool.{and_parts, and_from}
+use Rattle.std.proofs.lemmas.Bool.{and_parts, and_from, leb-true}
 use Rattle.std.proofs.lemmas.Cmp.{nat_list_cmp_total, lists_total, tied_itself}
 use lib.Pointwise.{pointwise}
 use Rattle.base_types.specs.Members.{Member}
 use Rattle.tree_model.specs.Paths.{Text, Path, spelled, is_canonical, IsCanonical}
-use Rattle.tree_model.specs.Entries.{Entries, is_dir, has_parent, parents_stand, is_increasing, below, makes_tree, entry_fits, links_fit, IsLinkText, mirror_error}
-use Rattle.tree_model.specs.Trees.{path_cmp, tree_of, entry_at, by_bytes, IsTree}
+use Rattle.tree_model.specs.Entries.{Entries, is_dir, has_parent, parents_stand, is_increasing, below, makes_tree, entry_fits, links_fit, body_fits, bodies_fit, IsLinkText, mirror_error}
+use Rattle.tree_model.specs.Trees.{path_cmp, tree_of, entry_at, by_bytes, body_of, body_limit, BodiesAreSmall, IsTree}
 use Rattle.tree_model.specs.declared.mem_tree.MirrorError.TheVariants as why
 use Rattle.tree_model.specs.declared.entry.Entry.{Entry}
 use Rattle.tree_model.specs.declared.entry.Entry.TheVariants.{Dir, File, Link}
@@ -198,6 +198,21 @@ pub no_error : (es : Entries) → is_increasing es ≡ true → list_all (λ e. 
 unfolding mirror_error
 no_error es h k = rw (h, parents_found es h ∙ k) refl
 
--- the test of all parents
-abbrev pub each_parent : Entries → Bool
-each_parent es = list_all (λ e. has_parent es e.0) es
+small_body : (entry : Entry) (body : Text) → body_fits entry ≡ true → body_of (Some entry) ≡ Some body → length body ≤ body_limit
+small_body Dir body fits e = absurd (cc)
+small_body (File bytes) body fits e =
+    let same : bytes ≡ body = cc in
+    subst (λ (b : Text). length b ≤ body_limit) same (leb-true (length bytes) body_limit fits)
+small_body (Link text) body fits e = absurd (cc)
+
+-- no file of a list's tree has more bytes than those of the list
+pub small_bodies : (es : Entries) → bodies_fit es ≡ true → BodiesAreSmall (tree_of es)
+small_bodies es fits path body e = at (entry_at (tree_of es) path) refl e
+  where
+    among : (entry : Entry) → body_of (Some entry) ≡ Some body → ((path ≡ []) × (entry ≡ Dir)) ⊎ Member (path, entry) es → length body ≤ body_limit
+    among entry is (inl (root, dir)) = small_body Dir body refl (ap (λ (x : Entry). body_of (Some x)) (sym dir) ∙ is)
+    among entry is (inr m) = small_body entry body (all_member (λ f. body_fits f.1) es (path, entry) fits m) is
+
+    at : (o : Option Entry) → entry_at (tree_of es) path ≡ o → body_of o ≡ Some body → length body ≤ body_limit
+    at None found is = absurd (cc)
+    at (Some entry) found is = among entry is (nodes_are_entries es path entry found)

@@ -1,5 +1,5 @@
 -- Lists of nodes in order of their paths' spellings, byte by byte.
-use Rattle.std.specs.Prelude.{Bool, true, false, not, ◌&&◌, List, [], ◌∷◌, ◌++◌, length, if◌then◌else◌, ◌==◌, nat_eq, nat_lt, Option, Some, None, Result, Ok, Err, IsTrue}
+use Rattle.std.specs.Prelude.{Bool, true, false, not, ◌&&◌, List, [], ◌∷◌, ◌++◌, length, if◌then◌else◌, ◌==◌, nat_eq, nat_lt, nat_le, Option, Some, None, Result, Ok, Err, IsTrue}
 use Rattle.std.specs.List.{list_any, list_all}
 use Rattle.std.specs.Ordering.{nat_cmp, is_lt}
 use Rattle.std.specs.Cmp.Lexicographic.{slice_cmp}
@@ -77,6 +77,15 @@ entry_fits (Link text) = is_link_text text
 
 abbrev pub links_fit : Entries → Bool
 links_fit es = list_all (λ e. entry_fits e.1) es
+
+-- a file has at most as many bytes as are read
+abbrev pub body_fits : Entry → Bool
+body_fits Dir = true
+body_fits (File body) = nat_le (length body) 16777216
+body_fits (Link text) = true
+
+abbrev pub bodies_fit : Entries → Bool
+bodies_fit es = list_all (λ e. body_fits e.1) es
 
 -- the test of a list that makes a tree
 abbrev pub makes_tree : Entries → Bool

@@ -3,9 +3,9 @@ use Rattle.std.specs.Prelude.{◌≡◌, ◌⊎◌, ◌↔◌, [], ◌∷◌, �
 use Rattle.base_types.specs.Members.{Member}
 use Rattle.std.specs.FinMap.{get, from_entries}
 use Rattle.tree_model.specs.Paths.{Text, Path, spelled, names_of, is_canonical, IsCanonical}
-use Rattle.tree_model.specs.Entries.{Entries, Increasing, entry_fits, has_parent, is_increasing, judged_path, links_fit, makes_tree}
+use Rattle.tree_model.specs.Entries.{Entries, Increasing, bodies_fit, entry_fits, has_parent, is_increasing, judged_path, links_fit, makes_tree}
 use Rattle.std.specs.List.{list_all}
-use Rattle.tree_model.specs.Trees.{IsTree, tree_of, entry_at, by_bytes, path_cmp}
+use Rattle.tree_model.specs.Trees.{IsTree, BodiesAreSmall, tree_of, entry_at, by_bytes, path_cmp}
 use Rattle.tree_model.specs.declared.entry.Entry.{Entry}
 use Rattle.tree_model.specs.declared.entry.Entry.TheVariants.{Dir}
 
@@ -20,6 +20,10 @@ EntriesAreNodes = (es : Entries) → IsTrue (makes_tree es) → (path : Path) (e
 -- each node of a list's tree is the root or an entry
 abbrev pub NodesAreEntries : Type 0
 NodesAreEntries = (es : Entries) (path : Path) (entry : Entry) → entry_at (tree_of es) path ≡ Some entry → ((path ≡ []) × (entry ≡ Dir)) ⊎ Member (path, entry) es
+
+-- the files of a list's tree are as small as those of the list
+abbrev pub FittingBodiesAreSmall : Type 0
+FittingBodiesAreSmall = (es : Entries) → IsTrue (bodies_fit es) → BodiesAreSmall (tree_of es)
 
 -- the paths of all entries are canonical
 abbrev pub AreCanonical : Entries → Type 0

@@ -1,5 +1,5 @@
 -- A tree of files: a finite map from canonical paths to nodes.
-use Rattle.std.specs.Prelude.{◌≡◌, ℕ, ◌<◌, ◌≤◌, List, [], ◌∷◌, length, Option, None, Some, IsSome, IfSome, nat_eq, cond, ◌⊎◌, refl}
+use Rattle.std.specs.Prelude.{◌≡◌, ℕ, ◌<◌, ◌≤◌, List, [], ◌∷◌, length, Option, None, Some, IsSome, IfSome, IsTrue, Bool, true, false, nat_eq, cond, ◌⊎◌, refl}
 use Rattle.std.specs.Option.{option_map}
 use Rattle.std.specs.Ordering.{nat_cmp}
 use Rattle.std.specs.declared.cmp.Ordering.{Ordering}
@@ -63,6 +63,17 @@ body_of (Some Dir) = None
 body_of (Some (File body)) = Some body
 body_of (Some (Link text)) = None
 
+-- a node is a symbolic link
+abbrev pub is_link : Option Entry → Bool
+is_link None = false
+is_link (Some Dir) = false
+is_link (Some (File body)) = false
+is_link (Some (Link text)) = true
+
+-- a symbolic link stands at the path
+abbrev pub IsLinkAt : FileTree → Path → Type 0
+IsLinkAt tree path = IsTrue (is_link (entry_at tree path))
+
 -- what a tree shows of a path: its node without bytes, or its bytes
 abbrev pub node_at : FileTree → Path → Option Node
 node_at tree path = option_map shown (entry_at tree path)
@@ -90,6 +101,10 @@ IsBody got = IfSome got (λ body. length body ≤ body_limit)
 -- the file at the path has more bytes than are read
 abbrev pub IsTooLarge : FileTree → Path → Type 0
 IsTooLarge tree path = (body : Text) × (body_at tree path ≡ Some body) × (body_limit < length body)
+
+-- no file of the tree has more bytes than are read
+abbrev pub BodiesAreSmall : FileTree → Type 0
+BodiesAreSmall tree = (path : Path) (body : Text) → body_at tree path ≡ Some body → length body ≤ body_limit
 
 -- the type names this tree, or none
 abbrev pub NamesOnly : Option FileTree → FileTree → Type 0
@@ -127,6 +142,9 @@ names_prop (name ∷ path) = hlevel (props, names_prop path)
 
 pub IsTree-prop : (tree : FileTree) → IsProp (IsTree tree)
 IsTree-prop tree = hlevel (props, Coded-set (coded_option entry_code), names_prop)
+
+pub BodiesAreSmall-prop : (tree : FileTree) → IsProp (BodiesAreSmall tree)
+BodiesAreSmall-prop tree = hlevel props
 
 -- two names of one tree
 pub same_told : (one other : FileTree) → Some one ≡ Some other → one ≡ other

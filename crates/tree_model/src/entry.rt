@@ -1,5 +1,12 @@
 // The nodes of a tree.
+ghost use Rattle.std.specs.Prelude.{◌≡◌, IfOk, OnErr, Err, IsTrue, Some};
+ghost use Rattle.tree_model.specs.Trees as trees;
+ghost use Rattle.tree_model.specs.Trees.{is_link};
+ghost use Rattle.tree_model.specs.declared.entry.Node.TheVariants.{Link};
+
+use crate::TreeError;
 use base_types::Bytes;
+use std::alloc::Global;
 
 /// A node of a tree, with what is in it.
 #[derive(Debug, Drop)]
@@ -18,4 +25,41 @@ pub enum Node {
     File,
     /// A symbolic link with its text.
     Link(Bytes),
+}
+
+impl Entry {
+    /// The node without a file's bytes. A link's text is copied: `Memory` alone is an error, and only of a link.
+    pub fn shown(&self, alloc: Global) -> Result<Node, TreeError>
+        ensures ok { IfOk result (λ node. node ≡ trees.shown self.now) }
+        ensures err { (e : _) → result ≡ Err e → e ≡ TreeError.Memory }
+        ensures links { OnErr result (IsTrue (is_link (Some self.now))) }
+    {
+        match self {
+            Entry::Dir => Ok(Node::Dir),
+            Entry::File(_) => Ok(Node::File),
+            Entry::Link(text) => linked(alloc, text),
+        }
+    }
+}
+
+// A link with a copy of a text.
+fn linked(alloc: Global, text: &Bytes) -> Result<Node, TreeError>
+    ensures ok { IfOk result (λ node. node ≡ Link text.now) }
+    ensures err { (e : _) → result ≡ Err e → e ≡ TreeError.Memory }
+{
+    match copied(alloc, text) {
+        Ok(copy) => Ok(Node::Link(copy)),
+        Err(error) => Err(error),
+    }
+}
+
+/// A copy of a body or of a link's text. `Memory` alone is an error.
+pub fn copied(alloc: Global, bytes: &Bytes) -> Result<Bytes, TreeError>
+    ensures ok { IfOk result (λ copy. copy ≡ bytes.now) }
+    ensures err { (e : _) → result ≡ Err e → e ≡ TreeError.Memory }
+{
+    match Bytes::copy_of(alloc, bytes.as_slice()) {
+        Ok(copy) => Ok(copy),
+        Err(_) => Err(TreeError::Memory),
+    }
 }

@@ -1,5 +1,5 @@
 // Laws of paths and trees, each the contract of a function that does nothing.
-ghost use Rattle.tree_model.specs.Laws.{ListsMakeTrees, EntriesAreNodes, NodesAreEntries, LookedUpByBytes, SpellingsAreApart, NamesAreBack, TestsDecide, JudgedAreSpelled, JudgedIncrease, JudgedMakeTrees, EntriesAreJudged, ParentsMakeTrees};
+ghost use Rattle.tree_model.specs.Laws.{ListsMakeTrees, EntriesAreNodes, NodesAreEntries, FittingBodiesAreSmall, LookedUpByBytes, SpellingsAreApart, NamesAreBack, TestsDecide, JudgedAreSpelled, JudgedIncrease, JudgedMakeTrees, EntriesAreJudged, ParentsMakeTrees};
 
 /// A list of entries that passes the test makes a tree.
 pub fn lists_make_trees()
@@ -15,6 +15,11 @@ pub fn parents_make_trees()
 pub fn entries_of_trees()
     ensures entries { EntriesAreNodes }
     ensures nodes { NodesAreEntries }
+{}
+
+/// The files of a list's tree have at most as many bytes as are read, where those of the list have.
+pub fn fitting_bodies_are_small()
+    ensures { FittingBodiesAreSmall }
 {}
 
 /// Looking a path up by its bytes is looking it up by its names.

@@ -13,14 +13,14 @@ mod tree;
 mod walk;
 
 pub use cached::{Cached, Remembers};
-pub use entry::{Entry, Node};
+pub use entry::{Entry, Node, copied};
 pub use frame::{frame_law, leads_law, looked_law, walked_law};
 pub use laws::{
-    entries_of_trees, judging_makes_trees, lists_make_trees, looked_up_by_bytes,
-    parents_make_trees, spellings_are_apart, tests_decide,
+    entries_of_trees, fitting_bodies_are_small, judging_makes_trees, lists_make_trees,
+    looked_up_by_bytes, parents_make_trees, spellings_are_apart, tests_decide,
 };
-pub use mem_tree::{MemTree, MirrorError};
-pub use order::{entry_spelled, judge_path};
+pub use mem_tree::{MemTree, MirrorError, entry_at};
+pub use order::{entry_spelled, judge_entries, judge_path};
 pub use path::CanonPath;
 pub use tree::{Frozen, Tree, TreeError, Unnamed};
 pub use walk::{Located, locate};

@@ -9,8 +9,8 @@ ghost use Rattle.tree_model.specs.Trees as trees;
 ghost use Rattle.tree_model.specs.Trees.{tree_of, node_at, body_at, IsNode, IsBody, IsTooLarge, IsTree, IsTree-prop, NamesOnly, NamesOnly-prop, told_whole};
 ghost use Rattle.tree_model.specs.declared.entry.Entry.TheVariants.{Dir};
 
-use crate::order::{entry_spelled, have_parents, increase};
-use crate::{CanonPath, Entry, Frozen, Node, Tree, TreeError};
+use crate::order::{entry_spelled, judge_entries};
+use crate::{CanonPath, Entry, Frozen, Node, Tree, TreeError, copied, lists_make_trees};
 use base_types::{Bytes, Calls, Counted};
 use std::alloc::Global;
 use std::marker::PhantomData;
@@ -57,11 +57,9 @@ impl<F: Frozen> MemTree<F> {
         ensures ok { OnOk result (mirror_error entries.items ≡ None) }
         ensures error { IfErr result (λ e. mirror_error entries.items ≡ Some e) }
     {
-        if !increase(entries.as_slice()) {
-            return Err(MirrorError::Order);
-        }
-        if !have_parents(entries.as_slice()) {
-            return Err(MirrorError::Parent);
+        lists_make_trees();
+        if let Some(error) = judge_entries(entries.as_slice()) {
+            return Err(error);
         }
         Ok(MemTree {
             alloc,
@@ -80,8 +78,8 @@ impl<F: Frozen> MemTree<F> {
     }
 }
 
-// What the tree of the entries has at a path.
-fn entry_at<'a>(
+/// What the tree of the entries has at a path: at `/` the root that is given, a directory.
+pub fn entry_at<'a>(
     root: &'a Entry,
     entries: &'a [(CanonPath, Entry)],
     path: &CanonPath,
@@ -94,17 +92,6 @@ fn entry_at<'a>(
         return Some(root);
     }
     entry_spelled(entries, path.bytes())
-}
-
-// A copy.
-fn copied(alloc: Global, bytes: &Bytes) -> Result<Bytes, TreeError>
-    ensures ok { IfOk result (λ copy. copy ≡ bytes.now) }
-    ensures err { (e : _) → result ≡ Err e → e ≡ TreeError.Memory }
-{
-    match Bytes::copy_of(alloc, bytes.as_slice()) {
-        Ok(copy) => Ok(copy),
-        Err(_) => Err(TreeError::Memory),
-    }
 }
 
 impl<F: Frozen> Counted for MemTree<F> {
@@ -143,11 +130,7 @@ impl<F: Frozen> Tree for MemTree<F> {
         let root = Entry::Dir;
         match entry_at(&root, &self.entries, path) {
             None => Ok(None),
-            Some(entry) => match entry {
-                Entry::Dir => Ok(Some(Node::Dir)),
-                Entry::File(_) => Ok(Some(Node::File)),
-                Entry::Link(text) => Ok(Some(Node::Link(copied(self.alloc, text)?))),
-            },
+            Some(entry) => Ok(Some(entry.shown(self.alloc)?)),
         }
     }
 

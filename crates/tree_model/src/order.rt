@@ -3,7 +3,7 @@ ghost use Rattle.std.specs.Prelude.{◌≡◌, IfOk, IsTrue, true, None, Some};
 ghost use Rattle.std.specs.List.{list_all, list_any};
 ghost use Rattle.std.specs.Option.{option_map};
 ghost use Rattle.tree_model.specs.Entries as lists;
-ghost use Rattle.tree_model.specs.Entries.{below, comes_behind, is_dir_at, is_increasing, judged_path, Increasing};
+ghost use Rattle.tree_model.specs.Entries.{below, comes_behind, is_dir_at, is_increasing, judged_path, links_fit, makes_tree, mirror_error, Increasing};
 ghost use Rattle.tree_model.specs.Paths.{is_canonical, IsCanonical};
 ghost use Rattle.tree_model.specs.Trees.{by_bytes};
 
@@ -110,8 +110,23 @@ pub fn judge_path(
     }
 }
 
+/// Why the entries make no tree, or None. `Order`: the paths' spellings don't increase strictly. `Parent`: else, a path is
+/// the root, or its parent is neither the root nor a directory before it.
+pub fn judge_entries(entries: &[(CanonPath, Entry)]) -> Option<MirrorError>
+    ensures error { result ≡ mirror_error entries.now }
+    ensures made { result ≡ None → IsTrue (links_fit entries.now) → IsTrue (makes_tree entries.now) }
+{
+    if !increase(entries) {
+        return Some(MirrorError::Order);
+    }
+    if have_parents(entries) {
+        return None;
+    }
+    Some(MirrorError::Parent)
+}
+
 // The entries' paths increase.
-pub(crate) fn increase(entries: &[(CanonPath, Entry)]) -> bool
+fn increase(entries: &[(CanonPath, Entry)]) -> bool
     ensures { result ≡ is_increasing entries.now }
 {
     for i in 1..entries.len() {
@@ -125,7 +140,7 @@ pub(crate) fn increase(entries: &[(CanonPath, Entry)]) -> bool
 }
 
 // Each entry's parent is the root or a directory among the entries.
-pub(crate) fn have_parents(entries: &[(CanonPath, Entry)]) -> bool
+fn have_parents(entries: &[(CanonPath, Entry)]) -> bool
     requires { Increasing entries.now }
     ensures value { result ≡ list_all (λ e. lists.has_parent entries.now e.0) entries.now }
     ensures canonical { result ≡ true → IsTrue (list_all (λ e. is_canonical e.0) entries.now) }
