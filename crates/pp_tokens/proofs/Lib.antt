@@ -29,3 +29,4 @@ mod FrontPieces
 mod SourceSteps
 mod NewlineLengths
 mod Runs
+mod WholeTokens

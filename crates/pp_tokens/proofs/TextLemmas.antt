@@ -15,7 +15,7 @@ unfolding part_of kind_of is_identifier is_number number_goes_on is_string is_ch
 newline_stands bs = single_stands 10 bs newline refl (λ c u. refl)
 
 -- one byte of white space stands alone
-white_byte : (b : ℕ) → is_white b ≡ true → (b ≡ 32) ⊎ ((b ≡ 9) ⊎ ((b ≡ 11) ⊎ ((b ≡ 12) ⊎ (b ≡ 13))))
+pub white_byte : (b : ℕ) → is_white b ≡ true → (b ≡ 32) ⊎ ((b ≡ 9) ⊎ ((b ≡ 11) ⊎ ((b ≡ 12) ⊎ (b ≡ 13))))
 white_byte b h =
     elim (or_cases (b == 32) _ h) [
       | inl e ↦ inl (eqb-true b 32 e)

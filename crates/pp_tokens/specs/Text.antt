@@ -2,6 +2,7 @@
 use Rattle.std.specs.Prelude.{ℕ, suc, Bool, true, false, not, ◌&&◌, ◌||◌, List, [], ◌∷◌, ◌==◌, codes, bytes_eq, nat_eq, if◌then◌else◌, Option, None, Some}
 use Rattle.std.specs.List.{list_all, list_any, starts_with}
 use Rattle.std.specs.Option.{option_map}
+use Rattle.pp_tokens.specs.declared.token.Kind.{Kind}
 use Rattle.pp_tokens.specs.declared.part.What.{What}
 use Rattle.pp_tokens.specs.declared.part.What.TheVariants.{Newline, White, Comment, OpenComment, Token}
 use Rattle.pp_tokens.specs.declared.due.Before.{Before}
@@ -17,6 +18,14 @@ part_told White = white
 part_told Comment = comment
 part_told OpenComment = open_comment
 part_told (Token k) = token k
+
+-- the kind of what stands first in a text of this size, where it is a token and the whole text (6.4)
+abbrev pub whole_kind : Part × ℕ → ℕ → Option Kind
+whole_kind (token k, n) size = if n == size then Some k else None
+whole_kind (newline, n) size = None
+whole_kind (white, n) size = None
+whole_kind (comment, n) size = None
+whole_kind (open_comment, n) size = None
 
 -- what stands on a logical line, as far as it says whether a header name is due, after one more word (6.4.7)
 unfoldable pub after_word : Before → List ℕ → Before
