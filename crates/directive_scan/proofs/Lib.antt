@@ -5,3 +5,4 @@ mod OneOutline
 mod OpenFronts
 mod StackSteps
 mod Whole
+mod ClosedNames

@@ -3,12 +3,14 @@
 
 mod conditional;
 mod directive;
+mod header;
 mod law;
 mod outline;
 mod scanner;
 
 pub use conditional::{BranchName, Malformed};
 pub use directive::{Directive, HeaderName, Piece, Target};
+pub use header::header_of;
 pub use law::{nesting_told, one_outline, outline_holds};
 pub use outline::malformed;
 pub use scanner::scan;

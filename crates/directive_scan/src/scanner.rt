@@ -1,10 +1,11 @@
 // The pieces of a lexed file.
 ghost use Rattle.std.specs.Prelude as seen;
-ghost use Rattle.std.specs.Prelude.{◌≡◌, ◌++◌, ◌-◌, ◌∷◌, [], length, take, drop, unwrap_or, slice_get, IfOk, OnOk};
+ghost use Rattle.std.specs.Prelude.{◌≡◌, ◌++◌, ◌∷◌, [], drop, unwrap_or, slice_get, IfOk, OnOk};
 ghost use Rattle.directive_scan.specs.Directives.{header_name, target_of, pragma_of, directive_named, directive_of, onto_run, line_before, pieces};
 ghost use Rattle.directive_scan.specs.Gathered.{line_at, hash_of, joined};
 
 use crate::directive::{Directive, HeaderName, Piece, Target};
+use crate::header::between;
 use base_types::{Bytes, List};
 use pp_tokens::{Kind, Lexed, Token};
 use std::alloc::{AllocError, Global};
@@ -184,16 +185,6 @@ fn header_name(alloc: Global, text: &[u8]) -> Result<HeaderName, AllocError>
         angle: text.starts_with(b"<"),
         name,
     })
-}
-
-// What stands between the first byte and the last one.
-fn between(text: &[u8]) -> &[u8]
-    ensures { result.now ≡ take (length text.now - 2) (drop 1 text.now) }
-{
-    match text {
-        [_, name @ .., _] => name,
-        _ => &[],
-    }
 }
 
 // A pragma.

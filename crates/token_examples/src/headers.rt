@@ -1,6 +1,9 @@
-// Header names, and the places where none is due (ISO C 6.4.7, 6.10.1, 6.10.2).
+// Header names, the places where none is due, and those that expanded tokens give (ISO C 6.4.7, 6.10.1, 6.10.2).
 use crate::notation::check;
-use std::alloc::AllocError;
+use directive_scan::header_of;
+use pp_tokens::{Token, lex};
+use std::alloc::{AllocError, Global};
+use std::process::Abort;
 
 #[test]
 fn reads_header_names(rt: HostRuntime) -> Result<(), AllocError> {
@@ -112,4 +115,52 @@ fn reads_none_elsewhere(rt: HostRuntime) -> Result<(), AllocError> {
             ("<a//b>", " p1(<)i1(a)\n"),
         ],
     )
+}
+
+#[test]
+fn names_headers_by_tokens(rt: HostRuntime) -> Result<(), AllocError> {
+    let rows: &[(&str, &str)] = &[
+        ("\"a.h\"", "\"a.h"),
+        ("\"a\\b.h\" x", "\"a\\b.h"),
+        ("<a.h>", "<a.h"),
+        ("< a . h >", "<a . h"),
+        ("<a.h> x>", "<a.h"),
+        ("<\"a\">", "<\"a\""),
+        ("L\"a.h\"", ""),
+        ("\"\"", ""),
+        ("<>", ""),
+        ("<>a>", ""),
+        ("<a", ""),
+        ("", ""),
+        ("x", ""),
+        ("x <a>", ""),
+    ];
+    for (text, name) in rows {
+        let shown = shown_name(&rt, rt.alloc(), text.as_bytes())?;
+        assert!(rt; shown.as_slice() == name.as_bytes(), "{text:?}");
+    }
+    Ok(())
+}
+
+// The header name that the tokens of a text's first line give, behind its first delimiter; nothing where they give none.
+fn shown_name(rt: &impl Abort, alloc: Global, text: &[u8]) -> Result<Vec<u8>, AllocError> {
+    let mut shown = Vec::new(alloc);
+    let tokens = first_line(rt, alloc, text)?;
+    if let Some(header) = header_of(alloc, &tokens)? {
+        shown.push(if header.angle { b'<' } else { b'"' })?;
+        shown.extend_from_slice(header.name.as_slice())?;
+    }
+    Ok(shown)
+}
+
+fn first_line(rt: &impl Abort, alloc: Global, text: &[u8]) -> Result<Vec<Token>, AllocError> {
+    assert!(rt; text.len() <= 16777216);
+    let lexed = lex(alloc, text, false)?;
+    let mut tokens = Vec::new(alloc);
+    for at in 0..lexed.token_count(0) {
+        if let Some(token) = lexed.token(0, at) {
+            tokens.push(token.to_token(alloc)?)?;
+        }
+    }
+    Ok(tokens)
 }

@@ -20,4 +20,6 @@ mod plain;
 #[cfg(test)]
 mod sizes;
 #[cfg(test)]
+mod spellings;
+#[cfg(test)]
 mod tokens;
