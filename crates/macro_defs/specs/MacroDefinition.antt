@@ -1,0 +1,13 @@
+-- What a macro definition means (ISO C 6.10.3).
+use Rattle.std.specs.Prelude.{List}
+use Rattle.pp_tokens.specs.declared.Token.{Token}
+use Rattle.macro_defs.specs.declared.definition.Shape.{Shape}
+
+-- A definition as contracts see it. Its tokens stand on line 0: no line of a definition is ever read, since a replacement's
+-- tokens take the line of the name. So two definitions are one where shape and the tokens' kinds, texts and spaces are (6.10.3 p1, p2).
+pub record MacroDefinition : Type 0 where
+  pub shape : Shape
+  pub body : List Token
+
+abbrev pub without_line : Token → Token
+without_line t = record t { line = 0 }

@@ -1,0 +1,43 @@
+-- Which definition each name has (ISO C 6.10.3.5).
+use Rattle.std.specs.Prelude.{◌≡◌, ℕ, true, List, [], ◌∷◌, if◌then◌else◌, Option, Some, None, codes, bytes_eq}
+use Rattle.pp_tokens.specs.declared.Kind.{Kind}
+use Rattle.pp_tokens.specs.declared.Kind.TheVariants.{Number, Str}
+use Rattle.macro_defs.specs.declared.definition.Shape.TheVariants.{Object}
+use Rattle.macro_defs.specs.MacroDefinition.{MacroDefinition}
+
+-- A table as contracts see it: each name that was ever defined, in the order of the first definitions, with its definition,
+-- or None where it was undefined since.
+abbrev pub Entries : Type 0
+Entries = List (List ℕ × Option MacroDefinition)
+
+-- the definition of a name, unless it was undefined since
+unfoldable pub lookup : Entries → List ℕ → Option MacroDefinition
+lookup [] name = None
+lookup (e ∷ es) name = if bytes_eq name e.0 then e.1 else lookup es name
+
+-- a table is another one with this for a name
+abbrev pub Sets : Entries → List ℕ → Option MacroDefinition → Entries → Type 0
+Sets old name definition new = (n : List ℕ) → lookup new n ≡ (if bytes_eq name n then definition else lookup old n)
+
+-- the table after a definition: a name that stands there keeps its place, and another goes last
+abbrev pub with_definition : Entries → List ℕ → Option MacroDefinition → Entries
+with_definition [] name definition = (name, definition) ∷ []
+with_definition (e ∷ es) name definition = if bytes_eq name e.0 then (e.0, definition) ∷ es else e ∷ with_definition es name definition
+
+-- a macro whose replacement list is one token, written behind white space
+abbrev pub one_token : Kind → List ℕ → Option MacroDefinition
+one_token kind spelling = Some (record {
+  shape = Object;
+  body = (record { kind = kind; text = spelling; line = 0; space = true }) ∷ [];
+})
+
+-- the macros that every translation begins with (6.10.8.1); date and time are those of the epoch, so that a text depends on
+-- its files alone
+abbrev pub initial_entries : Entries
+initial_entries =
+    (codes "__STDC__", one_token Number (codes "1"))
+    ∷ (codes "__STDC_VERSION__", one_token Number (codes "201710L"))
+    ∷ (codes "__STDC_HOSTED__", one_token Number (codes "1"))
+    ∷ (codes "__DATE__", one_token Str (codes "\"Jan  1 1970\""))
+    ∷ (codes "__TIME__", one_token Str (codes "\"00:00:00\""))
+    ∷ []

@@ -1,0 +1,94 @@
+// Replacement lists (ISO C 6.10.3).
+ghost use Rattle.std.specs.Prelude.{◌≡◌, ℕ, List, IfOk, IfErr, Ok};
+ghost use Rattle.macro_defs.specs.Stored.{spelled};
+ghost use Rattle.macro_defs.specs.Defining as spec;
+ghost use Rattle.macro_defs.specs.Defining.{Refuses};
+
+use crate::copies::copy_tokens;
+use crate::marks::{is_hash, is_identifier, is_pasting};
+use crate::params::{holds, known_names};
+use crate::{DefineError, Definition, Shape};
+use base_types::Bytes;
+use indexmap::IndexSet;
+use pp_tokens::Token;
+use std::alloc::{AllocError, Global};
+
+// A macro of this form with this replacement list, where a parameter follows each `#`.
+pub(crate) fn with_body(
+    alloc: Global,
+    shape: Shape,
+    hashes: bool,
+    body: &[Token],
+) -> Result<Definition, DefineError>
+    ensures ok { IfOk result (λ d. (name : List ℕ) → spec.with_body name shape hashes body.now ≡ Ok (record { name = name; definition = d })) }
+    ensures err { IfErr result (λ e. (name : List ℕ) → Refuses e (spec.with_body name shape hashes body.now)) }
+{
+    if begins_with_pasting(body) {
+        return Err(DefineError::PasteEnd);
+    }
+    if ends_with_pasting(body) {
+        return Err(DefineError::PasteEnd);
+    }
+    if !hashes {
+        return Err(DefineError::Hash);
+    }
+    let body = copy_tokens(alloc, body)?;
+    Ok(Definition::new(shape, body))
+}
+
+fn begins_with_pasting(body: &[Token]) -> bool
+    ensures { result ≡ spec.begins_with_pasting body.now }
+{
+    match body {
+        [first, ..] => is_pasting(first),
+        [] => false,
+    }
+}
+
+fn ends_with_pasting(body: &[Token]) -> bool
+    ensures { result ≡ spec.ends_with_pasting body.now }
+{
+    if body.is_empty() {
+        return false;
+    }
+    is_pasting(&body[body.len() - 1])
+}
+
+// Whether a parameter follows each `#`.
+pub(crate) fn hashes_parameters(
+    alloc: Global,
+    names: &[Bytes],
+    body: &[Token],
+) -> Result<bool, AllocError>
+    ensures { IfOk result (λ right. right ≡ spec.hashes_parameters names.now body.now) }
+{
+    let known = known_names(alloc, names)?;
+    Ok(hashes_known(&known, body))
+}
+
+fn hashes_known(known: &IndexSet<&[u8]>, body: &[Token]) -> bool
+    ensures { result ≡ spec.hashes_parameters (spelled known.now.keys) body.now }
+{
+    for (i, token) in body.iter().enumerate() {
+        if is_wrong_hash(known, token, &body[i + 1..]) {
+            return false;
+        }
+    }
+    true
+}
+
+// Whether the token is a `#` that no parameter follows.
+fn is_wrong_hash(known: &IndexSet<&[u8]>, token: &Token, behind: &[Token]) -> bool
+    ensures { result ≡ spec.is_wrong_hash (spelled known.now.keys) token.now behind.now }
+{
+    is_hash(token) && !begins_with_parameter(known, behind)
+}
+
+fn begins_with_parameter(known: &IndexSet<&[u8]>, tokens: &[Token]) -> bool
+    ensures { result ≡ spec.begins_with_parameter (spelled known.now.keys) tokens.now }
+{
+    match tokens {
+        [first, ..] => is_identifier(first) && holds(known, first.text.as_slice()),
+        [] => false,
+    }
+}

@@ -1,0 +1,78 @@
+// When two definitions are the same (ISO C 6.10.3 paragraphs 1 and 2).
+ghost use Rattle.std.specs.Prelude.{◌≡◌, bytes_eq};
+ghost use Rattle.std.specs.Cmp.Lexicographic.{pointwise};
+ghost use Rattle.macro_defs.specs.declared.definition.Shape.TheVariants.{Function};
+ghost use Rattle.macro_defs.specs.MacroDefinition.{without_line};
+ghost use Rattle.macro_defs.specs.Sameness.{is_same_kind, is_same_token, is_same_shape};
+
+use crate::Shape;
+use base_types::Bytes;
+use pp_tokens::{Kind, Token};
+
+// Whether two forms are the same.
+pub(crate) fn same_shape(one: &Shape, other: &Shape) -> bool
+    ensures { result ≡ is_same_shape one.now other.now }
+{
+    match one {
+        Shape::Object => matches!(other, Shape::Object),
+        Shape::Function { params, variadic } => {
+            same_function(params.as_slice(), *variadic, other)
+        }
+    }
+}
+
+// Whether a form is function-like with these parameters.
+fn same_function(names: &[Bytes], variadic: bool, other: &Shape) -> bool
+    ensures { result ≡ is_same_shape (Function names.now variadic) other.now }
+{
+    match other {
+        Shape::Object => false,
+        Shape::Function {
+            params,
+            variadic: last,
+        } => same_names(names, params.as_slice()) && variadic == *last,
+    }
+}
+
+fn same_names(one: &[Bytes], other: &[Bytes]) -> bool
+    ensures { result ≡ pointwise bytes_eq one.now other.now }
+{
+    if one.len() != other.len() {
+        return false;
+    }
+    for (i, name) in one.iter().enumerate() {
+        if name.as_slice() != other[i].as_slice() {
+            return false;
+        }
+    }
+    true
+}
+
+// Whether two lists of tokens are the same, whatever the lines.
+pub(crate) fn same_tokens(one: &[Token], other: &[Token]) -> bool
+    ensures { result ≡ pointwise (λ a b. is_same_token (without_line a) (without_line b)) one.now other.now }
+{
+    if one.len() != other.len() {
+        return false;
+    }
+    for (i, token) in one.iter().enumerate() {
+        if !same_token(token, &other[i]) {
+            return false;
+        }
+    }
+    true
+}
+
+fn same_token(one: &Token, other: &Token) -> bool
+    ensures { result ≡ is_same_token (without_line one.now) (without_line other.now) }
+{
+    same_kind(one.kind, other.kind)
+        && one.text.as_slice() == other.text.as_slice()
+        && one.space == other.space
+}
+
+fn same_kind(one: Kind, other: Kind) -> bool
+    ensures { result ≡ is_same_kind one other }
+{
+    one == other
+}

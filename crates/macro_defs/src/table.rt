@@ -1,0 +1,116 @@
+// A table of macros.
+ghost use Rattle.std.specs.Prelude.{◌≡◌, IfOk, Some};
+ghost use Rattle.macro_defs.specs.Table.{one_token};
+
+use crate::{Definition, Shape};
+use base_types::{Bytes, List};
+use indexmap::IndexMap;
+use pp_tokens::{Kind, Token};
+use std::alloc::{AllocError, Global};
+use std::marker::Model;
+
+/// The macros that are defined (ISO C 6.10.3.5). Its names stand in the order of their first definitions; a name that was
+/// undefined since keeps its place with no definition. A look-up, a definition and an undefinition take constant time on
+/// average.
+#[derive(Drop)]
+pub struct MacroTable {
+    entries: IndexMap<Vec<u8>, Option<Definition>>,
+}
+
+impl Model for MacroTable {
+    ghost use Rattle.macro_defs.specs.Table.{Entries};
+    ghost use Rattle.macro_defs.specs.Stored.{seen};
+
+    ghost Value = { Entries };
+
+    ghost view = { λ t. seen t.entries.entries };
+}
+
+impl MacroTable {
+    ghost use Rattle.std.specs.Prelude.{◌≡◌, IfOk, OnOk, OnErr, MatchOption, Some, None};
+    ghost use Rattle.macro_defs.specs.Table.{lookup, with_definition, Sets, one_token, initial_entries};
+
+    /// The macros that every translation begins with (ISO C 6.10.8.1): `__STDC__`, `__STDC_VERSION__`, `__STDC_HOSTED__`,
+    /// `__DATE__` and `__TIME__`, the last two those of the epoch.
+    pub fn initial(alloc: Global) -> Result<MacroTable, AllocError>
+        ensures { IfOk result (λ t. t ≡ initial_entries) }
+    {
+        let mut table = MacroTable {
+            entries: IndexMap::new(alloc),
+        };
+        table.add(alloc, b"__STDC__", Kind::Number, b"1")?;
+        table.add(alloc, b"__STDC_VERSION__", Kind::Number, b"201710L")?;
+        table.add(alloc, b"__STDC_HOSTED__", Kind::Number, b"1")?;
+        table.add(alloc, b"__DATE__", Kind::Str, b"\"Jan  1 1970\"")?;
+        table.add(alloc, b"__TIME__", Kind::Str, b"\"00:00:00\"")?;
+        Ok(table)
+    }
+
+    // Defines a name as an object-like macro of one token.
+    fn add(
+        &mut self,
+        alloc: Global,
+        name: &[u8],
+        kind: Kind,
+        spelling: &[u8],
+    ) -> Result<(), AllocError>
+        ensures { OnOk result (self.new ≡ with_definition self.old name.now (one_token kind spelling.now)) }
+    {
+        let name = Bytes::copy_of(alloc, name)?;
+        let definition = one_token_macro(alloc, kind, spelling)?;
+        self.put(name, definition)
+    }
+
+    // Defines a name.
+    fn put(&mut self, name: Bytes, definition: Definition) -> Result<(), AllocError>
+        ensures ok { OnOk result (self.new ≡ with_definition self.old name (Some definition)) }
+        ensures err { OnErr result (self.new ≡ self.old) }
+    {
+        match self.entries.insert(name.into_vec(), Some(definition)) {
+            Ok(_) => Ok(()),
+            Err(_) => Err(AllocError),
+        }
+    }
+
+    /// Defines a name, whether or not it has a definition. After a refusal the table is as before.
+    pub fn define(&mut self, name: Bytes, definition: Definition) -> Result<(), AllocError>
+        ensures ok { OnOk result (Sets self.old name (Some definition) self.new) }
+        ensures err { OnErr result (self.new ≡ self.old) }
+    {
+        self.put(name, definition)
+    }
+
+    /// Takes a name's definition away, if it has one (ISO C 6.10.3.5 paragraph 2).
+    pub fn undef(&mut self, name: &[u8])
+        ensures { Sets self.old name.now None self.new }
+    {
+        if let Some(definition) = self.entries.get_mut(name) {
+            *definition = None;
+        }
+    }
+
+    /// The definition of a name; None exactly where it has none.
+    pub fn get(&self, name: &[u8]) -> Option<&Definition>
+        ensures { MatchOption result (lookup self.now name.now ≡ None) (λ d. lookup self.now name.now ≡ Some d.now) }
+    {
+        match self.entries.get(name) {
+            Some(definition) => definition.as_ref(),
+            None => None,
+        }
+    }
+}
+
+// An object-like macro of one token, written behind white space.
+fn one_token_macro(alloc: Global, kind: Kind, spelling: &[u8]) -> Result<Definition, AllocError>
+    ensures { IfOk result (λ d. Some d ≡ one_token kind spelling.now) }
+{
+    let text = Bytes::copy_of(alloc, spelling)?;
+    let mut body = List::new(alloc);
+    body.push(Token {
+        kind,
+        text,
+        line: 0,
+        space: true,
+    })?;
+    Ok(Definition::new(Shape::Object, body))
+}
