@@ -1,0 +1,204 @@
+-- How a replacement list is read, token by token.
+use Rattle.std.proofs.Common.{◌≡◌, ℕ, ◌+◌, ◌<◌, ◌≤◌, Bool, true, false, ◌&&◌, ◌||◌, List, [], ◌∷◌, ◌++◌, map, length, get_or, drop, add-one, suc, drop-cons, refl, ap, sym, ◌∙◌, subst, Option, Some, None, bytes_eq, codes, if◌then◌else◌, ◌⊎◌, inl, inr, append_assoc, append-nil, drop_of_length-le}
+use Rattle.std.proofs.lemmas.List.{map-append}
+use Rattle.std.proofs.lemmas.Slice.Eq.{bytes_eq-Decides}
+use Rattle.pp_tokens.specs.declared.Token.{Token}
+use Rattle.macro_defs.specs.MacroDefinition.{without_line}
+use Rattle.macro_defs.specs.Marks.{is_punctuator, is_open, is_close, is_comma, is_hash, is_pasting, Mark, Opening, Closing, Comma, Hash, Pasting, NoMark, mark_of}
+use Rattle.macro_expand.specs.declared.replace.Part.{Part as KeptPart}
+use Rattle.macro_expand.specs.Replacement.{Part, Plain, Argument, Spelling, Join, argument_named, parts_after, is_join, is_alone, stands_alone}
+use Rattle.macro_expand.specs.Parts.{operand_part, part_of, object_part, begins_spelling, Marks}
+use Rattle.macro_expand.specs.Seen.{part_seen, parts_seen}
+
+-- the values from an index on are the one there and those behind it
+pub from_here : {A : Type 0} (xs : List A) (i : ℕ) (x : A) → i < length xs → x ≡ get_or xs i x → drop i xs ≡ x ∷ drop (i + 1) xs
+from_here xs i x below is = rw add-one (drop-cons xs i x below ∙ ap (λ y. y ∷ drop (suc i) xs) (sym is))
+
+either_true : (a b : Bool) → (a || b) ≡ true → (a ≡ true) ⊎ (b ≡ true)
+either_true true b h = inl refl
+either_true false b h = inr h
+
+abbrev mark_by : Bool → Bool → Bool → Bool → Bool → Mark
+mark_by o c m h p = if o then Opening else (if c then Closing else (if m then Comma else (if h then Hash else (if p then Pasting else NoMark))))
+
+-- by the spelling of a punctuator
+abbrev mark_at : Bool → List ℕ → Mark
+mark_at q w =
+    mark_by (q && bytes_eq w (codes "(")) (q && bytes_eq w (codes ")")) (q && bytes_eq w (codes ","))
+    ((q && bytes_eq w (codes "#")) || (q && bytes_eq w (codes "%:"))) ((q && bytes_eq w (codes "##")) || (q && bytes_eq w (codes "%:%:")))
+
+hash_at : (q : Bool) (w : List ℕ) → ((q && bytes_eq w (codes "#")) || (q && bytes_eq w (codes "%:"))) ≡ true → mark_at q w ≡ Hash
+hash_at false w h = absurd (cc)
+hash_at true w h =
+    elim (either_true (bytes_eq w (codes "#")) (bytes_eq w (codes "%:")) h) [
+      | inl e ↦ ap (mark_at true) ((bytes_eq-Decides w (codes "#")).0 e)
+      | inr e ↦ ap (mark_at true) ((bytes_eq-Decides w (codes "%:")).0 e)
+    ]
+
+pasting_at : (q : Bool) (w : List ℕ) → ((q && bytes_eq w (codes "##")) || (q && bytes_eq w (codes "%:%:"))) ≡ true → mark_at q w ≡ Pasting
+pasting_at false w h = absurd (cc)
+pasting_at true w h =
+    elim (either_true (bytes_eq w (codes "##")) (bytes_eq w (codes "%:%:")) h) [
+      | inl e ↦ ap (mark_at true) ((bytes_eq-Decides w (codes "##")).0 e)
+      | inr e ↦ ap (mark_at true) ((bytes_eq-Decides w (codes "%:%:")).0 e)
+    ]
+
+pub mark-hash : (t : Token) → is_hash t ≡ true → mark_of t ≡ Hash
+unfolding mark_of
+mark-hash t h = hash_at (is_punctuator t) t.text h
+
+pub mark-pasting : (t : Token) → is_pasting t ≡ true → mark_of t ≡ Pasting
+unfolding mark_of
+mark-pasting t h = pasting_at (is_punctuator t) t.text h
+
+no_pasting : {A : Type 0} (o c m h p : Bool) (x y : A) → p ≡ false →
+    (elim (mark_by o c m h p) as (λ z. A) [ Pasting ↦ x | _ ↦ y ]) ≡ y
+no_pasting true c m h p x y e = refl
+no_pasting false true m h p x y e = refl
+no_pasting false false true h p x y e = refl
+no_pasting false false false true p x y e = refl
+no_pasting false false false false true x y e = absurd (cc)
+no_pasting false false false false false x y e = refl
+
+pub mark-not_pasting : {A : Type 0} (t : Token) (x y : A) → is_pasting t ≡ false → (elim (mark_of t) as (λ z. A) [ Pasting ↦ x | _ ↦ y ]) ≡ y
+unfolding mark_of
+mark-not_pasting t x y e = no_pasting (is_open t) (is_close t) (is_comma t) (is_hash t) (is_pasting t) x y e
+
+no_hash : (o c m h p : Bool) (j y : Part) (x z : List Part) → h ≡ false →
+    (elim (mark_by o c m h p) as (λ u. List Part) [ Pasting ↦ j ∷ z | Hash ↦ x | _ ↦ y ∷ z ])
+    ≡ (elim (mark_by o c m h p) as (λ u. Part) [ Pasting ↦ j | _ ↦ y ]) ∷ z
+no_hash true c m h p j y x z e = refl
+no_hash false true m h p j y x z e = refl
+no_hash false false true h p j y x z e = refl
+no_hash false false false true p j y x z e = absurd (cc)
+no_hash false false false false true j y x z e = refl
+no_hash false false false false false j y x z e = refl
+
+-- One token.
+
+pub object_part-join : (t : Token) → is_pasting t ≡ true → object_part t ≡ Join
+object_part-join t h = ap (λ m. elim m as (λ x. Part) [ Pasting ↦ Join | _ ↦ Plain t ]) (mark-pasting t h)
+
+pub object_part-plain : (t : Token) → is_pasting t ≡ false → object_part t ≡ Plain t
+object_part-plain t h = mark-not_pasting t Join (Plain t) h
+
+pub part_of-join : (names : List (List ℕ)) (t : Token) → is_pasting t ≡ true → part_of None names t ≡ Join
+part_of-join names t h = ap (λ m. elim m as (λ x. Part) [ Pasting ↦ Join | _ ↦ operand_part None t (argument_named names t) ]) (mark-pasting t h)
+
+pub part_of-operand : (names : List (List ℕ)) (t : Token) → is_pasting t ≡ false → part_of None names t ≡ operand_part None t (argument_named names t)
+part_of-operand names t h = mark-not_pasting t Join (operand_part None t (argument_named names t)) h
+
+argument_or : (o : Option ℕ) (t : Token) → (elim o as (λ x. Part) [ None ↦ Plain t | Some i ↦ Argument i t.space ]) ≡ operand_part None t o
+argument_or None t = refl
+argument_or (Some i) t = refl
+
+spelling_or : (o : Option ℕ) (space : Bool) (t : Token) → (elim o as (λ x. Part) [ None ↦ Plain t | Some i ↦ Spelling i space ]) ≡ operand_part (Some space) t o
+spelling_or None space t = refl
+spelling_or (Some i) space t = refl
+
+pub parts_after-hash : (hash : Option Bool) (names : List (List ℕ)) (t : Token) (ts : List Token) → begins_spelling hash t ≡ true →
+    parts_after hash names (t ∷ ts) ≡ parts_after (Some t.space) names ts
+unfolding parts_after
+parts_after-hash None names t ts h =
+    ap (λ m. elim m as (λ x. List Part) [
+      | Pasting ↦ Join ∷ parts_after None names ts
+      | Hash ↦ parts_after (Some t.space) names ts
+      | _ ↦ (elim (argument_named names t) as (λ x. Part) [ None ↦ Plain t | Some i ↦ Argument i t.space ]) ∷ parts_after None names ts
+    ])
+    (mark-hash t h)
+parts_after-hash (Some space) names t ts h = absurd (cc)
+
+pub parts_after-part : (hash : Option Bool) (names : List (List ℕ)) (t : Token) (ts : List Token) → begins_spelling hash t ≡ false →
+    parts_after hash names (t ∷ ts) ≡ part_of hash names t ∷ parts_after None names ts
+unfolding parts_after mark_of
+parts_after-part None names t ts h =
+    no_hash (is_open t) (is_close t) (is_comma t) (is_hash t) (is_pasting t) Join (elim (argument_named names t) as (λ x. Part) [ None ↦ Plain t | Some i ↦ Argument i t.space ])
+    (parts_after (Some t.space) names ts) (parts_after None names ts) h
+    ∙ ap (λ p. (elim (mark_of t) as (λ u. Part) [ Pasting ↦ Join | _ ↦ p ]) ∷ parts_after None names ts) (argument_or (argument_named names t) t)
+parts_after-part (Some space) names t ts h = ap (λ p. p ∷ parts_after None names ts) (spelling_or (argument_named names t) space t)
+
+-- The loop over a list: `parts` were read, and a `#` stands right before the token at `i`, or none.
+module _ (names : List (List ℕ)) (body : List Token) (i : ℕ) (t : Token) (below : i < length body) (is : t ≡ get_or body i t)
+    (hash : Option Bool) (parts : List KeptPart) (whole : List Part)
+    (keeps : parts_seen parts ++ parts_after hash names (map without_line (drop i body)) ≡ whole) where
+  here : parts_seen parts ++ parts_after hash names (without_line t ∷ map without_line (drop (i + 1) body)) ≡ whole
+  here = ap (λ ts. parts_seen parts ++ parts_after hash names (map without_line ts)) (sym (from_here body i t below is)) ∙ keeps
+
+  unlined : (hash : Option Bool) → begins_spelling hash (without_line t) ≡ begins_spelling hash t
+  unlined None = refl
+  unlined (Some space) = refl
+
+  pub read-hash : begins_spelling hash t ≡ true → parts_seen parts ++ parts_after (Some t.space) names (map without_line (drop (i + 1) body)) ≡ whole
+  read-hash h =
+      ap (λ ps. parts_seen parts ++ ps) (sym (parts_after-hash hash names (without_line t) (map without_line (drop (i + 1) body)) (unlined hash ∙ h))) ∙ here
+
+  pub read-part : (p : KeptPart) (next : List KeptPart) → begins_spelling hash t ≡ false → part_seen p ≡ part_of hash names (without_line t) →
+      next ≡ parts ++ p ∷ [] → parts_seen next ++ parts_after None names (map without_line (drop (i + 1) body)) ≡ whole
+  read-part p next h seen made =
+      ap (λ ps. parts_seen ps ++ rest) made
+      ∙ ap (λ ps. ps ++ rest) (map-append part_seen parts (p ∷ []))
+      ∙ append_assoc (parts_seen parts) (part_seen p ∷ []) rest
+      ∙ ap (λ q. parts_seen parts ++ q ∷ rest) seen
+      ∙ ap (λ ps. parts_seen parts ++ ps) (sym (parts_after-part hash names (without_line t) (map without_line (drop (i + 1) body)) (unlined hash ∙ h)))
+      ∙ here
+    where
+      rest : List Part
+      rest = parts_after None names (map without_line (drop (i + 1) body))
+
+pub read-done : (names : List (List ℕ)) (body : List Token) (i : ℕ) (hash : Option Bool) (parts : List Part) (whole : List Part) → length body ≤ i →
+    parts ++ parts_after hash names (map without_line (drop i body)) ≡ whole → parts ≡ whole
+unfolding parts_after
+read-done names body i hash parts whole past keeps =
+    sym (append-nil parts) ∙ ap (λ ts. parts ++ parts_after hash names (map without_line ts)) (sym (drop_of_length-le body past)) ∙ keeps
+
+-- Arguments that stand alone (6.10.3.1).
+
+abbrev pub part_before : Bool → Option Part
+part_before joined = if joined then Some Join else None
+
+-- only whether a `##` stands before counts
+alone-before : (i : ℕ) (p : Part) (joined : Bool) (ps : List Part) → joined ≡ is_join (Some p) → stands_alone i (part_before joined) ps ≡ stands_alone i (Some p) ps
+unfolding stands_alone
+alone-before i p joined [] e = refl
+alone-before i p joined (q ∷ ps) e = ap (λ b. b || stands_alone i (Some q) ps) (same q p joined ps e)
+  where
+    same : (q p : Part) (joined : Bool) (ps : List Part) → joined ≡ is_join (Some p) → is_alone i (part_before joined) q ps ≡ is_alone i (Some p) q ps
+    same (Plain t) p joined ps e = refl
+    same (Argument j space) (Plain t) joined ps e = rw e refl
+    same (Argument j space) (Argument k s) joined ps e = rw e refl
+    same (Argument j space) (Spelling k s) joined ps e = rw e refl
+    same (Argument j space) Join joined ps e = rw e refl
+    same (Spelling j space) p joined ps e = refl
+    same Join p joined ps e = refl
+
+or_both : (a b c : Bool) → ((a || b) || c) ≡ (a || (b || c))
+or_both true b c = refl
+or_both false b c = refl
+
+-- a turn of the loop: one part more, where `seen` are the parts behind it
+pub alone-turn : (old new : List Bool) (count : ℕ) (joined next : Bool) (parts seen : List KeptPart) (k : ℕ) (p : KeptPart) (whole : ℕ → Bool) →
+    k < length parts → p ≡ get_or parts k p → seen ≡ drop (k + 1) parts → next ≡ is_join (Some (part_seen p)) → length old ≡ count →
+    Marks old new joined (part_seen p) (parts_seen seen) →
+    ((i : ℕ) → i < count → (get_or old i false || stands_alone i (part_before joined) (parts_seen (drop k parts))) ≡ whole i) →
+    (i : ℕ) → i < count → (get_or new i false || stands_alone i (part_before next) (parts_seen (drop (k + 1) parts))) ≡ whole i
+unfolding stands_alone
+alone-turn old new count joined next parts seen k p whole here is behind after same marks keeps i below =
+    ap (λ ps. get_or new i false || stands_alone i (part_before next) (parts_seen ps)) (sym behind)
+    ∙ ap (λ b. get_or new i false || b) (alone-before i (part_seen p) next (parts_seen seen) after)
+    ∙ ap (λ b. b || stands_alone i (Some (part_seen p)) (parts_seen seen)) (marks.1 i (subst (λ n. i < n) (sym same) below))
+    ∙ or_both (get_or old i false) (is_alone i (part_before joined) (part_seen p) (parts_seen seen)) (stands_alone i (Some (part_seen p)) (parts_seen seen))
+    ∙ ap (λ ps. get_or old i false || stands_alone i (part_before joined) (parts_seen ps)) (ap (λ ps. p ∷ ps) behind ∙ sym (from_here parts k p here is))
+    ∙ keeps i below
+
+or_nothing : (b : Bool) → (b || false) ≡ b
+or_nothing true = refl
+or_nothing false = refl
+
+pub alone-done : (alone : List Bool) (count : ℕ) (left : Option Part) (parts : List KeptPart) (k : ℕ) (whole : ℕ → Bool) → length parts ≤ k →
+    ((i : ℕ) → i < count → (get_or alone i false || stands_alone i left (parts_seen (drop k parts))) ≡ whole i) →
+    (i : ℕ) → i < count → get_or alone i false ≡ whole i
+unfolding stands_alone
+alone-done alone count left parts k whole past keeps i below =
+    sym (or_nothing (get_or alone i false))
+    ∙ ap (λ ps. get_or alone i false || stands_alone i left (parts_seen ps)) (sym (drop_of_length-le parts past))
+    ∙ keeps i below

@@ -1,0 +1,101 @@
+-- How a replacement's pieces are made, part by part, and joined.
+use Rattle.std.proofs.Common.{◌≡◌, ℕ, Vec, Global, IfOk, IfErr, ◌+◌, ◌<◌, ◌≤◌, List, [], ◌++◌, map, length, get_or, drop, ap, sym, ◌∙◌, subst, Option, Some, None, Result, Ok, Err, drop_of_length-le, ◌&&◌, ◌||◌, bytes_eq, false}
+use mathlib.Core.Path.{fun_ext}
+use Rattle.pp_tokens.specs.declared.Token.{Token}
+use Rattle.macro_expand.specs.declared.marked.Marked.{Marked as Kept}
+use Rattle.macro_expand.specs.declared.replace.Part.{Part as KeptPart}
+use Rattle.macro_expand.specs.declared.outcome.RunError.{RunError}
+use Rattle.macro_expand.specs.declared.outcome.RunError.TheVariants.{Count as CountError, Unclosed as UnclosedError, Paste as PasteError, Deep as DeepError, Work as WorkError, Presumed as PresumedError, Memory}
+use Rattle.macro_expand.specs.Asking.{Failure, Paste}
+use Rattle.macro_expand.specs.Replacement.{Marked, Names, with_name, common_names, Part, Piece, Arguments, pieces_of_part, pieces_of, joined, put_in_for, replacement, object_parts}
+use Rattle.macro_expand.specs.Expansion.{object_replacement, call_replacement}
+use Rattle.macro_expand.specs.Sets.{names_in}
+use Rattle.macro_expand.specs.Seen.{part_seen, parts_seen, marked_of, call_replaced_by, Reports, ReportsPaste}
+use Rattle.macro_expand.proofs.PartLemmas.{from_here}
+use Rattle.macro_expand.proofs.StringLemmas.{grows, nothing_left}
+
+-- a turn of the loop: one part more, where `seen` are the parts behind it
+pub pieces-turn : (args : Arguments) (parts seen : List KeptPart) (k : ℕ) (p : KeptPart) (left : Option Part) (out next whole : List Piece) →
+    k < length parts → p ≡ get_or parts k p → seen ≡ drop (k + 1) parts → next ≡ out ++ pieces_of_part args left (part_seen p) (parts_seen seen) →
+    out ++ pieces_of args left (parts_seen (drop k parts)) ≡ whole →
+    next ++ pieces_of args (Some (part_seen p)) (parts_seen (drop (k + 1) parts)) ≡ whole
+unfolding pieces_of
+pieces-turn args parts seen k p left out next whole below is behind made keeps =
+    grows out next (pieces_of_part args left (part_seen p) (parts_seen seen)) (pieces_of args left (parts_seen (drop k parts)))
+    (pieces_of args (Some (part_seen p)) (parts_seen (drop (k + 1) parts))) whole made
+    (ap (λ ps. pieces_of args left (parts_seen ps)) (from_here parts k p below is)
+    ∙ ap (λ ps. pieces_of_part args left (part_seen p) (parts_seen ps) ++ pieces_of args (Some (part_seen p)) (parts_seen (drop (k + 1) parts))) (sym behind))
+    keeps
+
+pub pieces-done : (args : Arguments) (parts : List KeptPart) (k : ℕ) (left : Option Part) (out whole : List Piece) → length parts ≤ k →
+    out ++ pieces_of args left (parts_seen (drop k parts)) ≡ whole → out ≡ whole
+unfolding pieces_of
+pieces-done args parts k left out whole past keeps =
+    nothing_left out (pieces_of args left (parts_seen (drop k parts))) whole
+    (ap (λ ps. pieces_of args left (parts_seen ps)) (drop_of_length-le parts past)) keeps
+
+-- The whole replacement.
+
+abbrev Joined : Type 0
+Joined = Result (List Marked) (List ℕ × List ℕ)
+
+abbrev put_in : Token → Names → Joined → Result (List Marked) Failure
+put_in t hidden r = elim r as (λ x. Result (List Marked) Failure) [ Ok ts ↦ Ok (put_in_for t hidden ts) | Err pair ↦ Err (Paste pair.0 pair.1 t.line) ]
+
+module _ (t : Token) (hidden : Names) (parts : List Part) (args : Arguments) (pieces : List Piece) (same : pieces ≡ pieces_of args None parts) where
+  here : replacement t hidden parts args ≡ put_in t hidden (joined None false pieces)
+  unfolding replacement
+  here = ap (λ ps. put_in t hidden (joined None false ps)) (sym same)
+
+  pub replacement-made : (made out : List Marked) → joined None false pieces ≡ Ok made → out ≡ put_in_for t hidden made → replacement t hidden parts args ≡ Ok out
+  replacement-made made out is put = here ∙ ap (put_in t hidden) is ∙ ap Ok (sym put)
+
+  pub replacement-fails : (e : RunError) → ReportsPaste e t.line (joined None false pieces) → Reports e (replacement t hidden parts args)
+  replacement-fails (CountError name at) r = absurd r
+  replacement-fails (UnclosedError name at) r = absurd r
+  replacement-fails (PasteError a b at) r = here ∙ ap (put_in t hidden) r.1 ∙ ap (λ l. Err (Paste a b l)) (sym r.0)
+  replacement-fails (DeepError at) r = absurd r
+  replacement-fails WorkError r = absurd r
+  replacement-fails PresumedError r = absurd r
+  replacement-fails Memory r = tt
+
+-- what a name is replaced by, by a hide set that code keeps
+
+pub object-same : (t : Kept) (body : List Token) (hidden : List (List ℕ)) (parts : List Part) →
+    ((n : List ℕ) → names_in hidden n ≡ (bytes_eq n t.token.text || names_in t.hidden n)) → parts ≡ object_parts body →
+    replacement t.token (names_in hidden) parts (record { written = []; expanded = []; variable = None }) ≡ object_replacement (marked_of t) body
+unfolding object_replacement
+object-same t body hidden parts h same =
+    ap (λ (names : Names). replacement t.token names parts (record { written = []; expanded = []; variable = None })) (fun_ext h)
+    ∙ ap (λ ps. replacement t.token (with_name t.token.text (names_in t.hidden)) ps (record { written = []; expanded = []; variable = None })) same
+
+pub call-same : (t close : Kept) (parts : List Part) (variable : Option ℕ) (written expanded : List (List Marked)) (hidden : List (List ℕ)) →
+    ((n : List ℕ) → names_in hidden n ≡ with_name t.token.text (common_names (names_in t.hidden) (names_in close.hidden)) n) →
+    replacement t.token (names_in hidden) parts (record { written = written; expanded = expanded; variable = variable })
+    ≡ call_replaced_by t parts variable written (marked_of close) expanded
+unfolding call_replacement
+call-same t close parts variable written expanded hidden h =
+    ap (λ (names : Names). replacement t.token names parts (record { written = written; expanded = expanded; variable = variable })) (fun_ext h)
+
+-- an error that reports a result reports one that is the same
+pub Reports-same : {A : Type 0} (e : RunError) (r s : Result A Failure) → r ≡ s → Reports e r → Reports e s
+Reports-same {A = A} e r s same h = let P : Result A Failure → Type 0 = λ x. Reports e x in subst P same h
+
+-- the same of the two clauses of a call
+pub ok-same : (r : Result (Vec Kept Global) RunError) (a b : Result (List Marked) Failure) → a ≡ b →
+    IfOk r (λ ts. a ≡ Ok (map marked_of ts.items)) → IfOk r (λ ts. b ≡ Ok (map marked_of ts.items))
+ok-same (Ok ts) a b same h = sym same ∙ h
+ok-same (Err e) a b same h = h
+
+pub err-same : (r : Result (Vec Kept Global) RunError) (a b : Result (List Marked) Failure) → a ≡ b →
+    IfErr r (λ e. Reports e a) → IfErr r (λ e. Reports e b)
+err-same (Ok ts) a b same h = h
+err-same (Err e) a b same h = Reports-same e a b same h
+
+-- the name itself beside what both hide
+pub call-hides : {E : Type 0} (r : Result (List (List ℕ)) E) (name text : List ℕ) (t close : Names) (both : List (List ℕ)) → name ≡ text →
+    ((n : List ℕ) → names_in both n ≡ (t n && close n)) →
+    IfOk r (λ h. (n : List ℕ) → names_in h n ≡ (bytes_eq n name || names_in both n)) →
+    IfOk r (λ h. (n : List ℕ) → names_in h n ≡ with_name text (common_names t close) n)
+call-hides (Ok h) name text t close both same common with = λ n. with n ∙ ap (λ w. bytes_eq n w || names_in both n) same ∙ ap (λ b. bytes_eq n text || b) (common n)
+call-hides (Err e) name text t close both same common with = with

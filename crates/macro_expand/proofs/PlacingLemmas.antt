@@ -1,0 +1,48 @@
+-- How the tokens of a replacement are put in.
+use Rattle.std.proofs.Common.{◌≡◌, ℕ, ◌+◌, ◌<◌, ◌||◌, List, [], ◌∷◌, ◌++◌, map, length, get_or, take, drop, suc, add-one, drop-cons, arith, ap, sym, ◌∙◌, subst}
+use Rattle.std.proofs.Math.ListN.{set, length-set}
+use Rattle.std.proofs.lemmas.List.{map-append, take_more, take_more_set, drop-set-lt}
+use mathlib.Core.Path.{fun_ext}
+use Rattle.pp_tokens.specs.declared.Token.{Token}
+use Rattle.macro_expand.specs.Replacement.{Marked, Names}
+use Rattle.macro_expand.specs.Sets.{names_in}
+use Rattle.macro_expand.specs.Placing.{placed}
+
+pub placed-hidden : (t : Token) (hidden : Names) (m : Marked) (all : List (List ℕ)) →
+    ((n : List ℕ) → names_in all n ≡ (m.hidden n || hidden n)) →
+    (let r : Marked = record { token = record m.token { line = t.line }; hidden = names_in all } in r) ≡ placed t hidden m
+placed-hidden t hidden m all same = ap (λ (h : Names). let r : Marked = record { token = record m.token { line = t.line }; hidden = h } in r) (fun_ext same)
+
+-- A loop over a list in place: what was placed so far, and what is left, which is as it was.
+module _ {A B : Type 0} (see : A → B) (place : B → B) (xs ys : List A) (i : ℕ) where
+  pub place-turn : (x x' : A) → i < length xs → length xs ≡ length ys → x ≡ get_or xs i x → see x' ≡ place (see x) →
+      map see (take i xs) ≡ map place (map see (take i ys)) → drop i xs ≡ drop i ys →
+      map see (take (i + 1) (set xs i x')) ≡ map place (map see (take (i + 1) ys))
+  place-turn x x' below same is placed done left =
+      ap (map see) (take_more_set xs i x' below)
+      ∙ map-append see (take i xs) (x' ∷ [])
+      ∙ ap (λ b. map see (take i xs) ++ b ∷ []) placed
+      ∙ ap (λ bs. bs ++ place (see x) ∷ []) done
+      ∙ sym (ap (map place) (map-append see (take i ys) (x ∷ [])) ∙ map-append place (map see (take i ys)) (see x ∷ []))
+      ∙ ap (λ z. map place (map see (take i ys ++ z ∷ []))) here
+      ∙ ap (λ zs. map place (map see zs)) (sym (take_more ys i x (subst (λ n. i < n) same below)))
+    where
+      here : x ≡ get_or ys i x
+      here =
+          let a : drop i xs ≡ get_or xs i x ∷ drop (suc i) xs = drop-cons xs i x below in
+          let b : drop i ys ≡ get_or ys i x ∷ drop (suc i) ys = drop-cons ys i x (subst (λ n. i < n) same below) in
+          cc
+
+  pub place-left : (x' : A) → drop i xs ≡ drop i ys → i < length xs → length xs ≡ length ys → drop (i + 1) (set xs i x') ≡ drop (i + 1) ys
+  place-left x' left below same =
+      let lt : i < i + 1 = omega arith in
+      drop-set-lt (i + 1) xs i x' lt ∙ tails
+    where
+      tails : drop (i + 1) xs ≡ drop (i + 1) ys
+      tails =
+          let a : drop i xs ≡ get_or xs i x' ∷ drop (i + 1) xs = rw add-one (drop-cons xs i x' below) in
+          let b : drop i ys ≡ get_or ys i x' ∷ drop (i + 1) ys = rw add-one (drop-cons ys i x' (subst (λ n. i < n) same below)) in
+          cc
+
+pub place-same : {A : Type 0} (xs ys : List A) (i : ℕ) (x : A) → length xs ≡ length ys → length (set xs i x) ≡ length ys
+place-same xs ys i x same = length-set xs i x ∙ same

@@ -1,0 +1,151 @@
+-- What a complete run is, by rules; each is the run of its own list, and more definitions never take its end away.
+use Rattle.std.proofs.Common.{◌≡◌, ℕ, zero, suc, List, [], ◌∷◌, ◌++◌, map, refl, ap, sym, ◌∙◌, subst, Option, Some, None, arith, inl, inr, ◌⊎◌}
+use Rattle.std.specs.List.{flat_map, Contains}
+use Rattle.std.proofs.lemmas.List.Elements.{Contains-append_cases}
+use Rattle.macro_defs.specs.MacroDefinition.{MacroDefinition}
+use Rattle.macro_expand.specs.Asking.{Asking, give, fail, ask_definition, ask_file, ask_line}
+use Rattle.macro_expand.specs.Choice.{Sets, IsPart, Choice, Gave, Failed, Presumed, Run, after_choice, ended, runs_of, complete_runs, Started, run_by}
+use Rattle.macro_expand.proofs.ChoiceLaws.{IsAllowed, contains_first, contains_later, contains_map, contains_flat_map, allowed_choice}
+
+pub contains_map_from : {A B : Type 0} (f : A → B) (xs : List A) (y : B) → Contains (map f xs) y → (x : A) × (Contains xs x) × (f x ≡ y)
+contains_map_from f [] y (k, below, is) = absurd (omega arith)
+contains_map_from f (x ∷ xs) y (zero, below, is) = (x, contains_first x xs, is)
+contains_map_from f (x ∷ xs) y (suc k, below, is) =
+    let h = contains_map_from f xs y (k, omega arith, is) in (h.0, contains_later h.0 x xs h.1, h.2)
+
+pub contains_flat_map_from : {A B : Type 0} (f : A → List B) (xs : List A) (y : B) → Contains (flat_map f xs) y →
+    (x : A) × (Contains xs x) × (Contains (f x) y)
+contains_flat_map_from f [] y (k, below, is) = absurd (omega arith)
+contains_flat_map_from f (x ∷ xs) y h = go (Contains-append_cases (f x) (flat_map f xs) y h) (contains_flat_map_from f xs y)
+  where
+    go : (Contains (f x) y ⊎ Contains (flat_map f xs) y) →
+        (Contains (flat_map f xs) y → (z : _) × (Contains xs z) × (Contains (f z) y)) → (z : _) × (Contains (x ∷ xs) z) × (Contains (f z) y)
+    go (inl k) ih = (x, contains_first x xs, k)
+    go (inr k) ih = let r = ih k in (r.0, contains_later r.0 x xs r.1, r.2)
+
+-- a run where a name is left or replaced by one of these
+abbrev pub IsRunOf : {A : Type 0} → (Choice → Run A → Type 0) → List MacroDefinition → Run A → Type 0
+IsRunOf P [] r = P None r
+IsRunOf {A} P (d ∷ ds) r = (c : Choice) × (s : Run A) × (IsAllowed (d ∷ ds) c) × (P c s) × (after_choice c s ≡ r)
+
+-- a complete run of a tree
+abbrev pub IsRun : {A : Type 0} → Sets → Option (List ℕ) → Asking A → Run A → Type 0
+IsRun sets file (give x) r = ended (Gave x) ≡ r
+IsRun sets file (fail e) r = ended (Failed e) ≡ r
+IsRun sets file (ask_definition name next) r = IsRunOf (λ c s. IsRun sets file (next c) s) (sets name) r
+IsRun sets file (ask_file next) r = elim file [ None ↦ ended Presumed ≡ r | Some name ↦ IsRun sets file (next name) r ]
+IsRun sets file (ask_line line next) r = ended Presumed ≡ r
+
+contains_one : {A : Type 0} (x y : A) → Contains (x ∷ []) y → x ≡ y
+contains_one x y (zero, below, is) = is
+contains_one x y (suc k, below, is) = absurd (omega arith)
+
+pub choice_allowed : (ds : List MacroDefinition) (c : Choice) → Contains (None ∷ map Some ds) c → IsAllowed ds c
+choice_allowed ds None h = tt
+choice_allowed ds (Some d) (zero, below, is) = absurd (cc)
+choice_allowed ds (Some d) (suc k, below, is) =
+    let h = contains_map_from (λ (e : MacroDefinition). Some e) ds (Some d) (k, omega arith, is) in
+    let e : h.0 ≡ d = (cc h.2) in subst (λ w. Contains ds w) e h.1
+
+runs_of-is : {A : Type 0} (f : Choice → List (Run A)) (P : Choice → Run A → Type 0) (ds : List MacroDefinition) (r : Run A) →
+    ((c : Choice) (s : Run A) → Contains (f c) s → P c s) → Contains (runs_of f ds) r → IsRunOf P ds r
+runs_of-is f P [] r h k = h None r k
+runs_of-is f P (d ∷ ds) r h k =
+    let one = contains_flat_map_from (λ c. map (after_choice c) (f c)) (None ∷ map Some (d ∷ ds)) r k in
+    let made = contains_map_from (after_choice one.0) (f one.0) r one.2 in
+    (one.0, made.0, choice_allowed (d ∷ ds) one.0 one.1, h one.0 made.0 made.1, made.2)
+
+-- the enumeration has only complete runs
+pub complete_runs-are : {A : Type 0} (sets : Sets) (file : Option (List ℕ)) (t : Asking A) (r : Run A) →
+    Contains (complete_runs sets file t) r → IsRun sets file t r
+unfolding complete_runs
+complete_runs-are sets file (give x) r k = contains_one _ r k
+complete_runs-are sets file (fail e) r k = contains_one _ r k
+complete_runs-are sets file (ask_definition name next) r k =
+    runs_of-is (λ c. complete_runs sets file (next c)) (λ c s. IsRun sets file (next c) s) (sets name) r
+    (λ c s h. complete_runs-are sets file (next c) s h) k
+complete_runs-are sets None (ask_file next) r k = contains_one _ r k
+complete_runs-are sets (Some name) (ask_file next) r k = complete_runs-are sets (Some name) (next name) r k
+complete_runs-are sets file (ask_line line next) r k = contains_one _ r k
+
+runs_of-all : {A : Type 0} (f : Choice → List (Run A)) (P : Choice → Run A → Type 0) (ds : List MacroDefinition) (r : Run A) →
+    ((c : Choice) (s : Run A) → P c s → Contains (f c) s) → IsRunOf P ds r → Contains (runs_of f ds) r
+runs_of-all f P [] r h k = h None r k
+runs_of-all f P (d ∷ ds) r h (c, s, allowed, run, is) =
+    subst (Contains (runs_of f (d ∷ ds))) is
+    (contains_flat_map (λ c. map (after_choice c) (f c)) (None ∷ map Some (d ∷ ds)) c (after_choice c s) (allowed_choice d ds c allowed)
+    (contains_map (after_choice c) (f c) s (h c s run)))
+
+-- and it has all of them
+pub complete_runs-all : {A : Type 0} (sets : Sets) (file : Option (List ℕ)) (t : Asking A) (r : Run A) →
+    IsRun sets file t r → Contains (complete_runs sets file t) r
+unfolding complete_runs
+complete_runs-all sets file (give x) r k = (0, omega arith, k)
+complete_runs-all sets file (fail e) r k = (0, omega arith, k)
+complete_runs-all sets file (ask_definition name next) r k =
+    runs_of-all (λ c. complete_runs sets file (next c)) (λ c s. IsRun sets file (next c) s) (sets name) r
+    (λ c s h. complete_runs-all sets file (next c) s h) k
+complete_runs-all sets None (ask_file next) r k = (0, omega arith, k)
+complete_runs-all sets (Some name) (ask_file next) r k = complete_runs-all sets (Some name) (next name) r k
+complete_runs-all sets file (ask_line line next) r k = (0, omega arith, k)
+
+-- a complete run is the run of its own list of choices, which it uses up exactly
+pub complete_run-used : {A : Type 0} (sets : Sets) (file : Option (List ℕ)) (t : Asking A) (r : Run A) (more : List Choice) →
+    IsRun sets file t r → run_by sets file (r.choices ++ more) t ≡ Some (record { ending = r.ending; unused = more })
+unfolding run_by
+complete_run-used sets file (give x) r more h = ap (λ (s : Run _). run_by sets file (s.choices ++ more) (give x)) (sym h) ∙ ap (λ (s : Run _). Some (record { ending = s.ending; unused = more })) h
+complete_run-used sets file (fail e) r more h = ap (λ (s : Run _). run_by sets file (s.choices ++ more) (fail e)) (sym h) ∙ ap (λ (s : Run _). Some (record { ending = s.ending; unused = more })) h
+complete_run-used {A = A} sets file (ask_definition name next) r more h = go (sets name) h (λ c s. complete_run-used sets file (next c) s more)
+  where
+    go : (ds : List MacroDefinition) → IsRunOf (λ c s. IsRun sets file (next c) s) ds r →
+        ((c : Choice) (s : Run A) → IsRun sets file (next c) s → run_by sets file (s.choices ++ more) (next c) ≡ Some (record { ending = s.ending; unused = more })) →
+        ◌≡◌ {A = Option (Started A)} (elim ds [
+          | [] ↦ run_by sets file (r.choices ++ more) (next None)
+          | d ∷ ds ↦ elim (r.choices ++ more) [ [] ↦ None | c ∷ cs ↦ run_by sets file cs (next c) ]
+        ])
+        (Some (record { ending = r.ending; unused = more }))
+    go [] h ih = ih None r h
+    go (d ∷ ds) (c, s, allowed, run, is) ih =
+        ap (λ (w : Run A). elim (w.choices ++ more) [ [] ↦ None | c ∷ cs ↦ run_by sets file cs (next c) ]) (sym is)
+        ∙ ih c s run ∙ ap (λ (w : Run A). Some (record { ending = w.ending; unused = more })) is
+complete_run-used sets None (ask_file next) r more h = ap (λ (s : Run _). run_by sets None (s.choices ++ more) (ask_file next)) (sym h) ∙ ap (λ (s : Run _). Some (record { ending = s.ending; unused = more })) h
+complete_run-used sets (Some name) (ask_file next) r more h = complete_run-used sets (Some name) (next name) r more h
+complete_run-used sets file (ask_line line next) r more h = ap (λ (s : Run _). run_by sets file (s.choices ++ more) (ask_line line next)) (sym h) ∙ ap (λ (s : Run _). Some (record { ending = s.ending; unused = more })) h
+
+-- more definitions never take a run's end away
+more_definitions : {A : Type 0} (sets other : Sets) → ((n : List ℕ) (d : MacroDefinition) → Contains (sets n) d → Contains (other n) d) →
+    (file : Option (List ℕ)) (t : Asking A) (r : Run A) → IsRun sets file t r → (s : Run A) × (IsRun other file t s) × (s.ending ≡ r.ending)
+more_definitions sets other within file (give x) r h = (r, h, refl)
+more_definitions sets other within file (fail e) r h = (r, h, refl)
+more_definitions sets other within file (ask_definition name next) r h =
+    go (sets name) (other name) (within name) h (λ c s. more_definitions sets other within file (next c) s)
+  where
+    put : (es : List MacroDefinition) (c : Choice) (s : Run _) → IsAllowed es c → IsRun other file (next c) s →
+        (q : Run _) × (IsRunOf (λ c s. IsRun other file (next c) s) es q) × (q.ending ≡ s.ending)
+    put [] None s a h = (s, h, refl)
+    put [] (Some d) s (k, below, is) h = absurd (omega arith)
+    put (e ∷ es) c s a h = (after_choice c s, (c, s, a, h, refl), refl)
+
+    wider : (ds es : List MacroDefinition) (c : Choice) → ((d : MacroDefinition) → Contains ds d → Contains es d) → IsAllowed ds c → IsAllowed es c
+    wider ds es None w a = tt
+    wider ds es (Some d) w a = w d a
+
+    go : (ds es : List MacroDefinition) → ((d : MacroDefinition) → Contains ds d → Contains es d) →
+        IsRunOf (λ c s. IsRun sets file (next c) s) ds r →
+        ((c : Choice) (s : Run _) → IsRun sets file (next c) s → (q : Run _) × (IsRun other file (next c) q) × (q.ending ≡ s.ending)) →
+        (q : Run _) × (IsRunOf (λ c s. IsRun other file (next c) s) es q) × (q.ending ≡ r.ending)
+    go [] es w h ih = let q = ih None r h in let p = put es None q.0 tt q.1 in (p.0, p.1, p.2 ∙ q.2)
+    go (d ∷ ds) es w (c, s, allowed, run, is) ih =
+        let q = ih c s run in
+        let p = put es c q.0 (wider (d ∷ ds) es c w allowed) q.1 in
+        (p.0, p.1, p.2 ∙ q.2 ∙ ap (λ (w : Run _). w.ending) is)
+more_definitions sets other within None (ask_file next) r h = (r, h, refl)
+more_definitions sets other within (Some name) (ask_file next) r h = more_definitions sets other within (Some name) (next name) r h
+more_definitions sets other within file (ask_line line next) r h = (r, h, refl)
+
+-- the same of the enumerations
+pub more_runs : {A : Type 0} (sets other : Sets) (file : Option (List ℕ)) (t : Asking A) (r : Run A) → IsPart sets other →
+    Contains (complete_runs sets file t) r → (s : Run A) × (Contains (complete_runs other file t) s) × (s.ending ≡ r.ending)
+more_runs sets other file t r part k =
+    let m = more_definitions sets other part file t r (complete_runs-are sets file t r k) in
+    (m.0, complete_runs-all other file t m.0 m.1, m.2)

@@ -1,0 +1,40 @@
+use Rattle.std.proofs.Common.{◌≡◌, ◌+◌, ◌-◌, ◌*◌, ◌≤◌, map, drop, deque_len}
+use Rattle.macro_expand.specs.Answered.{before, expanded_for, arguments_for}
+use Rattle.macro_expand.specs.Seen.{marked_of, lists_of, parts_seen}
+use Rattle.macro_expand.proofs.AnsweredLaws.{before_all}
+use Rattle.macro_expand.proofs.expansion.+expanding.Given as goal
+
+-- an argument is expanded one deeper, and at most 400 deep
+abbrev pub decreases-expand_list : goal.decreases-expand_list
+decreases-expand_list g l = 5 * (400 - l.depth) + 4
+
+abbrev pub decreases-expand_head : goal.decreases-expand_head
+decreases-expand_head g l = 5 * (400 - l.depth) + 3
+
+abbrev pub decreases-expand_name : goal.decreases-expand_name
+decreases-expand_name g l = 5 * (400 - l.depth) + 2
+
+abbrev pub decreases-replace_name : goal.decreases-replace_name
+decreases-replace_name g l = 5 * (400 - l.depth) + 1
+
+abbrev pub decreases-expand_arguments : goal.decreases-expand_arguments
+decreases-expand_arguments g l = 5 * (400 - l.depth)
+
+-- the arguments expanded so far, before what the others become with the work that is left
+abbrev pub invariant-expand_arguments-loop-i : goal.invariant-expand_arguments-loop-i
+invariant-expand_arguments-loop-i g l =
+    (arguments_for (g.A.Answers.answerer l.source) l.initial.answers l.mode l.depth l.t.token (parts_seen l.parts) 0 l.initial.work.left (lists_of l.written)
+    ≡ before_all (lists_of l.out.items)
+    (arguments_for (g.A.Answers.answerer l.source) l.answers l.mode l.depth l.t.token (parts_seen l.parts) l.i l.work.left (lists_of (drop l.i l.written))))
+    × (l.work.left ≤ l.initial.work.left)
+
+-- the tokens put out so far, before what the pending tokens become with the work that is left
+abbrev pub invariant-expand_list-loop-t : goal.invariant-expand_list-loop-t
+invariant-expand_list-loop-t g l =
+    (expanded_for (g.A.Answers.answerer l.source) l.initial.answers l.mode l.depth l.initial.work.left (map marked_of l.initial.pending.items)
+    ≡ before (map marked_of l.out.items)
+    (expanded_for (g.A.Answers.answerer l.source) l.answers l.mode l.depth l.work.left (map marked_of l.pending.items)))
+    × (l.work.left ≤ l.initial.work.left)
+
+abbrev pub decreases-expand_list-loop-t : goal.decreases-expand_list-loop-t
+decreases-expand_list-loop-t g l = l.work.left + deque_len l.pending

@@ -1,0 +1,18 @@
+use Rattle.std.proofs.Common.{◌<◌, ◌∙◌, length, arith, ap, sym}
+use Rattle.macro_expand.specs.Sets.{names_in}
+use Rattle.macro_expand.specs.Placing.{placed}
+use Rattle.macro_expand.specs.Seen.{marked_of}
+use Rattle.macro_expand.proofs.PlacingLemmas.{place-turn, place-left, place-same}
+use Rattle.macro_expand.proofs.placing.put_in_for.Goals as goal
+
+pub loop-m-preserved : goal.loop-m-preserved
+loop-m-preserved c =
+    let below : c.loop-m.m-index < length c.loop-m.m-items = omega (arith, c.loop-m.invariant.same) in
+    record {
+      same = place-same c.loop-m.m-items c.deref_mut-m-items.result.now c.loop-m.m-index c.place.new.m c.loop-m.invariant.same;
+      done = place-turn marked_of (placed c.args.t.now (names_in c.args.hidden.now)) c.loop-m.m-items c.deref_mut-m-items.result.now c.loop-m.m-index
+          c.m-item.result c.place.new.m below c.loop-m.invariant.same c.m-item.is
+          (c.in_ok-place.ensures ∙ ap (λ m. placed c.args.t.now (names_in c.args.hidden.now) (marked_of m)) (sym c.m-item.is)) c.loop-m.invariant.done c.loop-m.invariant.left;
+      left = place-left marked_of (placed c.args.t.now (names_in c.args.hidden.now)) c.loop-m.m-items c.deref_mut-m-items.result.now c.loop-m.m-index
+          c.place.new.m c.loop-m.invariant.left below c.loop-m.invariant.same;
+    }

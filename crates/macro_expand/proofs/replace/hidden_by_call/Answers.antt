@@ -1,0 +1,8 @@
+use Rattle.macro_expand.specs.Sets.{names_in}
+use Rattle.macro_expand.proofs.PieceLemmas.{call-hides}
+use Rattle.macro_expand.proofs.replace.hidden_by_call.Goals as goal
+
+pub returns : goal.returns
+returns c =
+    call-hides c.with.result c.as_slice.result.now c.args.t.now.token.text (names_in c.args.t.now.hidden) (names_in c.args.close.now.hidden)
+    c.in_ok-common.common c.as_slice.ensures c.in_ok-common.ensures c.with.ensures

@@ -1,0 +1,32 @@
+-- What one token of a replacement list stands for (6.10.3.1 to 6.10.3.3), as code reads it.
+use Rattle.std.specs.Prelude.{◌≡◌, ◌<◌, ℕ, Bool, false, ◌||◌, List, length, get_or, Option, Some, None, if◌then◌else◌}
+use Rattle.pp_tokens.specs.declared.Token.{Token}
+use Rattle.macro_defs.specs.Marks.{Pasting, mark_of, is_hash}
+use Rattle.macro_expand.specs.Replacement.{Part, Plain, Argument, Spelling, Join, argument_named, is_alone}
+
+-- a token that is no join, nor a `#` that begins a spelling
+abbrev pub operand_part : Option Bool → Token → Option ℕ → Part
+operand_part hash t None = Plain t
+operand_part (Some space) t (Some i) = Spelling i space
+operand_part None t (Some i) = Argument i t.space
+
+-- a token that is no `#` (6.10.3.2, 6.10.3.3); `hash` is the space of one that stands right before
+abbrev pub part_of : Option Bool → List (List ℕ) → Token → Part
+part_of (Some space) names t = operand_part (Some space) t (argument_named names t)
+part_of None names t = elim (mark_of t) [ Pasting ↦ Join | _ ↦ operand_part None t (argument_named names t) ]
+
+-- whether a token is a `#` that no other stands right before (6.10.3.2)
+abbrev pub begins_spelling : Option Bool → Token → Bool
+begins_spelling None t = is_hash t
+begins_spelling (Some space) t = false
+
+-- a token of an object-like macro's list, where only `##` is special (6.10.3.3)
+abbrev pub object_part : Token → Part
+object_part t = elim (mark_of t) [ Pasting ↦ Join | _ ↦ Plain t ]
+
+-- the arguments that are known to stand alone, with one more: the argument that this part is, beside no `##` (6.10.3.1)
+abbrev pub Marks : List Bool → List Bool → Bool → Part → List Part → Type 0
+Marks old new joined p right =
+    (length new ≡ length old)
+    × ((i : ℕ) → i < length old →
+    get_or new i false ≡ (get_or old i false || is_alone i (if joined then Some Join else None) p right))

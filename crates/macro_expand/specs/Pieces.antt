@@ -1,0 +1,19 @@
+-- What code's values mean where a replacement's pieces are made.
+use Rattle.std.specs.Prelude.{Bool, true, false, List}
+use Rattle.macro_expand.specs.declared.pieces.Arguments.{Arguments as KeptArguments}
+use Rattle.macro_expand.specs.Replacement.{Marked, Arguments, with_space}
+use Rattle.macro_expand.specs.Seen.{lists_of}
+
+-- the arguments of a call that code keeps
+abbrev pub arguments_seen : KeptArguments → Arguments
+arguments_seen a = record { written = lists_of a.written.now; expanded = lists_of a.expanded.now; variable = a.variable }
+
+-- the tokens that are left of an argument, the first of which still gets the parameter's space
+abbrev pub spaced_from : Bool → Bool → List Marked → List Marked
+spaced_from true space ts = with_space space ts
+spaced_from false space ts = ts
+
+-- a token, which gets this space where it is the first
+abbrev pub spaced_at : Bool → Bool → Marked → Marked
+spaced_at true space t = record t { token = record t.token { space = space } }
+spaced_at false space t = t

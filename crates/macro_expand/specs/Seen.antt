@@ -1,0 +1,143 @@
+-- What code's values mean: tables, places, marked tokens and errors.
+use Rattle.std.specs.Prelude.{◌≡◌, ℕ, Bool, Vec, List, [], ◌∷◌, map, Option, Some, None, Result, Ok, Err}
+use Rattle.macro_expand.specs.declared.marked.Marked.{Marked as Kept}
+use Rattle.macro_expand.specs.declared.answers.Presumed.{Presumed}
+use Rattle.macro_expand.specs.declared.outcome.RunError.{RunError}
+use Rattle.macro_expand.specs.declared.outcome.RunError.TheVariants.{Count as CountError, Unclosed as UnclosedError, Paste as PasteError, Deep as DeepError, Work as WorkError, Presumed as PresumedError, Memory}
+use Rattle.macro_expand.specs.declared.outcome.ExpandError.{ExpandError}
+use Rattle.macro_expand.specs.declared.outcome.ExpandError.TheVariants.{Count as PublicCount, Unclosed as PublicUnclosed, Paste as PublicPaste, Deep as PublicDeep, Work as PublicWork, Memory as PublicMemory}
+use Rattle.macro_expand.specs.declared.marked.Piece.{Piece as KeptPiece}
+use Rattle.macro_expand.specs.declared.marked.Piece.TheVariants.{Real as KeptReal, Placemarker as KeptPlacemarker, Joining as KeptJoining}
+use Rattle.macro_expand.specs.declared.replace.Part.{Part as KeptPart}
+use Rattle.macro_expand.specs.declared.replace.Part.TheVariants.{Plain as KeptPlain, Argument as KeptArgument, Spelling as KeptSpelling, Join as KeptJoin}
+use Rattle.macro_defs.specs.MacroDefinition.{without_line}
+use Rattle.macro_expand.specs.Sets.{names_in}
+use Rattle.macro_expand.specs.Asking.{Failure, Count, Unclosed, Paste, Deep, Work}
+use Rattle.std.specs.declared.alloc.Global.{Global}
+use Rattle.macro_expand.specs.declared.outcome.Mode.{Mode}
+use Rattle.pp_tokens.specs.declared.Token.{Token}
+use Rattle.macro_expand.specs.Replacement.{Operand, Piece, Real, Placemarker, Joining, Marked, Call, call_in, arguments_of, Part, Plain, Argument, Spelling, Join}
+use Rattle.macro_expand.specs.Expansion.{Expanded, Place, call_replacement}
+use Rattle.macro_expand.specs.Answered.{Answerer, Answered, ByFailure, ByPresumed, before, expanded_for, charged_for}
+
+abbrev pub place_of : Presumed → Place
+place_of p = record { name = p.name; shift = p.shift }
+
+abbrev pub marked_of : Kept → Marked
+marked_of m = record { token = m.token; hidden = names_in m.hidden }
+
+-- an error of code reports this result; want of memory reports nothing
+abbrev pub Reports : {A : Type 0} → RunError → Result A Failure → Type 0
+Reports (CountError name line) r = r ≡ Err (Count name line)
+Reports (UnclosedError name line) r = r ≡ Err (Unclosed name line)
+Reports (PasteError left right line) r = r ≡ Err (Paste left right line)
+Reports (DeepError line) r = r ≡ Err (Deep line)
+Reports WorkError r = r ≡ Err Work
+Reports PresumedError r = ⊥
+Reports Memory r = Unit {0}
+
+-- lists of marked tokens
+abbrev pub lists_of : List (Vec Kept Global) → List (List Marked)
+lists_of = map (λ v. map marked_of v.items)
+
+-- a call read after its `(`: its arguments, its `)` and the tokens after it
+pub record ReadsCall (count : ℕ) (variadic : Bool) (ts : List Marked) (written : List (List Marked)) (close : Marked) (after : List Marked) : Type 0 where
+  pub within : List Marked
+  pub read : call_in 0 ts ≡ Some (record { within = within; close = close; after = after })
+  pub counted : arguments_of count variadic within ≡ Some written
+
+-- a call that can't be read: it doesn't end, or its arguments are too few or too many
+abbrev pub RefusesCall : RunError → Kept → ℕ → Bool → List Marked → Type 0
+RefusesCall (CountError name line) t count variadic ts =
+    (name ≡ t.token.text) × (line ≡ t.token.line) × ((call : Call) × (call_in 0 ts ≡ Some call) × (arguments_of count variadic call.within ≡ None))
+RefusesCall (UnclosedError name line) t count variadic ts =
+    (name ≡ t.token.text) × (line ≡ t.token.line) × (call_in 0 ts ≡ None)
+RefusesCall (PasteError left right line) t count variadic ts = ⊥
+RefusesCall (DeepError line) t count variadic ts = ⊥
+RefusesCall WorkError t count variadic ts = ⊥
+RefusesCall PresumedError t count variadic ts = ⊥
+RefusesCall Memory t count variadic ts = Unit {0}
+
+-- what a call that was read is replaced by
+abbrev pub call_replaced_by : Kept → List Part → Option ℕ → List (List Marked) → Marked → List (List Marked) → Result (List Marked) Failure
+call_replaced_by t parts variable written close expanded =
+    call_replacement (marked_of t) parts variable (record { within = []; close = close; after = [] }) written expanded
+
+-- the parts that code keeps
+abbrev pub part_seen : KeptPart → Part
+part_seen (KeptPlain t) = Plain (without_line t.now)
+part_seen (KeptArgument i space) = Argument i space
+part_seen (KeptSpelling i space) = Spelling i space
+part_seen KeptJoin = Join
+
+abbrev pub parts_seen : List KeptPart → List Part
+parts_seen = map part_seen
+
+-- a run that was stopped by an error of code, in this state; want of memory says nothing
+abbrev pub Stops : {A S : Type 0} → RunError → S → Answered A S → Type 0
+Stops (CountError name line) s a = a ≡ record { result = Err (ByFailure (Count name line)); state = s }
+Stops (UnclosedError name line) s a = a ≡ record { result = Err (ByFailure (Unclosed name line)); state = s }
+Stops (PasteError left right line) s a = a ≡ record { result = Err (ByFailure (Paste left right line)); state = s }
+Stops (DeepError line) s a = a ≡ record { result = Err (ByFailure (Deep line)); state = s }
+Stops WorkError s a = a ≡ record { result = Err (ByFailure Work); state = s }
+Stops PresumedError s a = a ≡ record { result = Err ByPresumed; state = s }
+Stops Memory s a = Unit {0}
+
+-- what a name does: it is put out, or it is replaced and the replacement's work is still to be charged
+abbrev pub NameReplaced : {S : Type 0} → Answerer S → S → Mode → ℕ → Kept → ℕ → List Kept → Option (Vec Kept Global) → S → ℕ → List Kept → Type 0
+NameReplaced w s mode depth t units pending None u left rest =
+    expanded_for w s mode depth units (marked_of t ∷ map marked_of pending)
+    ≡ before (marked_of t ∷ []) (expanded_for w u mode depth left (map marked_of rest))
+NameReplaced w s mode depth t units pending (Some made) u left rest =
+    expanded_for w s mode depth units (marked_of t ∷ map marked_of pending)
+    ≡ charged_for w u mode depth left (Ok (map marked_of made.items)) (map marked_of rest)
+
+-- what was put out, before what the head and the pending tokens become, is the same after a step
+abbrev pub GoesOn : {S : Type 0} → Answerer S → Mode → ℕ → S → ℕ → List Kept → Kept → List Kept → S → ℕ → List Kept → List Kept → Type 0
+GoesOn w mode depth s units out t pending u left out' pending' =
+    before (map marked_of out) (expanded_for w s mode depth units (marked_of t ∷ map marked_of pending))
+    ≡ before (map marked_of out') (expanded_for w u mode depth left (map marked_of pending'))
+
+-- the pieces that code keeps
+abbrev pub piece_of : KeptPiece → Piece
+piece_of (KeptReal m) = Real (marked_of m)
+piece_of KeptPlacemarker = Placemarker
+piece_of KeptJoining = Joining
+
+abbrev pub operand_of : Option Kept → Operand
+operand_of None = None
+operand_of (Some m) = Some (marked_of m)
+
+-- an error that two spellings can't be pasted, at this line
+abbrev pub ReportsPaste : {A : Type 0} → RunError → ℕ → Result A (List ℕ × List ℕ) → Type 0
+ReportsPaste (CountError name line) l r = ⊥
+ReportsPaste (UnclosedError name line) l r = ⊥
+ReportsPaste (PasteError left right line) l r = (line ≡ l) × (r ≡ Err (left, right))
+ReportsPaste (DeepError line) l r = ⊥
+ReportsPaste WorkError l r = ⊥
+ReportsPaste PresumedError l r = ⊥
+ReportsPaste Memory l r = Unit {0}
+
+-- a result with these tokens, whatever their hide sets, and these units left
+abbrev pub Gives : Result Expanded Failure → List Token → ℕ → Type 0
+Gives (Ok e) ts left = (map (λ m. m.token) e.tokens ≡ ts) × (e.units ≡ left)
+Gives (Err f) ts left = ⊥
+
+-- a public error reports this result
+abbrev pub ReportsResult : {A : Type 0} → ExpandError → Result A Failure → Type 0
+ReportsResult (PublicCount name line) r = r ≡ Err (Count name line)
+ReportsResult (PublicUnclosed name line) r = r ≡ Err (Unclosed name line)
+ReportsResult (PublicPaste left right line) r = r ≡ Err (Paste left right line)
+ReportsResult (PublicDeep line) r = r ≡ Err (Deep line)
+ReportsResult PublicWork r = r ≡ Err Work
+ReportsResult PublicMemory r = Unit {0}
+
+-- the public name of an error; a presumed name or line is always known to a table
+abbrev pub public_of : RunError → ExpandError
+public_of (CountError name line) = PublicCount name line
+public_of (UnclosedError name line) = PublicUnclosed name line
+public_of (PasteError left right line) = PublicPaste left right line
+public_of (DeepError line) = PublicDeep line
+public_of WorkError = PublicWork
+public_of PresumedError = PublicMemory
+public_of Memory = PublicMemory

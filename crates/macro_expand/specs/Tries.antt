@@ -1,0 +1,98 @@
+-- Hide sets (6.10.3.4) as tries over the bits of their names' hashes.
+use Rattle.std.specs.Prelude.{◌≡◌, ℕ, ◌*◌, ◌/◌, ◌%◌, ◌^◌, Bool, true, false, ◌&&◌, ◌||◌, ◌==◌, if◌then◌else◌, List, [], ◌∷◌, ◌++◌, fold, bit_xor, bytes_eq}
+use Rattle.macro_expand.specs.declared.hide_set.Trie.{Trie, Empty, Fork'}
+
+-- one round of the FNV-1a hash of 64 bits
+abbrev pub fnv_step : ℕ → ℕ → ℕ
+fnv_step hash b = (bit_xor hash b * 0x100000001b3) % 2 ^ 64
+
+-- the hash of a name
+unfoldable pub name_hash : List ℕ → ℕ
+name_hash name = fold fnv_step 0xcbf29ce484222325 name
+
+-- A trie, whoever shares its nodes: a name, its hash, the trie of the names whose next bit is 0, and that of those whose next bit is 1.
+pub data Tree : Type 0 where
+  Tip : Tree
+  Branch : List ℕ → ℕ → Tree → Tree → Tree
+
+-- the trie that code keeps
+abbrev pub tree_of : Trie → Tree
+tree_of Empty = Tip
+tree_of (Fork' p name hash zero_side one_side) = Branch name.value hash (tree_of zero_side) (tree_of one_side)
+
+-- the names in a trie
+abbrev pub names_of : Tree → List (List ℕ)
+names_of Tip = []
+names_of (Branch name hash z o) = name ∷ names_of z ++ names_of o
+
+-- whether every name has this as the last bit of its key
+abbrev pub have_bit : (List ℕ → ℕ) → ℕ → List (List ℕ) → Bool
+have_bit key bit [] = true
+have_bit key bit (name ∷ names) = (key name % 2 == bit) && have_bit key bit names
+
+-- the keys without their last bit
+abbrev pub next_key : (List ℕ → ℕ) → List ℕ → ℕ
+next_key key name = key name / 2
+
+-- whether every name stands on the side that the bits of its key say
+abbrev pub placed : (List ℕ → ℕ) → Tree → Bool
+placed key Tip = true
+placed key (Branch name hash z o) =
+    (have_bit key 0 (names_of z) && placed (next_key key) z) && (have_bit key 1 (names_of o) && placed (next_key key) o)
+
+-- whether every name stands with its hash
+abbrev pub hashed : Tree → Bool
+hashed Tip = true
+hashed (Branch name hash z o) = (hash == name_hash name) && (hashed z && hashed o)
+
+-- a trie where every name is met on the way that its hash says
+pub record IsOrdered (t : Tree) : Type 0 where
+  pub at_bits : placed name_hash t ≡ true
+  pub with_hash : hashed t ≡ true
+
+-- whether two names with their hashes are the same
+abbrev pub is_same_name : List ℕ → ℕ → List ℕ → ℕ → Bool
+is_same_name name hash n h = (hash == h) && bytes_eq name n
+
+-- whether a name is met on the way that its key says
+abbrev pub found : List ℕ → ℕ → ℕ → Tree → Bool
+found name hash key Tip = false
+found name hash key (Branch n h z o) =
+    is_same_name name hash n h || (if key % 2 == 0 then found name hash (key / 2) z else found name hash (key / 2) o)
+
+-- the trie with one more name
+abbrev pub with_leaf : List ℕ → ℕ → ℕ → Tree → Tree
+with_leaf name hash key Tip = Branch name hash Tip Tip
+with_leaf name hash key (Branch n h z o) =
+    if is_same_name name hash n h then Branch n h z o
+    else (if key % 2 == 0 then Branch n h (with_leaf name hash (key / 2) z) o else Branch n h z (with_leaf name hash (key / 2) o))
+
+-- the trie with a name that it may have
+abbrev pub with_new : List ℕ → ℕ → Tree → Tree
+with_new name hash t = if found name hash hash t then t else with_leaf name hash hash t
+
+-- the trie with all names of the first
+abbrev pub with_all : Tree → Tree → Tree
+with_all Tip t = t
+with_all (Branch n h z o) t = with_all o (with_all z (with_new n h t))
+
+-- the trie with a name, where the second trie has it
+abbrev pub with_common : List ℕ → ℕ → Tree → Tree → Tree
+with_common name hash other t = if found name hash hash other then with_leaf name hash hash t else t
+
+-- the trie with all names that both the first and the second have
+abbrev pub with_all_common : Tree → Tree → Tree → Tree
+with_all_common Tip other t = t
+with_all_common (Branch n h z o) other t = with_all_common o other (with_all_common z other (with_common n h other t))
+
+-- whether the second trie has all names of the first
+abbrev pub has_all : Tree → Tree → Bool
+has_all Tip other = true
+has_all (Branch n h z o) other = (found n h h other && has_all z other) && has_all o other
+
+-- whether two tries have the same names at the same places
+abbrev pub is_same : Tree → Tree → Bool
+is_same Tip Tip = true
+is_same Tip (Branch m k y p) = false
+is_same (Branch n h z o) Tip = false
+is_same (Branch n h z o) (Branch m k y p) = (is_same_name n h m k && is_same z y) && is_same o p

@@ -1,0 +1,258 @@
+// Calls of function-like macros (ISO C 6.10.3 paragraphs 10 and 11).
+ghost use Rattle.std.specs.Prelude.{◌≡◌, ◌+◌, ◌^◌, ◌<◌, ◌≤◌, ◌∷◌, List, true, false, Some, None, map, length, IfOk, IfErr, OnOk, IsTrue, IsFalse};
+ghost use Rattle.std.specs.VecDeque.{deque_len};
+ghost use Rattle.macro_expand.specs.Replacement as spec;
+ghost use Rattle.macro_expand.specs.Replacement.{Marked as MarkedToken, after_open, arguments_of, call_in};
+ghost use Rattle.macro_expand.specs.Reading as reading;
+ghost use Rattle.macro_expand.specs.Reading.{call_read, arguments_seen, cut_from};
+ghost use Rattle.macro_expand.specs.Seen.{marked_of, lists_of, ReadsCall, RefusesCall};
+
+use crate::marked::Marked;
+use crate::operand::is_mark;
+use crate::outcome::RunError;
+use base_types::Bytes;
+use pp_tokens::Token;
+use std::alloc::{AllocError, Global};
+use std::collections::VecDeque;
+use std::mem::replace;
+
+// The arguments of a call, as written, and its `)`.
+#[derive(Drop)]
+pub(crate) struct ReadCall {
+    pub(crate) written: Vec<Vec<Marked>>,
+    pub(crate) close: Marked,
+}
+
+// The call that the pending tokens begin after their `(`, with its arguments.
+pub(crate) fn read_call(
+    alloc: Global,
+    t: &Marked,
+    params: &[Bytes],
+    variadic: bool,
+    pending: &mut VecDeque<Marked>,
+) -> Result<ReadCall, RunError>
+    ensures ok { IfOk result (λ r. ReadsCall (length params.now) variadic (map marked_of pending.old.items)
+        (lists_of r.written.items) (marked_of r.close) (map marked_of pending.new.items)) }
+    ensures shorter { deque_len pending.new ≤ deque_len pending.old }
+    ensures err { IfErr result (λ e. RefusesCall e t.now (length params.now) variadic (map marked_of pending.old.items)) }
+{
+    let Some(within) = read_within(alloc, pending)? else {
+        return Err(unclosed(alloc, t)?);
+    };
+    let Within { tokens, close } = within;
+    let Some(written) = arguments(alloc, params.len(), variadic, tokens)? else {
+        return Err(miscounted(alloc, t)?);
+    };
+    Ok(ReadCall { written, close })
+}
+
+fn unclosed(alloc: Global, t: &Marked) -> Result<RunError, AllocError>
+    ensures { IfOk result (λ e. e ≡ RunError.Unclosed t.now.token.text t.now.token.line) }
+{
+    Ok(RunError::Unclosed {
+        name: Bytes::copy_of(alloc, t.token.text.as_slice())?,
+        line: t.token.line,
+    })
+}
+
+fn miscounted(alloc: Global, t: &Marked) -> Result<RunError, AllocError>
+    ensures { IfOk result (λ e. e ≡ RunError.Count t.now.token.text t.now.token.line) }
+{
+    Ok(RunError::Count {
+        name: Bytes::copy_of(alloc, t.token.text.as_slice())?,
+        line: t.token.line,
+    })
+}
+
+// What stands between the parentheses of a call, and its `)`.
+#[derive(Drop)]
+struct Within {
+    tokens: VecDeque<Marked>,
+    close: Marked,
+}
+
+// What stands before the `)` that matches the `(` before the pending tokens; none where it is missing.
+fn read_within(alloc: Global, pending: &mut VecDeque<Marked>) -> Result<Option<Within>, AllocError>
+    ensures ok { IfOk result (λ w. call_in 0 (map marked_of pending.old.items) ≡ call_read w (map marked_of pending.new.items)) }
+    ensures shorter { deque_len pending.new ≤ deque_len pending.old }
+{
+    let mut tokens = VecDeque::new(alloc);
+    let mut nesting = 0;
+    while let Some(t) = pending.pop_front() {
+        if ends_call(nesting, &t.token) {
+            return Ok(Some(Within { tokens, close: t }));
+        }
+        nesting = nesting_after(nesting, &t.token);
+        tokens.push_back(t)?;
+    }
+    Ok(None)
+}
+
+// Whether a token is the `)` that ends the call.
+fn ends_call(nesting: usize, t: &Token) -> bool
+    ensures { result ≡ reading.ends_call nesting t.now }
+{
+    nesting == 0 && is_mark(t, b")".as_slice())
+}
+
+// How many parentheses deep the tokens stand that follow this one.
+fn nesting_after(nesting: usize, t: &Token) -> usize
+    requires { nesting < 2 ^ 63 }
+    ensures value { result ≡ reading.nesting_after nesting t.now }
+    ensures deep { result ≤ nesting + 1 }
+{
+    if is_mark(t, b"(".as_slice()) {
+        return nesting + 1;
+    }
+    if is_mark(t, b")".as_slice()) {
+        return nesting.saturating_sub(1);
+    }
+    nesting
+}
+
+// The arguments of a macro with `count` parameters, the variable one last; none where their number is wrong.
+fn arguments(
+    alloc: Global,
+    count: usize,
+    variadic: bool,
+    within: VecDeque<Marked>,
+) -> Result<Option<Vec<Vec<Marked>>>, AllocError>
+    ensures { IfOk result (λ o. arguments_seen o ≡ arguments_of count variadic (map marked_of within.items)) }
+{
+    if variadic {
+        return variable_arguments(alloc, count, within);
+    }
+    if count == 0 {
+        return no_arguments(alloc, within);
+    }
+    counted_arguments(alloc, count, within)
+}
+
+// The arguments where the last is all that follows the others, or is left out.
+#[tactic(auto, unfolding(crate::specs::Replacement::arguments_of))]
+fn variable_arguments(
+    alloc: Global,
+    count: usize,
+    within: VecDeque<Marked>,
+) -> Result<Option<Vec<Vec<Marked>>>, AllocError>
+    ensures { IfOk result (λ o. arguments_seen o ≡ arguments_of count true (map marked_of within.items)) }
+{
+    let mut pieces = cut_at_commas(alloc, count.saturating_sub(1), within)?;
+    if pieces.len() == count {
+        return Ok(Some(pieces));
+    }
+    if pieces.len() + 1 == count {
+        pieces.push(Vec::new(alloc))?;
+        return Ok(Some(pieces));
+    }
+    Ok(None)
+}
+
+// No arguments, where nothing stands within.
+#[tactic(auto, unfolding(crate::specs::Replacement::arguments_of))]
+fn no_arguments(
+    alloc: Global,
+    within: VecDeque<Marked>,
+) -> Result<Option<Vec<Vec<Marked>>>, AllocError>
+    ensures { IfOk result (λ o. arguments_seen o ≡ arguments_of 0 false (map marked_of within.items)) }
+{
+    if within.is_empty() {
+        return Ok(Some(Vec::new(alloc)));
+    }
+    Ok(None)
+}
+
+// The arguments between all commas.
+fn counted_arguments(
+    alloc: Global,
+    count: usize,
+    within: VecDeque<Marked>,
+) -> Result<Option<Vec<Vec<Marked>>>, AllocError>
+    requires { 0 < count }
+    ensures { IfOk result (λ o. arguments_seen o ≡ arguments_of count false (map marked_of within.items)) }
+{
+    let pieces = cut_at_commas(alloc, within.len(), within)?;
+    if pieces.len() == count {
+        return Ok(Some(pieces));
+    }
+    Ok(None)
+}
+
+// Tokens that are being cut: the pieces that are whole, the piece that grows, and how many cuts are still to be made.
+#[derive(Drop)]
+struct Cutting {
+    pieces: Vec<Vec<Marked>>,
+    piece: Vec<Marked>,
+    cuts: usize,
+    nesting: usize,
+}
+
+impl Cutting {
+    // Ends the piece at a comma, or puts the token into it.
+    fn take(&mut self, alloc: Global, t: Marked) -> Result<(), AllocError>
+        requires { self.old.nesting < 2 ^ 63 }
+        ensures ok { OnOk result ((ts : List MarkedToken) → cut_from self.old (marked_of t ∷ ts) ≡ cut_from self.new ts) }
+        ensures deep { self.new.nesting ≤ self.old.nesting + 1 }
+    {
+        if is_cut(self.cuts, self.nesting, &t.token) {
+            let piece = replace(&mut self.piece, Vec::new(alloc));
+            self.pieces.push(piece)?;
+            self.cuts -= 1;
+            return Ok(());
+        }
+        self.nesting = nesting_after(self.nesting, &t.token);
+        self.piece.push(t)?;
+        Ok(())
+    }
+}
+
+// Whether a token is a comma to cut at.
+fn is_cut(cuts: usize, nesting: usize, t: &Token) -> bool
+    ensures { result ≡ reading.is_cut cuts nesting t.now }
+{
+    cuts > 0 && nesting == 0 && is_mark(t, b",".as_slice())
+}
+
+// The tokens cut at the first `cuts` commas that stand outside parentheses.
+fn cut_at_commas(
+    alloc: Global,
+    cuts: usize,
+    mut within: VecDeque<Marked>,
+) -> Result<Vec<Vec<Marked>>, AllocError>
+    ensures { IfOk result (λ pieces. lists_of pieces.items ≡ spec.cut_at_commas cuts 0 (map marked_of within.items)) }
+{
+    let mut cutting = Cutting {
+        pieces: Vec::new(alloc),
+        piece: Vec::new(alloc),
+        cuts,
+        nesting: 0,
+    };
+    while let Some(t) = within.pop_front() {
+        cutting.take(alloc, t)?;
+    }
+    let Cutting {
+        mut pieces,
+        piece,
+        ..
+    } = cutting;
+    pieces.push(piece)?;
+    Ok(pieces)
+}
+
+// Takes the `(` that the pending tokens begin with.
+pub(crate) fn take_open(pending: &mut VecDeque<Marked>) -> bool
+    ensures opened { IsTrue result → after_open (map marked_of pending.old.items) ≡ Some (map marked_of pending.new.items) }
+    ensures shorter { deque_len pending.new ≤ deque_len pending.old }
+    ensures not_opened { IsFalse result → (after_open (map marked_of pending.old.items) ≡ None) × (pending.new.items ≡ pending.old.items) }
+{
+    match pending.front() {
+        None => return false,
+        Some(t) => {
+            if !is_mark(&t.token, b"(".as_slice()) {
+                return false;
+            }
+        }
+    }
+    pending.pop_front();
+    true
+}

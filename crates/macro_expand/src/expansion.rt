@@ -1,0 +1,380 @@
+// Expansion of a list of tokens (ISO C 6.10.3).
+ghost use Rattle.std.specs.Prelude.{◌≡◌, ◌+◌, ◌<◌, ◌≤◌, ◌++◌, ◌∷◌, [], map, length, Ok, None, Some, IfOk, IfErr, OnOk};
+ghost use Rattle.std.specs.VecDeque.{deque_len};
+ghost use Rattle.macro_defs.specs.Table.{lookup};
+ghost use Rattle.macro_expand.specs.declared.marked.Role.TheVariants.{Name};
+ghost use Rattle.macro_expand.specs.Replacement.{unmarked};
+ghost use Rattle.macro_expand.specs.Expansion.{role_of, expanded_by};
+ghost use Rattle.macro_expand.specs.Answered.{arguments_for, expanded_for};
+ghost use Rattle.macro_expand.specs.Seen.{marked_of, parts_seen, lists_of, Gives, NameReplaced, GoesOn, Stops, place_of, ReportsResult, public_of};
+
+use crate::answers::{Answers, Presumed, TablePlace};
+use crate::builtin::{expand_file_name, expand_line_number};
+use crate::call::{read_call, take_open};
+use crate::hide_set::HideSet;
+use crate::marked::{Marked, Role, copied_token};
+use crate::operand::{expand_defined, has_operand};
+use crate::outcome::{ExpandError, Mode, RunError, Work};
+use crate::replace::{
+    Part, call_tokens, object_tokens, read_parts, standing_alone, variable_number,
+};
+use base_types::List;
+use macro_defs::{MacroTable, Shape};
+use pp_tokens::{Kind, Token};
+use std::alloc::{AllocError, Global};
+use std::collections::VecDeque;
+
+// How deep arguments are expanded.
+const DEEPEST: u32 = 400;
+
+#[tactic(auto, unfolding(crate::specs::Expansion::role_of))]
+fn role(mode: Mode, t: &Marked, rest: &VecDeque<Marked>) -> Role
+    ensures { result ≡ role_of mode (marked_of t.now) (map marked_of rest.now.items) }
+{
+    if !matches!(t.token.kind, Kind::Ident) {
+        return Role::Ordinary;
+    }
+    if matches!(mode, Mode::Condition)
+        && t.token.text.as_slice() == b"defined".as_slice()
+        && has_operand(rest)
+    {
+        return Role::Defined;
+    }
+    if t.hidden.hides(t.token.text.as_slice()) {
+        return Role::Ordinary;
+    }
+    if t.token.text.as_slice() == b"__FILE__".as_slice() {
+        return Role::FileName;
+    }
+    if t.token.text.as_slice() == b"__LINE__".as_slice() {
+        return Role::LineNumber;
+    }
+    Role::Name
+}
+
+pub(crate) fn put(out: &mut Vec<Marked>, t: Marked) -> Result<(), RunError>
+    ensures ok { OnOk result (out.new.items ≡ out.old.items ++ t ∷ []) }
+    ensures err { IfErr result (λ e. e ≡ RunError.Memory) }
+{
+    match out.push(t) {
+        Ok(()) => Ok(()),
+        Err(_) => Err(RunError::Memory),
+    }
+}
+
+// Charges a replacement that puts in so many tokens.
+pub(crate) fn charge(work: &mut Work, tokens: usize) -> Result<(), RunError>
+    ensures ok { OnOk result (work.new.left + tokens + 1 ≡ work.old.left) }
+    ensures spends { work.new.left ≤ work.old.left }
+    ensures err { IfErr result (λ e. (e ≡ RunError.Work) × (work.old.left ≤ tokens)) }
+{
+    let cost = tokens as u64;
+    if work.left <= cost {
+        return Err(RunError::Work);
+    }
+    work.left = work.left - cost - 1;
+    Ok(())
+}
+
+// Puts tokens before those that are pending.
+fn put_back(pending: &mut VecDeque<Marked>, mut made: Vec<Marked>) -> Result<(), RunError>
+    ensures ok { OnOk result (pending.new.items ≡ made.items ++ pending.old.items) }
+    ensures err { IfErr result (λ e. e ≡ RunError.Memory) }
+{
+    while let Some(t) = made.pop() {
+        match pending.push_front(t) {
+            Ok(()) => {}
+            Err(_) => return Err(RunError::Memory),
+        }
+    }
+    Ok(())
+}
+
+// A copy of an argument.
+fn copied(alloc: Global, ts: &[Marked]) -> Result<VecDeque<Marked>, AllocError>
+    ensures { IfOk result (λ q. q.items ≡ ts.now) }
+{
+    let mut q = VecDeque::new(alloc);
+    for t in ts {
+        q.push_back(t.copy(alloc)?)?;
+    }
+    Ok(q)
+}
+
+// The arguments of a call of `t`, expanded by themselves where their parameters stand alone (6.10.3.1); for the others no tokens.
+#[cycle(expanding)]
+fn expand_arguments<S, A: Answers<S>>(
+    alloc: Global,
+    source: &S,
+    answers: &mut A,
+    mode: Mode,
+    depth: u32,
+    t: &Marked,
+    parts: &[Part],
+    written: &[Vec<Marked>],
+    work: &mut Work,
+) -> Result<Vec<Vec<Marked>>, RunError>
+    requires { depth ≤ 400 }
+    ensures ok { IfOk result (λ out. arguments_for (A.answerer source.now) answers.old mode depth t.now.token
+        (parts_seen parts.now) 0 work.old.left (lists_of written.now)
+        ≡ record { result = Ok (record { lists = lists_of out.items; units = work.new.left }); state = answers.new }) }
+    ensures spends { work.new.left ≤ work.old.left }
+    ensures err { IfErr result (λ e. Stops e answers.new (arguments_for (A.answerer source.now) answers.old mode depth t.now.token
+        (parts_seen parts.now) 0 work.old.left (lists_of written.now))) }
+{
+    let alone = standing_alone(alloc, parts, written.len())?;
+    let mut out = Vec::new(alloc);
+    for (i, a) in written.iter().enumerate() {
+        if alone[i] {
+            if depth >= DEEPEST {
+                return Err(RunError::Deep { line: t.token.line });
+            }
+            let given = copied(alloc, a.as_slice())?;
+            let expanded = expand_list(alloc, source, answers, mode, depth + 1, given, work)?;
+            put_list(&mut out, expanded)?;
+        } else {
+            put_list(&mut out, Vec::new(alloc))?;
+        }
+    }
+    Ok(out)
+}
+
+fn put_list(out: &mut Vec<Vec<Marked>>, ts: Vec<Marked>) -> Result<(), RunError>
+    ensures ok { OnOk result (out.new.items ≡ out.old.items ++ ts ∷ []) }
+    ensures err { IfErr result (λ e. e ≡ RunError.Memory) }
+{
+    match out.push(ts) {
+        Ok(()) => Ok(()),
+        Err(_) => Err(RunError::Memory),
+    }
+}
+
+// What the name at the head is replaced by, before its own work is charged; none where it is put out as it is.
+#[cycle(expanding)]
+fn replace_name<S, A: Answers<S>>(
+    alloc: Global,
+    source: &S,
+    answers: &mut A,
+    mode: Mode,
+    depth: u32,
+    t: &Marked,
+    pending: &mut VecDeque<Marked>,
+    work: &mut Work,
+) -> Result<Option<Vec<Marked>>, RunError>
+    requires shallow { depth ≤ 400 }
+    requires role { role_of mode (marked_of t.now) (map marked_of pending.old.items) ≡ Name }
+    ensures ok { IfOk result (λ made. NameReplaced (A.answerer source.now) answers.old mode depth t.now work.old.left pending.old.items made
+        answers.new work.new.left pending.new.items) }
+    ensures spends { work.new.left ≤ work.old.left }
+    ensures shorter { deque_len pending.new ≤ deque_len pending.old }
+    ensures err { IfErr result (λ e. Stops e answers.new (expanded_for (A.answerer source.now) answers.old mode depth work.old.left
+        (marked_of t.now ∷ map marked_of pending.old.items))) }
+{
+    let Some(d) = answers.definition(source, t.token.text.as_slice())? else {
+        return Ok(None);
+    };
+    match d.shape() {
+        Shape::Object => Ok(Some(object_tokens(alloc, t, d)?)),
+        Shape::Function { params, variadic } => {
+            if !take_open(pending) {
+                return Ok(None);
+            }
+            let names = params.as_slice();
+            let call = read_call(alloc, t, names, *variadic, pending)?;
+            let list = read_parts(alloc, names, d.body())?;
+            let parts = list.as_slice();
+            let written = call.written.as_slice();
+            let expanded = expand_arguments(
+                alloc, source, answers, mode, depth, t, parts, written, work,
+            )?;
+            let variable = variable_number(names, *variadic);
+            Ok(Some(call_tokens(alloc, t, parts, variable, &call, expanded.as_slice())?))
+        }
+    }
+}
+
+// One step: a name that isn't hidden from itself, and what it is replaced by.
+#[cycle(expanding)]
+fn expand_name<S, A: Answers<S>>(
+    alloc: Global,
+    source: &S,
+    answers: &mut A,
+    mode: Mode,
+    depth: u32,
+    t: Marked,
+    out: &mut Vec<Marked>,
+    pending: &mut VecDeque<Marked>,
+    work: &mut Work,
+) -> Result<(), RunError>
+    requires shallow { depth ≤ 400 }
+    requires role { role_of mode (marked_of t) (map marked_of pending.old.items) ≡ Name }
+    ensures ok { OnOk result (GoesOn (A.answerer source.now) mode depth answers.old work.old.left out.old.items t pending.old.items
+        answers.new work.new.left out.new.items pending.new.items) }
+    ensures spends { work.new.left ≤ work.old.left }
+    ensures shorter { OnOk result (work.new.left + deque_len pending.new ≤ work.old.left + deque_len pending.old) }
+    ensures grows { OnOk result (length out.new.items + deque_len pending.new + work.new.left ≤ length out.old.items + deque_len pending.old + 1 + work.old.left) }
+    ensures err { IfErr result (λ e. Stops e answers.new (expanded_for (A.answerer source.now) answers.old mode depth work.old.left
+        (marked_of t ∷ map marked_of pending.old.items))) }
+{
+    match replace_name(alloc, source, answers, mode, depth, &t, pending, work)? {
+        None => put(out, t),
+        Some(made) => {
+            charge(work, made.len())?;
+            put_back(pending, made)
+        }
+    }
+}
+
+// One step: the token at the head, and what becomes of it.
+#[cycle(expanding)]
+fn expand_head<S, A: Answers<S>>(
+    alloc: Global,
+    source: &S,
+    answers: &mut A,
+    mode: Mode,
+    depth: u32,
+    t: Marked,
+    out: &mut Vec<Marked>,
+    pending: &mut VecDeque<Marked>,
+    work: &mut Work,
+) -> Result<(), RunError>
+    requires { depth ≤ 400 }
+    ensures ok { OnOk result (GoesOn (A.answerer source.now) mode depth answers.old work.old.left out.old.items t pending.old.items
+        answers.new work.new.left out.new.items pending.new.items) }
+    ensures spends { work.new.left ≤ work.old.left }
+    ensures shorter { OnOk result (work.new.left + deque_len pending.new ≤ work.old.left + deque_len pending.old) }
+    ensures grows { OnOk result (length out.new.items + deque_len pending.new + work.new.left ≤ length out.old.items + deque_len pending.old + 1 + work.old.left) }
+    ensures err { IfErr result (λ e. Stops e answers.new (expanded_for (A.answerer source.now) answers.old mode depth work.old.left
+        (marked_of t ∷ map marked_of pending.old.items))) }
+{
+    match role(mode, &t, pending) {
+        Role::Ordinary => put(out, t),
+        Role::Defined => expand_defined(source, answers, mode, depth, t, out, pending, work),
+        Role::FileName => expand_file_name(
+            alloc, source, answers, mode, depth, t, out, pending, work,
+        ),
+        Role::LineNumber => expand_line_number(
+            alloc, source, answers, mode, depth, t, out, pending, work,
+        ),
+        Role::Name => expand_name(alloc, source, answers, mode, depth, t, out, pending, work),
+    }
+}
+
+/// The expansion of a list of tokens, rescanned together with the tokens behind each replacement (ISO C 6.10.3.4), whoever
+/// answers what definition a name has. `depth` says how many calls' arguments stand around the list, at most 400; `mode`, whether a
+/// `defined` keeps its operand. `work` has the units that are left afterwards; behind an error, no more than before. The errors are
+/// those of `RunError`, the first that is met from left to right; but for `Memory` the answerer is then in the state of that place.
+#[cycle(expanding)]
+pub fn expand_list<S, A: Answers<S>>(
+    alloc: Global,
+    source: &S,
+    answers: &mut A,
+    mode: Mode,
+    depth: u32,
+    mut pending: VecDeque<Marked>,
+    work: &mut Work,
+) -> Result<Vec<Marked>, RunError>
+    requires { depth ≤ 400 }
+    ensures ok { IfOk result (λ out. expanded_for (A.answerer source.now) answers.old mode depth work.old.left (map marked_of pending.items)
+        ≡ record { result = Ok (record { tokens = map marked_of out.items; units = work.new.left }); state = answers.new }) }
+    ensures spends { work.new.left ≤ work.old.left }
+    ensures err { IfErr result (λ e. Stops e answers.new
+        (expanded_for (A.answerer source.now) answers.old mode depth work.old.left (map marked_of pending.items))) }
+{
+    let mut out = Vec::new(alloc);
+    while let Some(t) = pending.pop_front() {
+        expand_head(
+            alloc,
+            source,
+            answers,
+            mode,
+            depth,
+            t,
+            &mut out,
+            &mut pending,
+            work,
+        )?;
+    }
+    Ok(out)
+}
+
+/// The tokens, none of them with a hidden name. The one error is `Memory`.
+pub fn marked_run(alloc: Global, run: &[Token]) -> Result<VecDeque<Marked>, RunError>
+    ensures ok { IfOk result (λ q. map marked_of q.items ≡ map unmarked run.now) }
+    ensures err { IfErr result (λ e. e ≡ RunError.Memory) }
+{
+    Ok(marked_list(alloc, run)?)
+}
+
+fn marked_list(alloc: Global, run: &[Token]) -> Result<VecDeque<Marked>, AllocError>
+    ensures { IfOk result (λ q. map marked_of q.items ≡ map unmarked run.now) }
+{
+    let mut q = VecDeque::new(alloc);
+    for t in run {
+        let m = Marked {
+            token: copied_token(alloc, t)?,
+            hidden: HideSet::none(alloc),
+        };
+        q.push_back(m)?;
+    }
+    Ok(q)
+}
+
+// The tokens without their hide sets.
+fn plain_list(alloc: Global, list: Vec<Marked>) -> Result<Vec<Token>, AllocError>
+    ensures { IfOk result (λ ts. ts.items ≡ map (λ m. m.token) list.items) }
+{
+    let mut out = Vec::new(alloc);
+    for m in list {
+        out.push(m.token)?;
+    }
+    Ok(out)
+}
+
+// The public name of an error.
+fn public_error(e: RunError) -> ExpandError
+    ensures { result ≡ public_of e }
+{
+    match e {
+        RunError::Count { name, line } => ExpandError::Count { name, line },
+        RunError::Unclosed { name, line } => ExpandError::Unclosed { name, line },
+        RunError::Paste { left, right, line } => ExpandError::Paste { left, right, line },
+        RunError::Deep { line } => ExpandError::Deep { line },
+        RunError::Work => ExpandError::Work,
+        RunError::Presumed => ExpandError::Memory,
+        RunError::Memory => ExpandError::Memory,
+    }
+}
+
+/// The tokens that a list of tokens becomes under a table of macros (ISO C 6.10.3), each with the white space of what it
+/// stands for. `here` says what `__FILE__` and `__LINE__` stand for (6.10.8.1); in `Mode::Condition` a `defined` and its operand are put
+/// out as they are (6.10.1 paragraph 4). Each replacement takes its units from `work`: one, and one for each token that it puts in.
+/// Reading a call, its arguments from left to right, its pastes and then its own units come in this order, and the first error ends
+/// the expansion: `Unclosed`, `Count`, `Deep`, `Paste` or `Work`, each exactly where `ExpandError` says, or `Memory`.
+pub fn expand(
+    alloc: Global,
+    table: &MacroTable,
+    run: &[Token],
+    here: &Presumed,
+    mode: Mode,
+    work: &mut Work,
+) -> Result<List<Token>, ExpandError>
+    ensures ok { IfOk result (λ out. Gives (expanded_by (lookup table.now) (place_of here.now) mode 0 work.old.left (map unmarked run.now))
+        out work.new.left) }
+    ensures spends { work.new.left ≤ work.old.left }
+    ensures err { IfErr result (λ e. ReportsResult e
+        (expanded_by (lookup table.now) (place_of here.now) mode 0 work.old.left (map unmarked run.now))) }
+{
+    let pending = match marked_run(alloc, run) {
+        Ok(pending) => pending,
+        Err(_) => return Err(ExpandError::Memory),
+    };
+    let mut answers = TablePlace { here };
+    match expand_list(alloc, table, &mut answers, mode, 0, pending, work) {
+        Ok(list) => match plain_list(alloc, list) {
+            Ok(out) => Ok(List::of(out)),
+            Err(_) => Err(ExpandError::Memory),
+        },
+        Err(e) => Err(public_error(e)),
+    }
+}

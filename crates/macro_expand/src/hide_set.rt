@@ -1,0 +1,337 @@
+// The names that don't replace a token any more.
+ghost use Rattle.std.specs.Prelude.{◌≡◌, IfOk};
+ghost use Rattle.macro_expand.specs.Tries as tries;
+ghost use Rattle.macro_expand.specs.Tries.{name_hash, Branch, tree_of, found, with_leaf, with_common, with_all_common};
+
+use base_types::Bytes;
+use std::alloc::{AllocError, Global};
+use std::marker::Model;
+use std::rc::Rc;
+
+/// A hide set (ISO C 6.10.3.4 paragraph 2). Sets share what they have in common: a copy takes no memory, and one more name
+/// takes as much as the way to it.
+#[derive(Drop)]
+pub struct HideSet {
+    names: Trie,
+    // How many names it has, by which the smaller of two sets is chosen.
+    count: usize,
+}
+
+// The names of a set that is being made, and how many they are.
+#[derive(Drop)]
+struct Growing {
+    names: Trie,
+    count: usize,
+}
+
+// The names by the bits of their hashes, the lowest first: each stands on the side that the bits say. Past the 64 bits all
+// stand on the side of 0.
+#[cycle(trie)]
+#[derive(Drop)]
+enum Trie {
+    Empty,
+    Fork(Rc<Node>),
+}
+
+#[cycle(trie)]
+#[derive(Drop)]
+struct Node {
+    name: Rc<Bytes>,
+    hash: u64,
+    zero: Trie,
+    one: Trie,
+}
+
+impl Model for HideSet {
+    ghost use Rattle.std.specs.Prelude.{ℕ, List};
+    ghost use Rattle.macro_expand.specs.Tries.{tree_of, names_of, IsOrdered};
+
+    ghost Value = { List (List ℕ) };
+
+    ghost view = { λ s. names_of (tree_of s.names) };
+
+    ghost invariant = { λ s. IsOrdered (tree_of s.names) };
+}
+
+impl HideSet {
+    ghost use Rattle.std.specs.Prelude.{[], ◌≡◌, ◌&&◌, ◌||◌, IfOk, ℕ, List, bytes_eq};
+    ghost use Rattle.macro_expand.specs.Sets.{names_in};
+
+    pub(crate) fn none(_alloc: Global) -> HideSet
+        ensures { result ≡ [] }
+    {
+        HideSet {
+            names: Trie::Empty,
+            count: 0,
+        }
+    }
+
+    pub(crate) fn hides(&self, name: &[u8]) -> bool
+        ensures { result ≡ names_in self.now name.now }
+    {
+        let hash = hash_of(name);
+        finds(&self.names, name, hash, hash)
+    }
+
+    pub(crate) fn copy(&self) -> Result<HideSet, AllocError>
+        ensures { IfOk result (λ h. h ≡ self.now) }
+    {
+        Ok(HideSet {
+            names: shared(&self.names)?,
+            count: self.count,
+        })
+    }
+
+    // This set and one more name.
+    pub(crate) fn with(&self, alloc: Global, name: &[u8]) -> Result<HideSet, AllocError>
+        ensures { IfOk result (λ h. (n : List ℕ) → names_in h n ≡ (bytes_eq n name.now || names_in self.now n)) }
+    {
+        let kept = Rc::new(alloc, Bytes::copy_of(alloc, name)?)?;
+        let hash = hash_of(name);
+        Ok(HideSet {
+            names: added(alloc, &self.names, &kept, hash, hash)?,
+            count: self.count.saturating_add(1),
+        })
+    }
+
+    // The names that one of both sets hides.
+    pub(crate) fn all(&self, alloc: Global, other: &HideSet) -> Result<HideSet, AllocError>
+        ensures { IfOk result (λ h. (n : List ℕ) → names_in h n ≡ (names_in self.now n || names_in other.now n)) }
+    {
+        if self.count < other.count {
+            return other.with_all(alloc, self);
+        }
+        self.with_all(alloc, other)
+    }
+
+    // The names that both sets hide (6.10.3.4).
+    pub(crate) fn common(&self, alloc: Global, other: &HideSet) -> Result<HideSet, AllocError>
+        ensures { IfOk result (λ h. (n : List ℕ) → names_in h n ≡ (names_in self.now n && names_in other.now n)) }
+    {
+        if self.count < other.count {
+            return self.kept_by(alloc, other);
+        }
+        other.kept_by(alloc, self)
+    }
+
+    // This set and all names of a smaller one.
+    fn with_all(&self, alloc: Global, smaller: &HideSet) -> Result<HideSet, AllocError>
+        ensures { IfOk result (λ h. (n : List ℕ) → names_in h n ≡ (names_in self.now n || names_in smaller.now n)) }
+    {
+        let set = Growing {
+            names: shared(&self.names)?,
+            count: self.count,
+        };
+        let made = all_added(alloc, set, &smaller.names)?;
+        Ok(HideSet {
+            names: made.names,
+            count: made.count,
+        })
+    }
+
+    // The names of this set that a larger one hides too.
+    fn kept_by(&self, alloc: Global, larger: &HideSet) -> Result<HideSet, AllocError>
+        ensures { IfOk result (λ h. (n : List ℕ) → names_in h n ≡ (names_in self.now n && names_in larger.now n)) }
+    {
+        if is_same(&self.names, &larger.names) {
+            return self.copy();
+        }
+        if has_all(&larger.names, &self.names) {
+            return self.copy();
+        }
+        let set = Growing {
+            names: Trie::Empty,
+            count: 0,
+        };
+        let made = common_added(alloc, set, &self.names, &larger.names)?;
+        Ok(HideSet {
+            names: made.names,
+            count: made.count,
+        })
+    }
+}
+
+// The FNV-1a hash of 64 bits.
+#[tactic(auto, unfolding(crate::specs::Tries::name_hash))]
+fn hash_of(name: &[u8]) -> u64
+    ensures { result ≡ name_hash name.now }
+{
+    let mut hash: u64 = 0xcbf29ce484222325;
+    for b in name {
+        hash ^= u64::from(*b);
+        hash = hash.wrapping_mul(0x100000001b3);
+    }
+    hash
+}
+
+// Whether a name is met on the way that its key says, which is what is left of its hash.
+fn finds(trie: &Trie, name: &[u8], hash: u64, key: u64) -> bool
+    ensures { result ≡ found name.now hash key (tree_of trie.now) }
+{
+    let Trie::Fork(node) = trie else {
+        return false;
+    };
+    if is_same_name(name, hash, &node.name, node.hash) {
+        return true;
+    }
+    if key % 2 == 0 {
+        return finds(&node.zero, name, hash, key / 2);
+    }
+    finds(&node.one, name, hash, key / 2)
+}
+
+// Whether two names with their hashes are the same.
+fn is_same_name(name: &[u8], hash: u64, other: &Rc<Bytes>, other_hash: u64) -> bool
+    ensures { result ≡ tries.is_same_name name.now hash other.now.value other_hash }
+{
+    hash == other_hash && name == other.as_slice()
+}
+
+// The same trie, shared.
+fn shared(trie: &Trie) -> Result<Trie, AllocError>
+    ensures { IfOk result (λ t. tree_of t ≡ tree_of trie.now) }
+{
+    match trie {
+        Trie::Empty => Ok(Trie::Empty),
+        Trie::Fork(node) => Ok(Trie::Fork(node.clone()?)),
+    }
+}
+
+fn fork(
+    alloc: Global,
+    name: &Rc<Bytes>,
+    hash: u64,
+    zero: Trie,
+    one: Trie,
+) -> Result<Trie, AllocError>
+    ensures { IfOk result (λ t. tree_of t ≡ Branch name.now.value hash (tree_of zero) (tree_of one)) }
+{
+    let node = Node {
+        name: name.clone()?,
+        hash,
+        zero,
+        one,
+    };
+    Ok(Trie::Fork(Rc::new(alloc, node)?))
+}
+
+// The trie with one more name. The nodes on the way to it are new, and the others are shared.
+fn added(
+    alloc: Global,
+    trie: &Trie,
+    name: &Rc<Bytes>,
+    hash: u64,
+    key: u64,
+) -> Result<Trie, AllocError>
+    ensures { IfOk result (λ t. tree_of t ≡ with_leaf name.now.value hash key (tree_of trie.now)) }
+{
+    let Trie::Fork(node) = trie else {
+        return fork(alloc, name, hash, Trie::Empty, Trie::Empty);
+    };
+    if is_same_name(name.as_slice(), hash, &node.name, node.hash) {
+        return shared(trie);
+    }
+    if key % 2 == 0 {
+        let zero = added(alloc, &node.zero, name, hash, key / 2)?;
+        return fork(alloc, &node.name, node.hash, zero, shared(&node.one)?);
+    }
+    let one = added(alloc, &node.one, name, hash, key / 2)?;
+    fork(alloc, &node.name, node.hash, shared(&node.zero)?, one)
+}
+
+// The set with one more name, which it doesn't have.
+fn grown(alloc: Global, set: Growing, name: &Rc<Bytes>, hash: u64) -> Result<Growing, AllocError>
+    ensures { IfOk result (λ s. tree_of s.names ≡ with_leaf name.now.value hash hash (tree_of set.names)) }
+{
+    Ok(Growing {
+        names: added(alloc, &set.names, name, hash, hash)?,
+        count: set.count.saturating_add(1),
+    })
+}
+
+// The set with a name that it may have.
+fn newly_added(
+    alloc: Global,
+    set: Growing,
+    name: &Rc<Bytes>,
+    hash: u64,
+) -> Result<Growing, AllocError>
+    ensures { IfOk result (λ s. tree_of s.names ≡ tries.with_new name.now.value hash (tree_of set.names)) }
+{
+    if finds(&set.names, name.as_slice(), hash, hash) {
+        return Ok(set);
+    }
+    grown(alloc, set, name, hash)
+}
+
+// The set with all names of a trie.
+fn all_added(alloc: Global, set: Growing, more: &Trie) -> Result<Growing, AllocError>
+    ensures { IfOk result (λ s. tree_of s.names ≡ tries.with_all (tree_of more.now) (tree_of set.names)) }
+{
+    let Trie::Fork(node) = more else {
+        return Ok(set);
+    };
+    let set = newly_added(alloc, set, &node.name, node.hash)?;
+    let set = all_added(alloc, set, &node.zero)?;
+    all_added(alloc, set, &node.one)
+}
+
+// The set with a name that it doesn't have, where a trie has it.
+fn commonly_added(
+    alloc: Global,
+    set: Growing,
+    name: &Rc<Bytes>,
+    hash: u64,
+    other: &Trie,
+) -> Result<Growing, AllocError>
+    ensures { IfOk result (λ s. tree_of s.names ≡ with_common name.now.value hash (tree_of other.now) (tree_of set.names)) }
+{
+    if finds(other, name.as_slice(), hash, hash) {
+        return grown(alloc, set, name, hash);
+    }
+    Ok(set)
+}
+
+// The set with all names that two tries have.
+fn common_added(
+    alloc: Global,
+    set: Growing,
+    names: &Trie,
+    other: &Trie,
+) -> Result<Growing, AllocError>
+    ensures { IfOk result (λ s. tree_of s.names ≡ with_all_common (tree_of names.now) (tree_of other.now) (tree_of set.names)) }
+{
+    let Trie::Fork(node) = names else {
+        return Ok(set);
+    };
+    let set = commonly_added(alloc, set, &node.name, node.hash, other)?;
+    let set = common_added(alloc, set, &node.zero, other)?;
+    common_added(alloc, set, &node.one, other)
+}
+
+// Whether a trie has all names of another.
+fn has_all(trie: &Trie, names: &Trie) -> bool
+    ensures { result ≡ tries.has_all (tree_of names.now) (tree_of trie.now) }
+{
+    let Trie::Fork(node) = names else {
+        return true;
+    };
+    finds(trie, node.name.as_slice(), node.hash, node.hash)
+        && has_all(trie, &node.zero)
+        && has_all(trie, &node.one)
+}
+
+// Whether two tries have the same names at the same places, as copies of one set have.
+fn is_same(a: &Trie, b: &Trie) -> bool
+    ensures { result ≡ tries.is_same (tree_of a.now) (tree_of b.now) }
+{
+    match (a, b) {
+        (Trie::Empty, Trie::Empty) => true,
+        (Trie::Fork(x), Trie::Fork(y)) => {
+            is_same_name(x.name.as_slice(), x.hash, &y.name, y.hash)
+                && is_same(&x.zero, &y.zero)
+                && is_same(&x.one, &y.one)
+        }
+        _ => false,
+    }
+}

@@ -1,0 +1,26 @@
+//! Macro expansion (ISO C 6.10.3).
+#![tactic(auto)]
+
+mod answers;
+mod builtin;
+mod call;
+mod expansion;
+mod hide_set;
+mod laws;
+mod marked;
+mod operand;
+mod outcome;
+mod paste;
+mod pieces;
+mod placing;
+mod replace;
+mod stringize;
+
+pub use answers::{Answers, Presumed, TablePlace};
+pub use expansion::{expand, expand_list};
+pub use hide_set::HideSet;
+pub use laws::{
+    choice_fact, expansion_is_frugal, expansion_unfolds, more_definitions, support_decides,
+};
+pub use marked::Marked;
+pub use outcome::{ExpandError, Mode, RunError, Work};

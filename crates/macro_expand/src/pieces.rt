@@ -1,0 +1,298 @@
+// The pieces that a replacement list gives with a call's arguments put in (ISO C 6.10.3.1 to 6.10.3.3).
+ghost use Rattle.std.specs.Prelude.{◌≡◌, ◌++◌, ◌∷◌, [], ◌&&◌, ◌||◌, map, ℕ, None, Some, IfOk, OnOk, if◌then◌else◌};
+ghost use Rattle.std.specs.Option.{option_map, option_copied};
+ghost use Rattle.macro_defs.specs.MacroDefinition.{without_line};
+ghost use Rattle.macro_defs.specs.Marks.{is_comma};
+ghost use Rattle.macro_expand.specs.Replacement as spec;
+ghost use Rattle.macro_expand.specs.Replacement.{unmarked, with_space, as_pieces, argument_at, is_variable, is_comma_part, is_join, first_part, rest_parts, is_empty_argument, pieces_of_part, pieces_of, Real};
+ghost use Rattle.macro_expand.specs.Pieces.{arguments_seen, spaced_at};
+ghost use Rattle.macro_expand.specs.Seen.{marked_of, piece_of, part_seen, parts_seen, lists_of};
+
+use crate::hide_set::HideSet;
+use crate::marked::{Marked, Piece};
+use crate::replace::{Part, begins_with_join};
+use crate::stringize::stringized;
+use base_types::Bytes;
+use pp_tokens::{Kind, Token};
+use std::alloc::{AllocError, Global};
+
+// The arguments of a call: as written, expanded by themselves where a parameter stands alone, and the number of the
+// variable one.
+#[derive(Clone, Copy, Drop)]
+pub(crate) struct Arguments<'a> {
+    pub(crate) written: &'a [Vec<Marked>],
+    pub(crate) expanded: &'a [Vec<Marked>],
+    pub(crate) variable: Option<usize>,
+}
+
+// The tokens of the argument of a number.
+fn argument_at<'a>(arguments: &'a [Vec<Marked>], i: usize) -> &'a [Marked]
+    ensures { map marked_of result.now ≡ argument_at i (lists_of arguments.now) }
+{
+    if i < arguments.len() {
+        &arguments[i]
+    } else {
+        &[]
+    }
+}
+
+// Whether a part is the variable argument, beside no `#`.
+fn is_variable(arguments: &Arguments, p: &Part) -> bool
+    ensures { result ≡ is_variable (arguments_seen arguments.now) (Some (part_seen p.now)) }
+{
+    match (p, arguments.variable) {
+        (Part::Argument(i, _), Some(v)) => *i == v,
+        _ => false,
+    }
+}
+
+// Whether the variable argument stands first.
+fn begins_with_variable(arguments: &Arguments, parts: &[Part]) -> bool
+    ensures { result ≡ is_variable (arguments_seen arguments.now) (first_part (parts_seen parts.now)) }
+{
+    if parts.is_empty() {
+        return false;
+    }
+    is_variable(arguments, &parts[0])
+}
+
+// Whether the variable argument stands second.
+fn second_is_variable(arguments: &Arguments, parts: &[Part]) -> bool
+    ensures { result ≡ is_variable (arguments_seen arguments.now) (first_part (rest_parts (parts_seen parts.now))) }
+{
+    if parts.len() < 2 {
+        return false;
+    }
+    is_variable(arguments, &parts[1])
+}
+
+// Whether there is a variable argument, and it has no tokens.
+fn has_empty_variable(arguments: &Arguments) -> bool
+    ensures { result ≡ is_empty_argument (arguments_seen arguments.now) }
+{
+    match arguments.variable {
+        None => false,
+        Some(v) => argument_at(arguments.written, v).is_empty(),
+    }
+}
+
+// Whether a token is a comma.
+fn is_comma(t: &Token) -> bool
+    ensures { result ≡ is_comma t.now }
+{
+    t.kind == Kind::Punct && t.text.as_slice() == b",".as_slice()
+}
+
+// Whether a comma is dropped: `##` and an empty variable argument follow it (GNU).
+fn drops_comma(arguments: &Arguments, t: &Token, rest: &[Part]) -> bool
+    ensures { result ≡ (is_comma t.now && is_join (first_part (parts_seen rest.now))
+        && is_variable (arguments_seen arguments.now) (first_part (rest_parts (parts_seen rest.now)))
+        && is_empty_argument (arguments_seen arguments.now)) }
+{
+    is_comma(t)
+        && begins_with_join(rest)
+        && second_is_variable(arguments, rest)
+        && has_empty_variable(arguments)
+}
+
+// A token of a replacement list, with no hidden name.
+fn plain(alloc: Global, t: &Token) -> Result<Marked, AllocError>
+    ensures { IfOk result (λ m. marked_of m ≡ unmarked (without_line t.now)) }
+{
+    Ok(Marked {
+        token: Token {
+            kind: t.kind,
+            text: Bytes::copy_of(alloc, t.text.as_slice())?,
+            line: 0,
+            space: t.space,
+        },
+        hidden: HideSet::none(alloc),
+    })
+}
+
+// The white space of a token of an argument, the first of which has the parameter's.
+fn space_at(first: bool, space: bool, own: bool) -> bool
+    ensures { result ≡ (if first then space else own) }
+{
+    if first { space } else { own }
+}
+
+// A copy of a token of an argument.
+fn copy_at(alloc: Global, first: bool, space: bool, t: &Marked) -> Result<Marked, AllocError>
+    ensures { IfOk result (λ m. marked_of m ≡ spaced_at first space (marked_of t.now)) }
+{
+    Ok(Marked {
+        token: Token {
+            kind: t.token.kind,
+            text: Bytes::copy_of(alloc, t.token.text.as_slice())?,
+            line: t.token.line,
+            space: space_at(first, space, t.token.space),
+        },
+        hidden: t.hidden.copy()?,
+    })
+}
+
+fn put(out: &mut Vec<Piece>, p: Piece) -> Result<(), AllocError>
+    ensures { OnOk result (map piece_of out.new.items ≡ map piece_of out.old.items ++ piece_of p ∷ []) }
+{
+    out.push(p)?;
+    Ok(())
+}
+
+// Puts in the tokens of an argument, the first with the parameter's space.
+fn put_tokens(
+    alloc: Global,
+    out: &mut Vec<Piece>,
+    space: bool,
+    tokens: &[Marked],
+) -> Result<(), AllocError>
+    ensures { OnOk result (map piece_of out.new.items
+        ≡ map piece_of out.old.items ++ map Real (with_space space (map marked_of tokens.now))) }
+{
+    let mut first = true;
+    for t in tokens {
+        put(out, Piece::Real(copy_at(alloc, first, space, t)?))?;
+        first = false;
+    }
+    Ok(())
+}
+
+// Puts in an argument that stands beside `##`: where it has no tokens, a placemarker.
+fn put_operand(
+    alloc: Global,
+    out: &mut Vec<Piece>,
+    space: bool,
+    tokens: &[Marked],
+) -> Result<(), AllocError>
+    ensures { OnOk result (map piece_of out.new.items
+        ≡ map piece_of out.old.items ++ as_pieces (with_space space (map marked_of tokens.now))) }
+{
+    if tokens.is_empty() {
+        return put(out, Piece::Placemarker);
+    }
+    put_tokens(alloc, out, space, tokens)
+}
+
+// Puts in a token of the list. A comma is dropped before `##` and an empty variable argument.
+fn put_plain(
+    alloc: Global,
+    out: &mut Vec<Piece>,
+    arguments: &Arguments,
+    t: &Token,
+    rest: &[Part],
+) -> Result<(), AllocError>
+    ensures { OnOk result (map piece_of out.new.items ≡ map piece_of out.old.items
+        ++ pieces_of_part (arguments_seen arguments.now) None (spec.Plain (without_line t.now)) (parts_seen rest.now)) }
+{
+    if drops_comma(arguments, t, rest) {
+        return Ok(());
+    }
+    put(out, Piece::Real(plain(alloc, t)?))
+}
+
+// Whether a part that stands before another is a `##`.
+fn is_behind_join(before: Option<&Part>) -> bool
+    ensures { result ≡ is_join (option_map part_seen (option_copied before.entry)) }
+{
+    matches!(before, Some(Part::Join))
+}
+
+// Whether a part that stands before another is a comma.
+fn is_behind_comma(before: Option<&Part>) -> bool
+    ensures { result ≡ is_comma_part (option_map part_seen (option_copied before.entry)) }
+{
+    match before {
+        Some(Part::Plain(t)) => is_comma(t),
+        _ => false,
+    }
+}
+
+// Puts in the argument that a parameter stands for.
+fn put_argument(
+    alloc: Global,
+    out: &mut Vec<Piece>,
+    arguments: &Arguments,
+    before: Option<&Part>,
+    i: usize,
+    space: bool,
+    rest: &[Part],
+) -> Result<(), AllocError>
+    ensures { OnOk result (map piece_of out.new.items ≡ map piece_of out.old.items
+        ++ pieces_of_part (arguments_seen arguments.now) (option_map part_seen (option_copied before.entry)) (spec.Argument i space) (parts_seen rest.now)) }
+{
+    if is_behind_join(before) || begins_with_join(rest) {
+        return put_operand(alloc, out, space, argument_at(arguments.written, i));
+    }
+    put_tokens(alloc, out, space, argument_at(arguments.expanded, i))
+}
+
+// Puts in a `##`, which joins nothing between a comma and the variable argument (GNU).
+fn put_join(
+    out: &mut Vec<Piece>,
+    arguments: &Arguments,
+    before: Option<&Part>,
+    rest: &[Part],
+) -> Result<(), AllocError>
+    ensures { OnOk result (map piece_of out.new.items ≡ map piece_of out.old.items
+        ++ pieces_of_part (arguments_seen arguments.now) (option_map part_seen (option_copied before.entry)) spec.Join (parts_seen rest.now)) }
+{
+    if is_behind_comma(before) && begins_with_variable(arguments, rest) {
+        return Ok(());
+    }
+    put(out, Piece::Joining)
+}
+
+// Puts in what a part stands for, between the part before it and those behind it.
+fn put_part(
+    alloc: Global,
+    out: &mut Vec<Piece>,
+    arguments: &Arguments,
+    before: Option<&Part>,
+    p: &Part,
+    rest: &[Part],
+) -> Result<(), AllocError>
+    ensures { OnOk result (map piece_of out.new.items ≡ map piece_of out.old.items
+        ++ pieces_of_part (arguments_seen arguments.now) (option_map part_seen (option_copied before.entry)) (part_seen p.now) (parts_seen rest.now)) }
+{
+    match p {
+        Part::Plain(t) => put_plain(alloc, out, arguments, t, rest),
+        Part::Argument(i, space) => put_argument(alloc, out, arguments, before, *i, *space, rest),
+        Part::Spelling(i, space) => put_spelling(alloc, out, arguments, *i, *space),
+        Part::Join => put_join(out, arguments, before, rest),
+    }
+}
+
+// Puts in the string literal that `#` makes of an argument.
+fn put_spelling(
+    alloc: Global,
+    out: &mut Vec<Piece>,
+    arguments: &Arguments,
+    i: usize,
+    space: bool,
+) -> Result<(), AllocError>
+    ensures { OnOk result (map piece_of out.new.items ≡ map piece_of out.old.items
+        ++ pieces_of_part (arguments_seen arguments.now) None (spec.Spelling i space) []) }
+{
+    put(
+        out,
+        Piece::Real(stringized(alloc, space, argument_at(arguments.written, i))?),
+    )
+}
+
+// The pieces of a replacement list. They cost its tokens, and those of the arguments that it puts in.
+pub(crate) fn read_pieces(
+    alloc: Global,
+    parts: &[Part],
+    arguments: &Arguments,
+) -> Result<Vec<Piece>, AllocError>
+    ensures { IfOk result (λ out. map piece_of out.items ≡ pieces_of (arguments_seen arguments.now) None (parts_seen parts.now)) }
+{
+    let mut out = Vec::with_capacity(alloc, parts.len())?;
+    let mut before = None;
+    for (k, p) in parts.iter().enumerate() {
+        let (_, rest) = parts.split_at(k + 1);
+        put_part(alloc, &mut out, arguments, before, p, rest)?;
+        before = Some(p);
+    }
+    Ok(out)
+}

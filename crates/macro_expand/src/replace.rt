@@ -1,0 +1,331 @@
+// The replacement of one macro call (ISO C 6.10.3.1 to 6.10.3.3).
+ghost use Rattle.std.specs.Prelude.{◌≡◌, ◌≤◌, ◌<◌, ℕ, List, Some, None, Ok, Err, map, length, get_or, false, ◌++◌, ◌∷◌, [], ◌&&◌, if◌then◌else◌, IfOk, IfErr, OnOk, position, bytes_eq};
+ghost use Rattle.macro_defs.specs.MacroDefinition.{without_line};
+ghost use Rattle.macro_defs.specs.Marks.{is_identifier, is_hash, is_pasting};
+ghost use Rattle.macro_expand.specs.Replacement.{parts_after, parts_of, one_joins, stands_alone, object_parts, argument_named, is_join, first_part, with_name, common_names, replacement};
+ghost use Rattle.macro_expand.specs.Parts.{operand_part, part_of, begins_spelling, object_part, Marks};
+ghost use Rattle.macro_expand.specs.Pieces.{arguments_seen};
+ghost use Rattle.macro_expand.specs.Sets.{names_in};
+ghost use Rattle.macro_expand.specs.Expansion.{object_replacement, variable_of};
+ghost use Rattle.macro_expand.specs.Seen.{marked_of, lists_of, part_seen, parts_seen, Reports, call_replaced_by};
+
+use crate::call::ReadCall;
+use crate::hide_set::HideSet;
+use crate::marked::Marked;
+use crate::outcome::RunError;
+use crate::paste::join_pieces;
+use crate::pieces::{Arguments, read_pieces};
+use crate::placing::put_in_for;
+use base_types::Bytes;
+use macro_defs::Definition;
+use pp_tokens::{Kind, Token};
+use std::alloc::{AllocError, Global};
+
+// What a token of a replacement list stands for: itself, the argument of a number with the space of its parameter, the
+// spelling of one (`#`), or a join (`##`).
+#[derive(Clone, Copy, Debug, Drop)]
+pub(crate) enum Part<'d> {
+    Plain(&'d Token),
+    Argument(usize, bool),
+    Spelling(usize, bool),
+    Join,
+}
+
+// Whether a token is a `#`.
+fn is_hash_mark(t: &Token) -> bool
+    ensures { result ≡ is_hash t.now }
+{
+    t.kind == Kind::Punct
+        && (t.text.as_slice() == b"#".as_slice() || t.text.as_slice() == b"%:".as_slice())
+}
+
+// Whether a token is a `##`.
+fn is_pasting_mark(t: &Token) -> bool
+    ensures { result ≡ is_pasting t.now }
+{
+    t.kind == Kind::Punct
+        && (t.text.as_slice() == b"##".as_slice() || t.text.as_slice() == b"%:%:".as_slice())
+}
+
+// Whether a token is an identifier.
+fn is_name(t: &Token) -> bool
+    ensures { result ≡ is_identifier t.now }
+{
+    matches!(t.kind, Kind::Ident)
+}
+
+// The number of the parameter of this name. It costs a comparison for each parameter before it.
+fn parameter_number(params: &[Bytes], name: &[u8]) -> Option<usize>
+    ensures { result ≡ position (bytes_eq name.now) params.now }
+{
+    params.iter().position(|p| name == p.as_slice())
+}
+
+// The number of the parameter that a token names.
+fn parameter_named(params: &[Bytes], t: &Token) -> Option<usize>
+    ensures { result ≡ argument_named params.now t.now }
+{
+    if is_name(t) {
+        parameter_number(params, t.text.as_slice())
+    } else {
+        None
+    }
+}
+
+// What a token that is no join stands for, by the parameter that it names.
+fn operand_at<'d>(hash: Option<bool>, t: &'d Token, parameter: Option<usize>) -> Part<'d>
+    ensures { part_seen result ≡ operand_part hash (without_line t.now) parameter }
+{
+    let Some(i) = parameter else {
+        return Part::Plain(t);
+    };
+    match hash {
+        Some(space) => Part::Spelling(i, space),
+        None => Part::Argument(i, t.space),
+    }
+}
+
+// What a token stands for that no `#` stands before.
+fn unhashed_part<'d>(params: &[Bytes], t: &'d Token) -> Part<'d>
+    ensures { part_seen result ≡ part_of None params.now (without_line t.now) }
+{
+    if is_pasting_mark(t) {
+        return Part::Join;
+    }
+    operand_at(None, t, parameter_named(params, t))
+}
+
+// What a token of a function-like macro's replacement list stands for; `hash` is the space of a `#` right before it.
+fn part_at<'d>(hash: Option<bool>, params: &[Bytes], t: &'d Token) -> Part<'d>
+    ensures { part_seen result ≡ part_of hash params.now (without_line t.now) }
+{
+    match hash {
+        None => unhashed_part(params, t),
+        Some(space) => operand_at(Some(space), t, parameter_named(params, t)),
+    }
+}
+
+// Whether a token is a `#` that no other stands right before.
+fn begins_spelling(hash: Option<bool>, t: &Token) -> bool
+    ensures { result ≡ begins_spelling hash t.now }
+{
+    match hash {
+        None => is_hash_mark(t),
+        Some(_) => false,
+    }
+}
+
+// What the tokens of a function-like macro's replacement list stand for.
+fn read_each_part<'d>(
+    alloc: Global,
+    params: &[Bytes],
+    body: &'d [Token],
+) -> Result<Vec<Part<'d>>, AllocError>
+    ensures { IfOk result (λ parts. parts_seen parts.items ≡ parts_after None params.now (map without_line body.now)) }
+{
+    let mut parts = Vec::with_capacity(alloc, body.len())?;
+    let mut hash = None;
+    for t in body {
+        if begins_spelling(hash, t) {
+            hash = Some(t.space);
+        } else {
+            parts.push(part_at(hash, params, t))?;
+            hash = None;
+        }
+    }
+    Ok(parts)
+}
+
+// The parts of a function-like macro's replacement list, with `##` several times in a row as one.
+pub(crate) fn read_parts<'d>(
+    alloc: Global,
+    params: &[Bytes],
+    body: &'d [Token],
+) -> Result<Vec<Part<'d>>, AllocError>
+    ensures { IfOk result (λ parts. parts_seen parts.items ≡ parts_of params.now (map without_line body.now)) }
+{
+    let each = read_each_part(alloc, params, body)?;
+    with_one_joins(alloc, each.as_slice())
+}
+
+// The parts with each run of joins as one.
+#[tactic(auto, unfolding(crate::specs::Replacement::one_joins))]
+fn with_one_joins<'d>(alloc: Global, each: &[Part<'d>]) -> Result<Vec<Part<'d>>, AllocError>
+    ensures { IfOk result (λ parts. parts_seen parts.items ≡ one_joins false (parts_seen each.now)) }
+{
+    let mut parts = Vec::new(alloc);
+    let mut joined = false;
+    for p in each {
+        put_part(&mut parts, joined, *p)?;
+        joined = is_join(p);
+    }
+    Ok(parts)
+}
+
+// Adds a part, unless it is a join right behind another.
+fn put_part<'d>(parts: &mut Vec<Part<'d>>, joined: bool, p: Part<'d>) -> Result<(), AllocError>
+    ensures { OnOk result (parts_seen parts.new.items ≡ parts_seen parts.old.items ++ (if (joined && is_join (Some (part_seen p.entry))) then [] else (part_seen p.entry ∷ []))) }
+{
+    let again = joined && is_join(&p);
+    if again {
+        return Ok(());
+    }
+    parts.push(p)?;
+    Ok(())
+}
+
+// What a token of an object-like macro's replacement list stands for.
+fn object_part(t: &Token) -> Part
+    ensures { part_seen result ≡ object_part (without_line t.now) }
+{
+    if is_pasting_mark(t) {
+        Part::Join
+    } else {
+        Part::Plain(t)
+    }
+}
+
+// The parts of an object-like macro's replacement list.
+fn read_object_parts<'d>(alloc: Global, body: &'d [Token]) -> Result<Vec<Part<'d>>, AllocError>
+    ensures { IfOk result (λ parts. parts_seen parts.items ≡ object_parts (map without_line body.now)) }
+{
+    let mut parts = Vec::with_capacity(alloc, body.len())?;
+    for t in body {
+        parts.push(object_part(t))?;
+    }
+    Ok(parts)
+}
+
+// Whether a part is a `##`.
+fn is_join(p: &Part) -> bool
+    ensures { result ≡ is_join (Some (part_seen p.now)) }
+{
+    matches!(p, Part::Join)
+}
+
+// Whether `##` stands first.
+pub(crate) fn begins_with_join(parts: &[Part]) -> bool
+    ensures { result ≡ is_join (first_part (parts_seen parts.now)) }
+{
+    matches!(parts, [Part::Join, ..])
+}
+
+// Marks the argument that a part is, where it stands beside no `##`; `joined` says that one stands before it.
+fn mark_alone(alone: &mut Vec<bool>, joined: bool, p: &Part, rest: &[Part])
+    ensures { Marks alone.old.items alone.new.items joined (part_seen p.now) (parts_seen rest.now) }
+{
+    if let Part::Argument(i, _) = p
+        && !joined
+        && !begins_with_join(rest)
+        && *i < alone.len()
+    {
+        alone[*i] = true;
+    }
+}
+
+// For each argument, whether it stands somewhere beside no `##`, so that it is expanded by itself (6.10.3.1).
+pub(crate) fn standing_alone(
+    alloc: Global,
+    parts: &[Part],
+    count: usize,
+) -> Result<Vec<bool>, AllocError>
+    ensures length { IfOk result (λ alone. length alone.items ≡ count) }
+    ensures each { IfOk result (λ alone. (i : ℕ) → i < count → get_or alone.items i false ≡ stands_alone i None (parts_seen parts.now)) }
+{
+    let mut alone = vec![in alloc; false; count]?;
+    let mut joined = false;
+    for (k, p) in parts.iter().enumerate() {
+        let (_, rest) = parts.split_at(k + 1);
+        mark_alone(&mut alone, joined, p, rest);
+        joined = is_join(p);
+    }
+    Ok(alone)
+}
+
+// The number of the variable argument, where the macro has one.
+pub(crate) fn variable_number(params: &[Bytes], variadic: bool) -> Option<usize>
+    ensures { result ≡ variable_of params.now variadic }
+{
+    if variadic {
+        Some(params.len().saturating_sub(1))
+    } else {
+        None
+    }
+}
+
+// What a name is replaced by, over the parts of its replacement list and its arguments: their pieces, joined and put in.
+fn replaced(
+    alloc: Global,
+    t: &Marked,
+    hidden: &HideSet,
+    parts: &[Part],
+    arguments: &Arguments,
+) -> Result<Vec<Marked>, RunError>
+    ensures ok { IfOk result (λ ts. replacement t.now.token (names_in hidden.now) (parts_seen parts.now) (arguments_seen arguments.now)
+        ≡ Ok (map marked_of ts.items)) }
+    ensures err { IfErr result (λ e. Reports e
+        (replacement t.now.token (names_in hidden.now) (parts_seen parts.now) (arguments_seen arguments.now))) }
+{
+    let pieces = read_pieces(alloc, parts, arguments)?;
+    let made = join_pieces(alloc, t, pieces)?;
+    let out = put_in_for(alloc, &t.token, hidden, made)?;
+    Ok(out)
+}
+
+// The names that an object-like macro's replacement hides: those of its name, and itself (6.10.3.4).
+fn hidden_by_name(alloc: Global, t: &Marked) -> Result<HideSet, AllocError>
+    ensures { IfOk result (λ h. (n : List ℕ) → names_in h n ≡ with_name t.now.token.text (names_in t.now.hidden) n) }
+{
+    t.hidden.with(alloc, t.token.text.as_slice())
+}
+
+// The names that a call's replacement hides: those that its name and its `)` both hide, and itself (6.10.3.4).
+fn hidden_by_call(alloc: Global, t: &Marked, close: &Marked) -> Result<HideSet, AllocError>
+    ensures { IfOk result (λ h. (n : List ℕ) → names_in h n
+        ≡ with_name t.now.token.text (common_names (names_in t.now.hidden) (names_in close.now.hidden)) n) }
+{
+    let common = t.hidden.common(alloc, &close.hidden)?;
+    common.with(alloc, t.token.text.as_slice())
+}
+
+// What the name of an object-like macro is replaced by.
+pub(crate) fn object_tokens(
+    alloc: Global,
+    t: &Marked,
+    d: &Definition,
+) -> Result<Vec<Marked>, RunError>
+    ensures ok { IfOk result (λ ts. object_replacement (marked_of t.now) d.now.body ≡ Ok (map marked_of ts.items)) }
+    ensures err { IfErr result (λ e. Reports e (object_replacement (marked_of t.now) d.now.body)) }
+{
+    let parts = read_object_parts(alloc, d.body())?;
+    let hidden = hidden_by_name(alloc, t)?;
+    let arguments = Arguments {
+        written: &[],
+        expanded: &[],
+        variable: None,
+    };
+    replaced(alloc, t, &hidden, &parts, &arguments)
+}
+
+// What a call is replaced by.
+pub(crate) fn call_tokens(
+    alloc: Global,
+    t: &Marked,
+    parts: &[Part],
+    variable: Option<usize>,
+    call: &ReadCall,
+    expanded: &[Vec<Marked>],
+) -> Result<Vec<Marked>, RunError>
+    ensures ok { IfOk result (λ ts. call_replaced_by t.now (parts_seen parts.now) variable (lists_of call.now.written.items)
+        (marked_of call.now.close) (lists_of expanded.now) ≡ Ok (map marked_of ts.items)) }
+    ensures err { IfErr result (λ e. Reports e (call_replaced_by t.now (parts_seen parts.now) variable
+        (lists_of call.now.written.items) (marked_of call.now.close) (lists_of expanded.now))) }
+{
+    let hidden = hidden_by_call(alloc, t, &call.close)?;
+    let arguments = Arguments {
+        written: &call.written,
+        expanded,
+        variable,
+    };
+    replaced(alloc, t, &hidden, parts, &arguments)
+}

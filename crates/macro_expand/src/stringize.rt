@@ -1,0 +1,116 @@
+// The operator `#` (ISO C 6.10.3.2).
+ghost use Rattle.std.specs.Prelude.{◌≡◌, ◌++◌, ◌∷◌, [], ◌&&◌, ◌||◌, ◌==◌, not, map, true, IfOk, OnOk, if◌then◌else◌};
+ghost use Rattle.macro_defs.specs.Marks.{is_literal};
+ghost use Rattle.macro_expand.specs.Replacement.{escaped, spelling_of, spellings, stringized};
+ghost use Rattle.macro_expand.specs.Seen.{marked_of};
+
+use crate::hide_set::HideSet;
+use crate::marked::Marked;
+use base_types::Bytes;
+use pp_tokens::{Kind, Token};
+use std::alloc::{AllocError, Global};
+
+// Whether a byte has a `\` before it in a literal.
+fn needs_escape(b: u8) -> bool
+    ensures { result ≡ ((b == 92) || (b == 34)) }
+{
+    b == b'\\' || b == b'"'
+}
+
+// Adds one byte of a literal, with a `\` before a `\` or `"`.
+fn put_escaped_byte(text: &mut Vec<u8>, b: u8) -> Result<(), AllocError>
+    ensures { OnOk result (text.new.items ≡ text.old.items ++ (if (b == 92) || (b == 34) then 92 ∷ b ∷ [] else b ∷ [])) }
+{
+    if needs_escape(b) {
+        text.push(b'\\')?;
+    }
+    text.push(b)?;
+    Ok(())
+}
+
+fn put_escaped(text: &mut Vec<u8>, literal: &[u8]) -> Result<(), AllocError>
+    ensures { OnOk result (text.new.items ≡ text.old.items ++ escaped literal.now) }
+{
+    for b in literal {
+        put_escaped_byte(text, *b)?;
+    }
+    Ok(())
+}
+
+// Whether a token is a string literal or a character constant.
+fn is_quoted(t: &Token) -> bool
+    ensures { result ≡ is_literal t.now }
+{
+    matches!(t.kind, Kind::Str | Kind::Char)
+}
+
+// Adds the spelling of a token, as it stands within a literal.
+fn put_token(text: &mut Vec<u8>, t: &Token) -> Result<(), AllocError>
+    ensures { OnOk result (text.new.items ≡ text.old.items ++ spelling_of t.now) }
+{
+    if is_quoted(t) {
+        return put_escaped(text, t.text.as_slice());
+    }
+    text.extend_from_slice(t.text.as_slice())
+}
+
+// Adds a space where one is wanted.
+fn put_space(text: &mut Vec<u8>, wanted: bool) -> Result<(), AllocError>
+    ensures { OnOk result (text.new.items ≡ text.old.items ++ (if wanted then 32 ∷ [] else [])) }
+{
+    if wanted {
+        text.push(b' ')?;
+    }
+    Ok(())
+}
+
+// Whether white space stands between a token and the one before it.
+fn is_spaced(first: bool, t: &Token) -> bool
+    ensures { result ≡ (t.now.space && not first) }
+{
+    t.space && !first
+}
+
+// Adds the spellings of tokens, with one space where white space stands between two.
+fn put_tokens(text: &mut Vec<u8>, tokens: &[Marked]) -> Result<(), AllocError>
+    ensures { OnOk result (text.new.items ≡ text.old.items ++ spellings true (map marked_of tokens.now)) }
+{
+    let mut first = true;
+    for t in tokens {
+        put_space(text, is_spaced(first, &t.token))?;
+        put_token(text, &t.token)?;
+        first = false;
+    }
+    Ok(())
+}
+
+// The spelling of the literal that `#` makes.
+fn literal_of(alloc: Global, tokens: &[Marked]) -> Result<Vec<u8>, AllocError>
+    ensures { IfOk result (λ text. text.items ≡ 34 ∷ spellings true (map marked_of tokens.now) ++ 34 ∷ []) }
+{
+    let mut text = Vec::new(alloc);
+    text.push(b'"')?;
+    put_tokens(&mut text, tokens)?;
+    text.push(b'"')?;
+    Ok(text)
+}
+
+// The string literal that `#` makes of an argument, with the space of the `#`. It costs the length of the spellings.
+pub(crate) fn stringized(
+    alloc: Global,
+    space: bool,
+    tokens: &[Marked],
+) -> Result<Marked, AllocError>
+    ensures { IfOk result (λ m. marked_of m ≡ stringized space (map marked_of tokens.now)) }
+{
+    let text = Bytes::of(literal_of(alloc, tokens)?);
+    Ok(Marked {
+        token: Token {
+            kind: Kind::Str,
+            text,
+            line: 0,
+            space,
+        },
+        hidden: HideSet::none(alloc),
+    })
+}
