@@ -1,0 +1,3 @@
+#define defined 1
+#define TWICE(x) x x
+TWICE(__LINE__) __FILE__
