@@ -1,16 +1,17 @@
 // An exchange with a host, and what its reply says.
-ghost use Rattle.std.specs.Prelude.{◌≡◌, ◌<◌, length, false};
+ghost use Rattle.std.specs.Prelude.{◌≡◌, ◌<◌, length, false, IfOk};
 ghost use Rattle.io_edges.specs.Talk.{EachAnswered};
 ghost use Rattle.build_clients.specs.Outside.{seen_end};
-ghost use Rattle.job_frames.specs.Reply.{longest_reply};
+ghost use Rattle.job_frames.specs.Outcomes.{nothing_follows, value_of};
+ghost use Rattle.job_frames.specs.Reply.{longest_reply, reply_at};
 ghost use Rattle.build_clients.specs.Steps.{Asks, Says};
 
 use crate::talking::{Reply, exchange};
 use crate::{Cause, End};
 use base_types::Bytes;
 use io_edges::{Host, LinkFault, LinkState, Outs, Wire};
-use job_frames::{Answer, replies_have_ends, reply_of, reply_spellings};
-use std::alloc::Global;
+use job_frames::{Answer, Fed, FrameError, ReplyReader, replies_have_ends, reply_spellings};
+use std::alloc::{AllocError, Global};
 use tree_model::Tree;
 
 /// What a request came to: a text, a diagnostic, or why the job is to be done locally.
@@ -55,7 +56,7 @@ fn judge(alloc: Global, reply: Reply) -> Replied
     if !reply.ended {
         return Replied::Failed(Cause::Peer);
     }
-    match reply_of(alloc, reply.bytes.as_slice()) {
+    match read_reply(alloc, reply.bytes.as_slice()) {
         Ok(Some(Answer::Text(text))) => return Replied::Text(text),
         Ok(Some(Answer::Diag(words))) => return Replied::Diag(words),
         Ok(Some(Answer::Refused(reason))) => {
@@ -67,4 +68,22 @@ fn judge(alloc: Global, reply: Reply) -> Replied
         Ok(None) => return Replied::Failed(Cause::Peer),
         Err(_) => return Replied::Failed(Cause::Memory),
     }
+}
+
+// The answer that the bytes of a whole reply give, where they give one.
+fn read_reply(alloc: Global, bytes: &[u8]) -> Result<Option<Answer>, AllocError>
+    ensures { IfOk result (λ answer. answer ≡ value_of (nothing_follows (reply_at bytes.now))) }
+{
+    let mut reader = ReplyReader::new(alloc);
+    if wants_memory(reader.feed(bytes)) {
+        return Err(AllocError);
+    }
+    reader.end();
+    Ok(reader.finish())
+}
+
+fn wants_memory(fed: Fed) -> bool
+    ensures { result ≡ false → fed ≡ Fed.Refused FrameError.Memory → ⊥ }
+{
+    fed == Fed::Refused(FrameError::Memory)
 }

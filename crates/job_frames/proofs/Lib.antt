@@ -1,15 +1,21 @@
 mod FieldLemmas
 mod DigitLemmas
+mod TokenLemmas
 mod StageLemmas
 mod RunLemmas
 mod ReaderLemmas
 mod SpellingLemmas
 mod SpelledLemmas
+mod ImageLemmas
+mod ImageLaws
+mod FirmLemmas
 mod TreeLemmas
 mod WriterLemmas
 mod ShortJobs
 mod ReplySpelling
 mod ReplySpelled
 mod ReplyEnds
-mod ReplyReading
+mod ReplyStageLemmas
+mod ReplyRunLemmas
+mod ReplyReaderLemmas
 pub mod DaemonLemmas

@@ -17,7 +17,7 @@ use Rattle.tree_model.specs.Entries.{Entries, Increasing}
 use Rattle.job_frames.specs.Readers.{Standing, left, request_of, Settled}
 use Rattle.job_frames.specs.Stages.{reading, wanted_of, Ready, left_to_read, Keeps, HasRunTo, Begins}
 
-abbrev got : Read → Got
+abbrev pub got : Read → Got
 got r = record { job = r.job; entries = r.entries }
 
 -- where all has come, whatever follows doesn't matter
@@ -79,7 +79,7 @@ version_reads : (r : Read) (bytes : List ℕ) → r.room ≡ most → reading Ve
 unfolding reading
 version_reads r bytes h = ap (λ room. request_from room bytes) h
 
-pub begins_keeps : (m : Machine) → Begins m → Keeps m × Settled m
+pub begins_keeps : (m : Machine) → Begins Version m → Keeps m × Settled m
 begins_keeps m b = (
   record {
     fits = subst (λ (p : List ℕ). length p ≤ wanted_of m.due) (sym b.pending) (omega arith);
@@ -89,11 +89,11 @@ begins_keeps m b = (
   inr (ap (λ (p : List ℕ). reading m.due m.read (p ++ [])) b.pending ∙ ap (λ (d : Due). reading d m.read []) b.due_is ∙ version_waits m.read),
 )
 
-pub begins_reads : (m : Machine) → Begins m → (bytes : List ℕ) → left_to_read m bytes ≡ request_at bytes
+pub begins_reads : (m : Machine) → Begins Version m → (bytes : List ℕ) → left_to_read m bytes ≡ request_at bytes
 begins_reads m b bytes =
     ap (λ (p : List ℕ). reading m.due m.read (p ++ bytes)) b.pending ∙ ap (λ (d : Due). reading d m.read bytes) b.due_is ∙ version_reads m.read bytes b.room
 
-none_of : (o : Option FrameError) → false ≡ is_some o → o ≡ None
+pub none_of : (o : Option FrameError) → false ≡ is_some o → o ≡ None
 none_of None h = refl
 none_of (Some e) h = absurd (cc)
 

@@ -17,7 +17,7 @@ allowed_passes limit low high n h = by_tests (nat_lt limit n) (nat_le low n) (na
     by_tests false true false e f h = absurd (cc)
     by_tests false false c e f h = absurd (cc)
 
-within_passes : (low high n : ℕ) → within low high n ≡ None → (low ≤ n) × (n ≤ high)
+pub within_passes : (low high n : ℕ) → within low high n ≡ None → (low ≤ n) × (n ≤ high)
 within_passes low high n h = by_tests (nat_le low n) (nat_le n high) refl refl h
   where
     by_tests : (b c : Bool) → nat_le low n ≡ b → nat_le n high ≡ c → cond {A = Option ℕ} (b && c) None (Some 5) ≡ None → (low ≤ n) × (n ≤ high)

@@ -1,11 +1,10 @@
 -- What a piece does, move by move.
-use Rattle.std.proofs.Common.{◌≡◌, ℕ, ◌+◌, ◌<◌, ◌≤◌, List, [], ◌++◌, length, drop, take, sym, ◌∙◌, ap, subst, arith, append_assoc, drop-drop, length-drop, inl, inr}
-use Rattle.std.proofs.lemmas.List.{take-append-drop}
+use Rattle.std.proofs.Common.{◌≡◌, ℕ, ◌+◌, ◌<◌, ◌≤◌, List, [], ◌++◌, length, drop, take, sym, ◌∙◌, ap, subst, arith, drop-drop, length-drop, inl, inr}
 use Rattle.job_frames.specs.declared.machine.Due.{Due}
 use Rattle.job_frames.specs.declared.machine.Due.TheVariants.{Whole}
 use Rattle.job_frames.specs.declared.machine.Read.{Read}
 use Rattle.job_frames.specs.declared.machine.Machine.{Machine}
-use Rattle.job_frames.specs.declared.machine.Move.TheVariants.{Rest, Go}
+use Rattle.job_frames.specs.declared.moves.Move.TheVariants.{Rest, Go}
 use Rattle.job_frames.specs.declared.Fed.{Fed}
 use Rattle.job_frames.specs.declared.Fed.TheVariants as fed
 use Rattle.job_frames.specs.declared.FrameError.{FrameError}
@@ -13,12 +12,7 @@ use Rattle.tree_model.specs.Entries.{Increasing}
 use Rattle.job_frames.specs.Fields.{short}
 use Rattle.job_frames.specs.Stages.{reading, wanted_of, Ready, Moves, left_to_read, Keeps, Filled, Passed, HasRunTo}
 use Rattle.job_frames.proofs.FieldLemmas.{past_end}
-
--- bytes moved from the piece to the field stay in their place
-same_bytes : (p rest more : List ℕ) (n : ℕ) → (p ++ take n rest) ++ (drop n rest ++ more) ≡ p ++ (rest ++ more)
-same_bytes p rest more n =
-    append_assoc p (take n rest) (drop n rest ++ more)
-    ∙ ap (λ (b : List ℕ). p ++ b) (sym (append_assoc (take n rest) (drop n rest) more) ∙ ap (λ (b : List ℕ). b ++ more) (take-append-drop n rest))
+use Rattle.job_frames.proofs.TokenLemmas.{same_bytes}
 
 pub filled_passed : (old m filled : Machine) (piece : List ℕ) (at n : ℕ) → Passed old piece at m → Filled m (drop at piece) filled n → Passed old piece (at + n) filled
 filled_passed old m filled piece at n passed h = (

@@ -16,7 +16,7 @@ use Rattle.job_frames.specs.Request.{node_bytes, entry_bytes, image_bytes}
 use Rattle.job_frames.specs.Request.{Got, Onward, most, node_then, dir_then, made_then, link_then, target_then, file_then, file_body_then, judged_then, path_then, name_then, entries_from, image_from, with_job, word_body_then, word_then, words_from, count_from, place_body_from, place_from, request_from, request_at, request_bytes, IsSpellable, MayFollow, AreWords, IsRequest}
 use Rattle.job_frames.specs.Outcomes.{done, whatever_follows}
 use Rattle.job_frames.proofs.DigitLemmas.{number_read}
-use Rattle.job_frames.proofs.StageLemmas.{body_there}
+use Rattle.job_frames.proofs.TokenLemmas.{body_there}
 
 small_number : (n : ℕ) → n ≤ 67108864 → n < 16 ^ 8
 small_number n h = omega arith

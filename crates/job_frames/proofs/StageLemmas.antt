@@ -1,9 +1,6 @@
 -- What a token that is due, and what follows it, are read as.
-use Rattle.std.proofs.Common.{◌≡◌, ◌≢◌, ℕ, zero, suc, ◌+◌, ◌-◌, ◌*◌, ◌<◌, ◌≤◌, List, [], ◌∷◌, ◌++◌, length, drop, take, refl, sym, ◌∙◌, ap, subst, arith, Option, Some, None, cond, true, false, Bool}
-use Rattle.std.proofs.lemmas.List.{append-nil}
-use Rattle.std.proofs.lemmas.Bool.{lt-ltb, le-ltb}
-use Rattle.std.proofs.Common.{length-append, get_or, inl, inr}
-use Rattle.std.proofs.Math.Seq.{take-append_seam, drop-append_seam}
+use Rattle.std.proofs.Common.{◌≡◌, ◌≢◌, ℕ, zero, suc, ◌+◌, ◌-◌, ◌*◌, ◌<◌, ◌≤◌, List, [], ◌∷◌, ◌++◌, length, refl, sym, ◌∙◌, ap, subst, arith, Option, Some, None, cond, true, false, Bool}
+use Rattle.std.proofs.Common.{get_or, inl, inr}
 use Rattle.std.proofs.lemmas.Bool.{eq-eqb, ne_eqb}
 use Rattle.std.specs.List.{list_any, list_all}
 use Rattle.tree_model.specs.Paths.{spelled}
@@ -12,8 +9,8 @@ use Rattle.tree_model.specs.Entries.{below, comes_behind, is_increasing, Increas
 use Rattle.tree_model.specs.declared.mem_tree.MirrorError.{MirrorError}
 use Rattle.tree_model.specs.declared.mem_tree.MirrorError.TheVariants as mirror
 use Rattle.job_frames.specs.declared.machine.Machine.{Machine}
-use Rattle.job_frames.specs.declared.machine.Move.{Move}
-use Rattle.job_frames.specs.declared.machine.Move.TheVariants.{Rest, Go}
+use Rattle.job_frames.specs.declared.moves.Move.{Move}
+use Rattle.job_frames.specs.declared.moves.Move.TheVariants.{Rest, Go}
 use Rattle.job_frames.specs.declared.Fed.TheVariants as fed
 use Rattle.job_frames.specs.Stages.{IsPushed, Moves, left_to_read, Keeps}
 use Rattle.std.specs.Prelude.{Result, Ok, Err}
@@ -30,37 +27,29 @@ use Rattle.job_words.specs.Words.{job_of}
 use Rattle.job_frames.specs.declared.machine.Due.{Due}
 use Rattle.job_frames.specs.declared.machine.Due.TheVariants.{Version, Place, PlaceBody, Argc, Word, WordBody, Words, Count, Name, Path, Kind, Dir, Made, Link, Target, File, Body, Whole}
 use Rattle.job_frames.specs.declared.machine.Read.{Read}
-use Rattle.job_frames.specs.Fields.{Step, short, refused, taken, ◌>>=◌, number_at, judged, body_at, room_behind, bare, within}
+use Rattle.job_frames.specs.Fields.{Step, short, refused, taken, ◌>>=◌, number_at, judged, room_behind, bare, within}
 use Rattle.job_frames.specs.Request.{Got, path_reason, at_path, entries_from, name_then, path_then, node_then, dir_then, made_then, link_then, target_then, file_then, file_body_then, image_from, words_from, word_then, word_body_then, count_from, place_body_from, place_from, request_from}
 use Rattle.job_frames.specs.Stages.{reading, is_token, letters_of, judge_of, next_of, body_of, wanted_of, words_due, names_due, Ready, PathReady, rank}
-use Rattle.job_frames.proofs.FieldLemmas.{number_onward, number_refused, both}
+use Rattle.job_frames.proofs.FieldLemmas.{both}
+use Rattle.job_frames.proofs.TokenLemmas as token
+use Rattle.job_frames.proofs.TokenLemmas.{number_waits, number_fails, number_judged, number_passes, body_short, body_there, empty}
 use Rattle.std.proofs.lemmas.List.Folds.{list_all-append}
 
 -- the parts, with less room behind a token
 abbrev pub behind : Due → ℕ → Read → Read
 behind due n r = record r { room = r.room - (12 + body_of due n) }
 
--- what is read behind a token's number, by its judge
-abbrev pub after_judge : Due → Read → ℕ → List ℕ → Option ℕ → Step Got
-after_judge due r n rest None = reading (next_of due n) (behind due n r) rest
-after_judge due r n rest (Some why) = refused why
+-- what is read behind a token's number
+abbrev pub onward : Due → Read → ℕ → List ℕ → Step Got
+onward due r n rest = reading (next_of due n) (behind due n r) rest
 
 abbrev pub after_number : Due → Read → Step ℕ → Step Got
-after_number due r short = short
-after_number due r (refused why) = refused why
-after_number due r (taken n rest) = after_judge due r n rest (judge_of due r.room n)
-
-by_judge : (due : Due) (r : Read) (n : ℕ) (rest : List ℕ) (o : Option ℕ) (next : ℕ → List ℕ → Step Got)
-    → next n rest ≡ reading (next_of due n) (behind due n r) rest → (judged o n rest >>= next) ≡ after_judge due r n rest o
-by_judge due r n rest None next h = h
-by_judge due r n rest (Some why) next h = refl
+after_number due r t = token.after_number (judge_of due r.room) (onward due r) t
 
 by_number : (due : Due) (r : Read) (t : Step ℕ) (next : ℕ → List ℕ → Step Got)
     → ((n : ℕ) (rest : List ℕ) → next n rest ≡ reading (next_of due n) (behind due n r) rest)
     → ((t >>= λ n rest. judged (judge_of due r.room n) n rest) >>= next) ≡ after_number due r t
-by_number due r short next h = refl
-by_number due r (refused why) next h = refl
-by_number due r (taken n rest) next h = by_judge due r n rest (judge_of due r.room n) next (h n rest)
+by_number due r t next h = token.by_number (judge_of due r.room) (onward due r) t next h
 
 words_read : (r : Read) (n : ℕ) (rest : List ℕ) → words_from n r.room r.cwd r.words rest ≡ reading (words_due n) r rest
 unfolding reading words_from
@@ -119,21 +108,19 @@ token_read (Body k n) r bytes t ready = absurd (cc)
 token_read Whole r bytes t ready = absurd (cc)
 
 pub token_waits : (due : Due) (r : Read) (p : List ℕ) → is_token due ≡ true → Ready due r → number_at (letters_of due) p ≡ short → reading due r (p ++ []) ≡ short
-token_waits due r p t ready e = ap (reading due r) (append-nil p) ∙ token_read due r p t ready ∙ ap (after_number due r) e
+token_waits due r p t ready e = number_waits (letters_of due) (judge_of due r.room) (onward due r) (reading due r) p (λ bytes. token_read due r bytes t ready) e
 
 pub token_fails : (due : Due) (r : Read) (p : List ℕ) (why : ℕ) → is_token due ≡ true → Ready due r → number_at (letters_of due) p ≡ refused why
     → (more : List ℕ) → reading due r (p ++ more) ≡ refused why
-token_fails due r p why t ready e more = token_read due r (p ++ more) t ready ∙ ap (after_number due r) (number_refused (letters_of due) p more why e)
+token_fails due r p why t ready e more = number_fails (letters_of due) (judge_of due r.room) (onward due r) (reading due r) p why (λ bytes. token_read due r bytes t ready) e more
 
 pub token_judged : (due : Due) (r : Read) (p rest : List ℕ) (n why : ℕ) → is_token due ≡ true → Ready due r → number_at (letters_of due) p ≡ taken n rest
     → judge_of due r.room n ≡ Some why → (more : List ℕ) → reading due r (p ++ more) ≡ refused why
-token_judged due r p rest n why t ready e j more =
-    token_read due r (p ++ more) t ready ∙ ap (after_number due r) (number_onward (letters_of due) p rest more n e) ∙ ap (after_judge due r n (rest ++ more)) j
+token_judged due r p rest n why t ready e j more = number_judged (letters_of due) (judge_of due r.room) (onward due r) (reading due r) p rest n why (λ bytes. token_read due r bytes t ready) e j more
 
 pub token_passes : (due : Due) (r : Read) (p : List ℕ) (n : ℕ) → is_token due ≡ true → Ready due r → number_at (letters_of due) p ≡ taken n []
     → judge_of due r.room n ≡ None → (more : List ℕ) → reading (next_of due n) (behind due n r) more ≡ reading due r (p ++ more)
-token_passes due r p n t ready e j more =
-    sym (token_read due r (p ++ more) t ready ∙ ap (after_number due r) (number_onward (letters_of due) p [] more n e) ∙ ap (after_judge due r n more) j)
+token_passes due r p n t ready e j more = number_passes (letters_of due) (judge_of due r.room) (onward due r) (reading due r) p n (λ bytes. token_read due r bytes t ready) e j more
 
 pub letters_length : (due : Due) → is_token due ≡ true → length (letters_of due) ≡ 4
 unfolding letters_of
@@ -251,22 +238,6 @@ rank_falls (Body k m) room n t j = absurd (cc)
 rank_falls Whole room n t j = absurd (cc)
 
 -- BODIES
-
-body_short : (n : ℕ) (p : List ℕ) → length p < n → body_at n (p ++ []) ≡ short
-unfolding body_at
-body_short n p h = rw (append-nil p) (rw (lt-ltb (length p) n h) refl)
-
-pub body_there : (n : ℕ) (p more : List ℕ) → length p ≡ n → body_at n (p ++ more) ≡ taken p more
-unfolding body_at
-body_there n p more h =
-    let long : n ≤ length (p ++ more) = omega (arith, length-append p more) in
-    rw (le-ltb (length (p ++ more)) n long) (rw (take-all p more n h, drop-all p more n h) refl)
-  where
-    take-all : (p more : List ℕ) (n : ℕ) → length p ≡ n → take n (p ++ more) ≡ p
-    take-all p more n h = subst (λ k. take k (p ++ more) ≡ p) h (take-append_seam p more)
-
-    drop-all : (p more : List ℕ) (n : ℕ) → length p ≡ n → drop n (p ++ more) ≡ more
-    drop-all p more n h = subst (λ k. drop k (p ++ more) ≡ more) h (drop-append_seam p more)
 
 at_path_short : (es : List (List (List ℕ) × Entry)) (o : Option (List (List ℕ))) (next : List (List ℕ) → Step Got) → PathReady es o → ((p : List (List ℕ)) → next p ≡ short) → at_path o next ≡ short
 at_path_short es None next ready h = absurd ready
@@ -495,10 +466,6 @@ pub judged_ready : (es : List (List (List ℕ) × Entry)) (text : List ℕ) (p :
 judged_ready es text p h =
     let good = judged_good es text p h in
     ap (comes_behind es) (path_spelled text p good.1) ∙ good.0
-
-pub empty : (p : List ℕ) → length p ≤ 0 → p ≡ []
-empty [] h = refl
-empty (b ∷ p) h = absurd (omega arith)
 
 pub empty_wanted : (k : ℕ) → (wanted_of Words ≡ 0) × (wanted_of (Made k) ≡ 0)
 unfolding wanted_of

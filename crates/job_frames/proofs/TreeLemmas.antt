@@ -3,9 +3,9 @@ use Rattle.std.proofs.Common.{◌≡◌, ℕ, zero, suc, ◌<◌, ◌≤◌, Lis
 use Rattle.std.specs.Prelude.{◌==◌, nat_le, nat_lt, not, ◌&&◌, All, slice_index_or}
 use Rattle.std.specs.List.{list_any, list_all, AllByRecursion}
 use Rattle.std.proofs.lemmas.List.{append-nil}
-use Rattle.std.proofs.lemmas.Bool.{leb-true, ltb-true, lt-ltb}
+use Rattle.std.proofs.lemmas.Bool.{le-leb, leb-true, ltb-true, lt-ltb}
 use Rattle.tree_model.specs.Paths.{Path, slash, spelled, spelled_below, is_name, is_canonical}
-use Rattle.tree_model.specs.Entries.{Entries, has_parent, is_increasing, parents_stand, entry_fits, links_fit, makes_tree}
+use Rattle.tree_model.specs.Entries.{Entries, has_parent, is_increasing, parents_stand, entry_fits, links_fit, body_fits, bodies_fit, makes_tree}
 use Rattle.tree_model.specs.declared.entry.Entry.{Entry}
 use Rattle.tree_model.specs.declared.entry.Entry.TheVariants.{Dir, File, Link}
 use Rattle.tree_model.specs.Laws.{JudgedMakeTrees, EntriesAreJudged}
@@ -30,6 +30,18 @@ follow_tree made before (e ∷ es) h m =
 
 pub request_tree : JudgedMakeTrees → (job : Job) (es : Entries) → IsRequest job es → makes_tree es ≡ true
 request_tree made job es is = follow_tree made [] es refl is.follow
+
+fits_body : (e : Entry) → IsSpellable e → body_fits e ≡ true
+fits_body Dir is = refl
+fits_body (File body) is = le-leb (length body) 16777216 is
+fits_body (Link text) is = refl
+
+follow_bodies : (before es : Entries) → MayFollow before es → bodies_fit es ≡ true
+follow_bodies before [] m = refl
+follow_bodies before (e ∷ es) m = rw (fits_body e.1 m.1, follow_bodies (before ++ e ∷ []) es m.2) refl
+
+pub request_bodies : (job : Job) (es : Entries) → IsRequest job es → bodies_fit es ≡ true
+request_bodies job es is = follow_bodies [] es is.follow
 
 -- FROM A TREE TO A REQUEST
 

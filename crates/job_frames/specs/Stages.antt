@@ -11,8 +11,8 @@ use Rattle.job_frames.specs.declared.machine.Due.{Due}
 use Rattle.job_frames.specs.declared.machine.Due.TheVariants.{Version, Place, PlaceBody, Argc, Word, WordBody, Words, Count, Name, Path, Kind, Dir, Made, Link, Target, File, Body, Whole}
 use Rattle.job_frames.specs.declared.machine.Read.{Read}
 use Rattle.job_frames.specs.declared.machine.Machine.{Machine}
-use Rattle.job_frames.specs.declared.machine.Move.{Move}
-use Rattle.job_frames.specs.declared.machine.Move.TheVariants.{Rest, Go}
+use Rattle.job_frames.specs.declared.moves.Move.{Move}
+use Rattle.job_frames.specs.declared.moves.Move.TheVariants.{Rest, Go}
 use Rattle.job_frames.specs.declared.machine.Ran.{Ran}
 use Rattle.job_frames.specs.declared.Fed.{Fed}
 use Rattle.job_frames.specs.declared.Fed.TheVariants as fed
@@ -226,10 +226,11 @@ HasRunTo old piece new at (fed.Refused e) = (e ≡ why.Memory) ⊎ ((more : List
 abbrev pub HasRun : Machine → List ℕ → Machine → Ran → Type 0
 HasRun old piece new ran = HasRunTo old piece new ran.at ran.fed
 
--- a machine to which nothing has come
-pub record Begins (m : Machine) : Type 0 where
-  pub due_is : m.due ≡ Version
+-- a machine where this field is due, and to which nothing has come
+pub record Begins (due : Due) (m : Machine) : Type 0 where
+  pub due_is : m.due ≡ due
   pub pending : m.pending.items ≡ []
   pub room : m.read.room ≡ most
   pub words : m.read.words ≡ []
+  pub job : m.read.job ≡ None
   pub entries : m.read.entries ≡ []

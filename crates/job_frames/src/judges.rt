@@ -57,7 +57,7 @@ fn judge_within(high: u32, n: u32) -> Option<FrameError>
 
 // This number alone.
 #[tactic(auto, using(std::proofs::lemmas::Bool::Decides::nat_tests))]
-fn judge_version(n: u32) -> Option<FrameError>
+pub fn judge_version(n: u32) -> Option<FrameError>
     ensures { told_judge result ≡ only 0x103 2 n }
 {
     if n == 0x103 {

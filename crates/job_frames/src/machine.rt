@@ -1,5 +1,5 @@
-// Where a reader of requests stands, and its moves.
-ghost use Rattle.std.specs.Prelude.{◌≡◌, ◌≤◌, ◌<◌, ◌++◌, length, [], true, ◌==◌, nat_lt, IfOk};
+// Where a reader of requests or images stands, and its moves.
+ghost use Rattle.std.specs.Prelude.{◌≡◌, ◌≤◌, ◌<◌, ◌++◌, length, [], true, ◌==◌, IfOk};
 ghost use Rattle.std.specs.List.{list_any};
 ghost use Rattle.job_frames.specs.Stages.{Keeps, Moves, IsJudged, IsPushed, IsFilled, HasRun, Begins};
 ghost use Rattle.job_frames.specs.Request.{path_reason};
@@ -13,6 +13,7 @@ use crate::fields::{Number, token_number};
 use crate::judges::{
     after_entry, after_token, after_word, body_length, is_token, judge, letters_due, wanted,
 };
+use crate::moves::{Move, lacks, top_up};
 use crate::{Fed, FrameError};
 use base_types::{Bytes, List};
 use job_words::{Job, WordError, read_words};
@@ -61,13 +62,6 @@ pub struct Machine {
     pub pending: Vec<u8>,
     pub due: Due,
     pub read: Read,
-}
-
-// One move: the verdict, or the next field is due.
-#[derive(Clone, Copy, Drop)]
-pub enum Move {
-    Rest(Fed),
-    Go,
 }
 
 // A move where a token is due.
@@ -265,14 +259,6 @@ fn has_zero(text: &[u8]) -> bool
     text.iter().any(|c| *c == 0)
 }
 
-// Fewer bytes have come than are wanted.
-#[tactic(auto, using(std::proofs::lemmas::Bool::Decides::nat_tests))]
-fn lacks(have: usize, wanted: usize) -> bool
-    ensures { result ≡ nat_lt have wanted }
-{
-    have < wanted
-}
-
 // One move.
 fn step(m: &mut Machine) -> Move
     requires keeps { Keeps m.old }
@@ -303,15 +289,8 @@ fn fill(m: &mut Machine, rest: &[u8]) -> Result<usize, AllocError>
     requires keeps { Keeps m.old }
     ensures { IsFilled m.old rest.now m.new result }
 {
-    let missing = wanted(m.due) - m.pending.len();
-    let n = if missing < rest.len() {
-        missing
-    } else {
-        rest.len()
-    };
-    let (front, _) = rest.split_at(n);
-    m.pending.extend_from_slice(front)?;
-    Ok(n)
+    let size = wanted(m.due);
+    top_up(&mut m.pending, size, rest)
 }
 
 // The verdict on a piece behind all that came, and how many bytes of it are left behind the end.
@@ -343,14 +322,14 @@ pub fn run(m: &mut Machine, piece: &[u8]) -> Ran
     }
 }
 
-// A machine to which nothing has come.
-pub fn begin(alloc: Global) -> Machine
-    ensures { Begins result }
+// A machine where a field is due, and to which nothing has come.
+pub fn begin(alloc: Global, due: Due) -> Machine
+    ensures { Begins due result }
 {
     Machine {
         alloc,
         pending: Vec::new(alloc),
-        due: Due::Version,
+        due,
         read: Read {
             room: 268435456,
             cwd: Bytes::new(alloc),

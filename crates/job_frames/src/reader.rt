@@ -1,7 +1,8 @@
 // A reader of requests that is fed in any pieces.
 ghost use Rattle.std.specs.Prelude.{◌≡◌, ◌∷◌, [], ◌++◌, ℕ, List};
 ghost use Rattle.job_frames.specs.Request.{request_at};
-ghost use Rattle.job_frames.specs.Outcomes.{IsFed, IsEnded, whatever_follows, value_of};
+ghost use Rattle.job_frames.specs.Outcomes.{IsFed, IsEnded, number_of, reason, whatever_follows, value_of};
+ghost use Rattle.job_frames.specs.declared.Fed.TheVariants.{Refused};
 ghost use Rattle.job_frames.specs.Readers.{request_of, left};
 
 use crate::machine::{Due, Machine, Read, begin, run};
@@ -37,14 +38,15 @@ impl RequestReader {
         ensures { (bytes : List ℕ) → left result bytes ≡ whatever_follows (request_at bytes) }
     {
         RequestReader {
-            machine: begin(alloc),
+            machine: begin(alloc, Due::Version),
             stopped: None,
         }
     }
 
     /// Takes the next piece, and answers the verdict on all bytes so far. A refusal stays, and so does `Done`.
     pub fn feed(&mut self, piece: &[u8]) -> Fed
-        ensures { IsFed (left self.old) piece.now (left self.new) result }
+        ensures fed { IsFed (left self.old) piece.now (left self.new) result }
+        ensures stays { (e : FrameError) → result ≡ Refused e → (more : List ℕ) → left self.new more ≡ reason (number_of e) }
     {
         if let Some(e) = self.stopped {
             return Fed::Refused(e);

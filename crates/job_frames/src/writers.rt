@@ -1,4 +1,4 @@
-// Writing requests and replies.
+// Writing requests, images and replies.
 ghost use Rattle.std.specs.Prelude.{◌≡◌, ◌≤◌, ◌<◌, ◌++◌, length, IfOk, OnOk, All};
 ghost use Rattle.job_frames.specs.Fields.{digit, digits, token, field};
 ghost use Rattle.job_frames.specs.declared.answer.Answer.TheVariants as answer;
@@ -77,6 +77,17 @@ fn push_entries(out: &mut Vec<u8>, entries: &[(CanonPath, Entry)]) -> Result<(),
         push_node(out, &e.1)?;
     }
     Ok(())
+}
+
+/// The image of entries.
+pub fn write_entries(alloc: Global, entries: &[(CanonPath, Entry)]) -> Result<Bytes, AllocError>
+    requires few { length entries.now ≤ 100000 }
+    requires fit { All HasSpelling entries.now }
+    ensures { IfOk result (λ bytes. bytes ≡ image_bytes entries.now) }
+{
+    let mut out = Vec::new(alloc);
+    push_entries(&mut out, entries)?;
+    Ok(Bytes::of(out))
 }
 
 /// The request of a job with entries.

@@ -4,7 +4,7 @@ ghost use Rattle.job_frames.specs.Request.{HasSpelling};
 
 use crate::files::path;
 use base_types::Bytes;
-use job_frames::{Answer, Fed, FrameError, RequestReader, reply_of, write_reply, write_request};
+use job_frames::{Answer, Fed, FrameError, ReplyReader, RequestReader, write_reply, write_request};
 use job_words::read_words;
 use std::alloc::{AllocError, Global};
 use std::test::Fail;
@@ -38,6 +38,14 @@ fn replies_are_written(rt: HostRuntime) -> Result<(), Fail> {
         b"RFSE00000009".as_slice()
     );
     Ok(())
+}
+
+// The answer of a whole reply.
+fn read_whole(alloc: Global, bytes: &[u8]) -> Option<Answer> {
+    let mut reader = ReplyReader::new(alloc);
+    reader.feed(bytes);
+    reader.end();
+    reader.finish()
 }
 
 #[test]
@@ -91,7 +99,7 @@ fn whole_replies_are_read(rt: HostRuntime) -> Result<(), Fail> {
         (b"".as_slice(), '-', b"".as_slice()),
     ];
     for (bytes, kind, content) in rows {
-        let (is, holds) = shown(alloc, reply_of(alloc, bytes)?)?;
+        let (is, holds) = shown(alloc, read_whole(alloc, bytes))?;
         assert_eq!(rt; is, kind);
         assert_eq!(rt; holds.as_slice(), content);
     }

@@ -3,12 +3,9 @@ use Rattle.job_frames.specs.declared.machine.Due.{Due}
 use Rattle.job_frames.specs.Fields.{number_at, taken}
 use Rattle.job_frames.specs.Stages.{wanted_of, reading, letters_of, rank, is_token, Ready}
 use Rattle.job_frames.proofs.FieldLemmas.{past_end}
+use Rattle.job_frames.proofs.TokenLemmas.{same_number}
 use Rattle.job_frames.proofs.StageLemmas.{token_waits, token_fails, token_judged, token_passes, letters_length, token_wanted, ready_next, rank_falls, behind}
 use Rattle.job_frames.proofs.machine.token_move.Goals as goal
-
--- what was read of the token is what stands there
-same_number : (due letters rest bytes : List ℕ) → due ≡ letters → rest ≡ bytes → number_at letters bytes ≡ number_at due rest
-same_number due letters rest bytes d r = rw (d, r) refl
 
 -- the digits end the field
 no_rest : (due : Due) (p : List ℕ) → is_token due ≡ true → length p ≤ wanted_of due → drop 12 p ≡ []

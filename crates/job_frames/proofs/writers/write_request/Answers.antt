@@ -5,7 +5,6 @@ use Rattle.search_path.specs.SetupOf.{SetupData}
 use Rattle.job_frames.specs.Fields.{token, field}
 use Rattle.job_frames.specs.Request.{image_bytes}
 use Rattle.job_frames.specs.Request.{request_bytes, words_bytes}
-use Rattle.job_frames.proofs.ShortJobs.{short-cwd, few-words, short-words}
 use Rattle.job_frames.proofs.WriterLemmas.{chained}
 use Rattle.job_frames.proofs.writers.write_request.Goals as goal
 

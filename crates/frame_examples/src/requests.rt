@@ -1,0 +1,91 @@
+// A good request: its cuts, what stands behind it, and what it gives.
+use crate::edits::{DIR_NAME, HEADER_NAME, NFIL, behind, check_edit, front, good};
+use crate::entries::shown;
+use crate::feeding::{Verdict, check_request};
+use job_frames::{Fed, FrameError, RequestReader};
+use job_words::Job;
+use std::alloc::{AllocError, Global};
+use std::process::Abort;
+use std::test::Fail;
+
+#[test]
+fn is_whole_with_its_last_byte(rt: HostRuntime) -> Result<(), AllocError> {
+    let alloc = rt.alloc();
+    let whole = Verdict {
+        fed: Fed::Done,
+        at: 180,
+    };
+    check_request(&rt, alloc, good(), whole);
+    let mut longer = good().to_vec(alloc)?;
+    longer.extend_from_slice(b"DIST00000104")?;
+    check_request(&rt, alloc, longer.as_slice(), whole);
+    Ok(())
+}
+
+#[test]
+fn is_whole_with_two_entries(rt: HostRuntime) -> Result<(), AllocError> {
+    let alloc = rt.alloc();
+    let mut fewer = front(good(), NFIL).to_vec(alloc)?;
+    fewer.extend_from_slice(b"NFIL00000002")?;
+    fewer.extend_from_slice(behind(good(), DIR_NAME))?;
+    let whole = Verdict {
+        fed: Fed::Done,
+        at: HEADER_NAME,
+    };
+    check_request(&rt, alloc, fewer.as_slice(), whole);
+    Ok(())
+}
+
+#[test]
+fn is_whole_with_no_entries_or_a_link(rt: HostRuntime) -> Result<(), AllocError> {
+    let alloc = rt.alloc();
+    check_edit(&rt, alloc, NFIL, b"NFIL00000000", Fed::Done)?;
+    check_edit(
+        &rt,
+        alloc,
+        HEADER_NAME,
+        b"NAME00000006/w/b.hLINK00000003a.c",
+        Fed::Done,
+    )
+}
+
+// A request that is cut after its bytes is refused as `Cut`, and stays so when the rest comes.
+#[test]
+fn stays_cut(rt: HostRuntime) {
+    for n in 0usize..180 {
+        let mut reader = RequestReader::new(rt.alloc());
+        assert_eq!(rt; reader.feed(front(good(), n)), Fed::More);
+        assert_eq!(rt; reader.end(), Fed::Refused(FrameError::Cut));
+        assert_eq!(rt; reader.feed(good()), Fed::Refused(FrameError::Cut));
+        assert!(rt; reader.finish().is_none());
+    }
+}
+
+// The job of the good request.
+fn check_job<A: Abort>(rt: &A, job: &Job) {
+    assert_eq!(rt; job.setup().cwd(), b"/w".as_slice());
+    assert_eq!(rt; job.words().len(), 1);
+    for word in job.words() {
+        assert_eq!(rt; word.as_slice(), b"a.c".as_slice());
+    }
+    assert_eq!(rt; job.source(), b"a.c".as_slice());
+    assert_eq!(rt; job.output(), b"a.i".as_slice());
+    assert!(rt; job.forced().is_empty());
+}
+
+#[test]
+fn gives_its_job_and_entries(rt: HostRuntime) -> Result<(), Fail> {
+    let alloc = rt.alloc();
+    let mut reader = RequestReader::new(alloc);
+    assert_eq!(rt; reader.feed(good()), Fed::Done);
+    match reader.finish() {
+        None => assert!(rt; false, "a whole request gives a job"),
+        Some((job, entries)) => {
+            check_job(&rt, &job);
+            let text = shown(alloc, entries.as_slice())?;
+            let lines = "/w dir\n/w/a.c file #include \"b.h\"\nint x;\n\n/w/b.h file int y;\n\n";
+            assert_eq!(rt; text.as_slice(), lines.as_bytes());
+        }
+    }
+    Ok(())
+}
