@@ -4,3 +4,7 @@ pub mod Paired
 pub mod Standing
 pub mod WholeTrees
 pub mod WholeRequests
+pub mod ReplyPuts
+pub mod RequestReads
+pub mod WholeServing
+pub mod PeerAnswers

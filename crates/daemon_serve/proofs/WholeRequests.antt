@@ -1,14 +1,13 @@
 -- A request that was read whole.
-use Rattle.std.proofs.Common.{◌≡◌, List, [], ℕ, Option, None, Some, IsTrue, inl, inr, refl, sym, ◌∙◌, ap, subst, append-nil}
+use Rattle.std.proofs.Common.{◌≡◌, List, ℕ, Option, None, Some, refl, sym, ◌∙◌, ap, subst}
 use Rattle.std.specs.Option.{option_map}
-use Rattle.tree_model.specs.Entries.{Entries, makes_tree}
+use Rattle.tree_model.specs.Entries.{Entries}
 use Rattle.job_words.specs.declared.job.Job.{Job}
-use Rattle.job_frames.specs.declared.Fed.{Fed}
 use Rattle.job_frames.specs.Fields.{Step, short, refused, taken}
-use Rattle.job_frames.specs.Outcomes.{Verdict, going, done, reason, Left, IsFed, IsEnded, after_end, whatever_follows}
+use Rattle.job_frames.specs.Outcomes.{Verdict, going, done, reason, whatever_follows}
 use Rattle.job_frames.specs.Readers.{request_of}
-use Rattle.job_frames.specs.Request.{Got, request_at}
-use Rattle.job_frames.specs.Laws.{RequestsAreSpelled, RequestsMakeTrees}
+use Rattle.job_frames.specs.Request.{Got, IsRequest, request_at}
+use Rattle.job_frames.specs.Laws.{RequestsAreSpelled}
 
 -- a verdict that gives a request is that of its job and entries
 abbrev pub got_of : Job → Entries → Got
@@ -21,41 +20,35 @@ by-job (Some other) all entries job e =
     let pair : ◌≡◌ {A = Job × Entries} (other, all) (job, entries) = cc in
     ap (λ (p : Job × Entries). done (got_of p.0 p.1)) pair
 
-given-by : (v : Verdict Got) (job : Job) (entries : Entries) → request_of v ≡ Some (job, entries) → v ≡ done (got_of job entries)
+pub given-by : (v : Verdict Got) (job : Job) (entries : Entries) → request_of v ≡ Some (job, entries) → v ≡ done (got_of job entries)
 given-by going job entries e = absurd (cc)
 given-by (done got) job entries e = by-job got.job got.entries entries job e
 given-by (reason n) job entries e = absurd (cc)
 
--- what a reader gave at its end it gave of all bytes
-at-end : (now : Verdict Got) (got : Got) → after_end now now ≡ done got → now ≡ done got
-at-end going got e = absurd (cc)
-at-end (done a) got e = e
-at-end (reason n) got e = absurd (cc)
-
-of-all : (before fed last : Left Got) (sent : List ℕ) (answer ending : Fed) (got : Got) → IsFed before sent fed answer → IsEnded fed last ending → last [] ≡ done got → before sent ≡ done got
-of-all before fed last sent answer ending got (inl going_on) ended given =
-    let now : fed [] ≡ done got = at-end (fed []) got (sym (ended.1 []) ∙ given) in
-    ap before (sym (append-nil sent)) ∙ sym (going_on.1 []) ∙ now
-of-all before fed last sent answer ending got (inr stopped) ended given =
-    let now : fed [] ≡ done got = at-end (fed []) got (sym (ended.1 []) ∙ given) in
-    let never : reason 1 ≡ done got = sym (stopped.2 []) ∙ now in
-    absurd (cc)
-
-makes-tree : RequestsAreSpelled → RequestsMakeTrees → (sent : List ℕ) (got : Got) → whatever_follows (request_at sent) ≡ done got → IsTrue (makes_tree got.entries)
-makes-tree spelled trees sent got e = by_step (request_at sent) refl e
+-- a whole request has a job, and is within the limits
+pub request-of : RequestsAreSpelled → (read : List ℕ) (got : Got) → whatever_follows (request_at read) ≡ done got → (job : Job) × IsRequest job got.entries
+request-of spelled read got e = by_step (request_at read) refl e
   where
-    by_step : (s : Step Got) → request_at sent ≡ s → whatever_follows s ≡ done got → IsTrue (makes_tree got.entries)
+    by_step : (s : Step Got) → request_at read ≡ s → whatever_follows s ≡ done got → (job : Job) × IsRequest job got.entries
     by_step short is f = absurd (cc)
     by_step (refused n) is f = absurd (cc)
     by_step (taken a rest) is f =
         let same : a ≡ got = cc in
-        let read = spelled sent a rest is in
-        subst (λ (g : Got). IsTrue (makes_tree g.entries)) same (trees read.0 a.entries read.2)
+        let request = spelled read a rest is in
+        (request.0, subst (λ (g : Got). IsRequest request.0 g.entries) same request.2)
 
-pub whole-request : RequestsAreSpelled → RequestsMakeTrees → (before fed last : Left Got) (sent : List ℕ) (answer ending : Fed) (job : Job) (entries : Entries)
-    → before sent ≡ whatever_follows (request_at sent) → IsFed before sent fed answer → IsEnded fed last ending → request_of (last []) ≡ Some (job, entries)
-    → (whatever_follows (request_at sent) ≡ done (got_of job entries)) × IsTrue (makes_tree entries)
-whole-request spelled trees before fed last sent answer ending job entries begun fed_is ended given =
-    let got = of-all before fed last sent answer ending (got_of job entries) fed_is ended (given-by (last []) job entries given) in
-    let whole : whatever_follows (request_at sent) ≡ done (got_of job entries) = sym begun ∙ got in
-    (whole, makes-tree spelled trees sent (got_of job entries) whole)
+some-job : (o : Option Job) (entries : Entries) (job : Job) → o ≡ Some job → option_map {U = Job × Entries} (λ j. (j, entries)) o ≡ None → ⊥
+some-job None entries job is none = cc
+some-job (Some j) entries job is none = cc
+
+-- a whole request has a job
+pub never-none : RequestsAreSpelled → (read : List ℕ) (got : Got) → whatever_follows (request_at read) ≡ done got → request_of (done got) ≡ None → ⊥
+never-none spelled read got e none = by_step (request_at read) refl e
+  where
+    by_step : (s : Step Got) → request_at read ≡ s → whatever_follows s ≡ done got → ⊥
+    by_step short is f = absurd (cc)
+    by_step (refused n) is f = absurd (cc)
+    by_step (taken a rest) is f =
+        let same : a ≡ got = cc in
+        let request = spelled read a rest is in
+        some-job got.job got.entries request.0 (ap (λ (g : Got). g.job) (sym same) ∙ request.1) none

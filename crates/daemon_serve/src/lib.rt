@@ -1,15 +1,25 @@
-//! The wire in memory, whose other side is an answerer, and the daemon as such a side.
+//! Serving one request, from any source into any sink; the wire in memory, whose other side is an answerer, and the daemon
+//! as such a side.
 #![tactic(auto)]
 
 mod answerer;
+mod buffer_sink;
+mod daemon;
 mod exchange_calls;
 mod last_exchange;
 mod mem_wire;
+mod piece_source;
 mod pieces;
+mod reading;
+mod replying;
 mod scripted;
 mod serve_peer;
+mod serving;
 
 pub use answerer::Answerer;
+pub use daemon::{Serve, daemon_words, inetd};
 pub use mem_wire::MemWire;
+pub use piece_source::PieceSource;
 pub use scripted::Scripted;
 pub use serve_peer::ServePeer;
+pub use serving::{Served, serve};

@@ -2,10 +2,18 @@
 ghost use Rattle.std.specs.Prelude.{◌≡◌, true};
 
 use base_types::Bytes;
-use daemon_serve::{Answerer, MemWire, Scripted, ServePeer};
-use io_edges::{Host, LinkState, Wire};
+use daemon_serve::{
+    Answerer, MemWire, PieceSource, Scripted, Serve, ServePeer, Served, daemon_words, inetd, serve,
+};
+use io_edges::{Host, LinkState, MemSink, MemSource, Wire};
 use std::alloc::{AllocError, Global};
 use std::test::Fail;
+
+// The request of an empty source, and the reply to it.
+const REQUEST: &str =
+    "DIST00000103CDIR00000002/wARGC00000001ARGV00000003a.cNFIL00000002NAME00000002/wMDIR00000000NAME00000006/w/a.cFILE00000000";
+
+const REPLY: &str = "DONE00000103STAT00000000SERR00000000DOTI0000000d# 1 \"/w/a.c\"\n";
 
 fn a_host(alloc: Global) -> Result<Host, AllocError> {
     Ok(Host {
@@ -102,13 +110,8 @@ fn calls_fail_where_listed(rt: HostRuntime) -> Result<(), Fail> {
 
 #[test]
 fn the_daemon_answers_with_the_text(rt: HostRuntime) -> Result<(), Fail> {
-    let request =
-        b"DIST00000103CDIR00000002/wARGC00000001ARGV00000003a.cNFIL00000002NAME00000002/wMDIR00000000NAME00000006/w/a.cFILE00000000";
-    let reply = ServePeer.answer(rt.alloc(), request.as_slice())?;
-    assert_eq!(rt;
-        reply.as_slice(),
-        b"DONE00000103STAT00000000SERR00000000DOTI0000000d# 1 \"/w/a.c\"\n".as_slice()
-    );
+    let reply = ServePeer.answer(rt.alloc(), REQUEST.as_bytes())?;
+    assert_eq!(rt; reply.as_slice(), REPLY.as_bytes());
     Ok(())
 }
 
@@ -118,5 +121,52 @@ fn the_daemon_refuses_by_the_reason(rt: HostRuntime) -> Result<(), Fail> {
     assert_eq!(rt; cut.as_slice(), b"RFSE00000009".as_slice());
     let other = ServePeer.answer(rt.alloc(), b"XXXX".as_slice())?;
     assert_eq!(rt; other.as_slice(), b"RFSE00000003".as_slice());
+    Ok(())
+}
+
+#[test]
+fn a_request_is_served_in_pieces(rt: HostRuntime) -> Result<(), Fail> {
+    let alloc = rt.alloc();
+    let mut source = PieceSource::new(REQUEST.as_bytes(), vec![in alloc; 1, 2, 30]?);
+    let mut sink = MemSink::new(alloc, Vec::new(alloc));
+    assert_eq!(rt; serve(alloc, &mut source, &mut sink), Served::Replied);
+    assert_eq!(rt; sink.bytes(), REPLY.as_bytes());
+    Ok(())
+}
+
+#[test]
+fn a_request_that_ends_too_early_is_cut(rt: HostRuntime) -> Result<(), Fail> {
+    let alloc = rt.alloc();
+    let mut source = PieceSource::new(b"DIST00000103CDIR", vec![in alloc; 5]?);
+    let mut sink = MemSink::new(alloc, Vec::new(alloc));
+    assert_eq!(rt; serve(alloc, &mut source, &mut sink), Served::Refused(9));
+    assert_eq!(rt; sink.bytes(), b"RFSE00000009".as_slice());
+    Ok(())
+}
+
+// The status of a daemon that gets these bytes, where the calls of these numbers fail.
+fn status(alloc: Global, request: &str, reads: &[u64], writes: &[u64]) -> Result<u8, AllocError> {
+    let bytes = Bytes::copy_of(alloc, request.as_bytes())?;
+    let mut source = MemSource::new(bytes, reads.to_vec(alloc)?);
+    let mut sink = MemSink::new(alloc, writes.to_vec(alloc)?);
+    Ok(inetd(alloc, &mut source, &mut sink))
+}
+
+#[test]
+fn a_status_tells_how_serving_ended(rt: HostRuntime) -> Result<(), Fail> {
+    let alloc = rt.alloc();
+    assert_eq!(rt; status(alloc, REQUEST, &[], &[])?, 0);
+    assert_eq!(rt; status(alloc, "DIST00000104", &[], &[])?, 1);
+    assert_eq!(rt; status(alloc, REQUEST, &[1], &[])?, 3);
+    assert_eq!(rt; status(alloc, REQUEST, &[], &[1])?, 4);
+    Ok(())
+}
+
+#[test]
+fn a_daemon_has_one_word(rt: HostRuntime) -> Result<(), Fail> {
+    assert_eq!(rt; daemon_words(&["--inetd"]), Some(Serve::Inetd));
+    assert_eq!(rt; daemon_words(&[]), None);
+    assert_eq!(rt; daemon_words(&["--inetd", "--inetd"]), None);
+    assert_eq!(rt; daemon_words(&["inetd"]), None);
     Ok(())
 }

@@ -1,5 +1,5 @@
 // Jobs whose outcome is a diagnostic.
-use crate::example::{Placed, Talk, Want, asked, gives};
+use crate::example::{Placed, Talk, Want, asked, byte_by_byte, gives};
 use std::test::Fail;
 
 #[test]
@@ -21,7 +21,8 @@ fn a_header_that_is_missing_is_the_daemons_diagnostic(rt: HostRuntime) -> Result
                        /w/a.c:1: error: cannot find \"b.h\"DOTI00000000",
         }),
     };
-    gives(&rt, rt.alloc(), &asked(&files), &want)
+    gives(&rt, rt.alloc(), &asked(&files), &want)?;
+    gives(&rt, rt.alloc(), &byte_by_byte(&files), &want)
 }
 
 #[test]

@@ -1,12 +1,12 @@
 // What a run is given, and what has to come of it.
-ghost use Rattle.std.specs.Prelude.{◌≡◌, IfOk, IsTrue};
+ghost use Rattle.std.specs.Prelude.{◌≡◌, ◌<◌, All, IfOk, IsTrue};
 ghost use Rattle.tree_model.specs.Entries.{links_fit};
 
 use base_types::Bytes;
 use daemon_serve::{MemWire, ServePeer};
 use io_edges::{MemOuts, MemSink, MemSource, MemSpawner};
 use pump_run::{End, pump};
-use std::alloc::Global;
+use std::alloc::{AllocError, Global};
 use std::process::Abort;
 use std::sync::Wait;
 use std::test::Fail;
@@ -21,7 +21,8 @@ pub struct Placed<'a> {
 }
 
 /// What a run is given: the words, the list, the files of the tree beside the directory `/w`, in order of their paths, and
-/// the numbers of the calls that fail, from 1; at the wire with the number of their exchange, from 0.
+/// the numbers of the calls that fail, from 1; at the wire with the number of their exchange, from 0. The wire gives at most
+/// `piece` bytes at a time, or all where that is 0.
 #[derive(Clone, Copy, Drop)]
 pub struct Given<'a> {
     pub words: &'a [&'a str],
@@ -31,6 +32,7 @@ pub struct Given<'a> {
     pub tree_fails: &'a [u64],
     pub wire_fails: &'a [(u32, u32)],
     pub outs_fails: &'a [u64],
+    pub piece: u32,
 }
 
 /// The bytes of an exchange.
@@ -60,7 +62,15 @@ pub fn asked<'a>(files: &'a [Placed<'a>]) -> Given<'a> {
         tree_fails: &[],
         wire_fails: &[],
         outs_fails: &[],
+        piece: 0,
     }
+}
+
+/// The same, where the wire gives one byte at a time.
+pub fn byte_by_byte<'a>(files: &'a [Placed<'a>]) -> Given<'a> {
+    let mut given = asked(files);
+    given.piece = 1;
+    given
 }
 
 /// Runs, and asserts that what has to come of it did.
@@ -77,7 +87,7 @@ pub fn gives<R: Threads + Wait + Sync + Abort>(
     let failing = given.wire_fails.to_vec(alloc)?;
     let end = End {
         tree,
-        wire: MemWire::new(alloc, ServePeer, Vec::new(alloc), failing),
+        wire: MemWire::new(alloc, ServePeer, pieces(alloc, given.piece)?, failing),
         outs: MemOuts::new(alloc, given.outs_fails.to_vec(alloc)?),
     };
     let mut ends = vec![in alloc; end]?;
@@ -104,6 +114,17 @@ pub fn gives<R: Threads + Wait + Sync + Abort>(
     has_text(rt, &end.outs, want.text);
     has_exchange(rt, &end.wire, want.exchange);
     Ok(())
+}
+
+// The greatest lengths of a wire's pieces.
+fn pieces(alloc: Global, piece: u32) -> Result<Vec<u32>, AllocError>
+    ensures { IfOk result (λ lengths. All (λ n. 0 < n) lengths.items) }
+{
+    let mut lengths = Vec::new(alloc);
+    if piece > 0 {
+        lengths.push(piece)?;
+    }
+    Ok(lengths)
 }
 
 /// The directory `/w` and the files.

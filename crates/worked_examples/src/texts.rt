@@ -1,5 +1,5 @@
 // Jobs that a daemon does.
-use crate::example::{Placed, Talk, Want, asked, gives};
+use crate::example::{Placed, Talk, Want, asked, byte_by_byte, gives};
 use crate::header::{FILES, TALK, TEXT};
 use std::test::Fail;
 
@@ -30,5 +30,6 @@ fn an_included_header_is_sent(rt: HostRuntime) -> Result<(), Fail> {
         text: Some(TEXT),
         exchange: Some(TALK),
     };
-    gives(&rt, rt.alloc(), &asked(&FILES), &want)
+    gives(&rt, rt.alloc(), &asked(&FILES), &want)?;
+    gives(&rt, rt.alloc(), &byte_by_byte(&FILES), &want)
 }

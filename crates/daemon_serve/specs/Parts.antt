@@ -1,0 +1,83 @@
+-- The parts of serving a request: reading it, and putting the reply.
+use Rattle.std.specs.Prelude.{◌≡◌, ◌⊎◌, ◌≤◌, ℕ, List, [], ◌++◌, Option, Some, Result, Ok, Err, IsTrue}
+use Rattle.std.specs.Io.KnownBytes.{prepend_known}
+use Rattle.base_types.specs.Causes.{Rose}
+use Rattle.base_types.specs.Told.{added}
+use Rattle.tree_model.specs.Entries.{Entries, makes_tree, bodies_fit}
+use Rattle.job_words.specs.declared.job.Job.{Job}
+use Rattle.job_frames.specs.declared.FrameError.{FrameError}
+use Rattle.job_frames.specs.declared.FrameError.TheVariants as why
+use Rattle.job_frames.specs.declared.answer.Answer.TheVariants as answer
+use Rattle.job_frames.specs.Outcomes.{Left, going, done, number_of}
+use Rattle.job_frames.specs.Request.{Got}
+use Rattle.job_frames.specs.Reply.{reply_bytes}
+use Rattle.io_edges.specs.declared.sink.WriteFault as sink
+use Rattle.io_edges.specs.declared.sink.WriteFault.TheVariants as fault
+use Rattle.daemon_serve.specs.declared.reading.NoRequest.{NoRequest}
+use Rattle.daemon_serve.specs.declared.reading.NoRequest.TheVariants as no
+use Rattle.daemon_serve.specs.declared.serving.Served.{Served}
+use Rattle.daemon_serve.specs.declared.serving.Served.TheVariants.{Refused, ReadFault, WriteFault, Memory}
+use Rattle.daemon_serve.specs.Serving.{verdict_on, StopsInTime, IsReasonOf, IsCut, IsFront}
+
+-- While a request is read: nothing is wrong with the bytes read, and the reader says of each text that may come what is to
+-- be said of all bytes.
+pub record IsReading (left left' : Option (List ℕ)) (reads reads' : ℕ) (reader : Left Got) : Type 0 where
+  pub read : List ℕ
+  pub taken : left ≡ prepend_known read left'
+  pub says : (more : List ℕ) → reader more ≡ verdict_on (read ++ more)
+  pub due : verdict_on read ≡ going
+  pub later : reads ≤ reads'
+
+-- a whole request has come to a reader
+abbrev pub HasWhole : Left Got → Type 0
+HasWhole reader = (read : List ℕ) × (got : Got) × (reader [] ≡ verdict_on read) × (verdict_on read ≡ done got)
+
+-- what was read where a request, or none, was read
+abbrev pub ReadTells : Result (Job × Entries) NoRequest → List ℕ → Option (List ℕ) → ℕ → ℕ → Type 0
+ReadTells (Ok request) read left reads reads' = (verdict_on read ≡ done (record { job = Some request.0; entries = request.1 })) × IsTrue (makes_tree request.1) × IsTrue (bodies_fit request.1)
+ReadTells (Err no.Fault) read left reads reads' = (verdict_on read ≡ going) × Rose reads reads'
+ReadTells (Err (no.Refused e)) read left reads reads' = (e ≡ why.Memory) ⊎ (IsReasonOf read (number_of e) ⊎ IsCut read left (number_of e))
+
+pub record IsRequestRead (left left' : Option (List ℕ)) (reads reads' : ℕ) (result : Result (Job × Entries) NoRequest) : Type 0 where
+  pub read : List ℕ
+  pub taken : left ≡ prepend_known read left'
+  pub in_time : StopsInTime read
+  pub later : reads ≤ reads'
+  pub tells : ReadTells result read left' reads reads'
+
+-- how serving ends where a refusal was put
+abbrev pub refusal_served : FrameError → Served
+refusal_served why.Memory = Memory
+refusal_served why.Version = Refused 2
+refusal_served why.Token = Refused 3
+refusal_served why.Digits = Refused 4
+refusal_served why.Limit = Refused 5
+refusal_served why.Order = Refused 6
+refusal_served why.Parent = Refused 7
+refusal_served why.Words = Refused 8
+refusal_served why.Cut = Refused 9
+
+-- how serving ends where the sink doesn't take the reply
+abbrev pub fault_served : sink.WriteFault → Served
+fault_served fault.Fault = WriteFault
+fault_served fault.Memory = Memory
+
+-- a front of a reply, or of the refusal for want of memory
+abbrev pub IsFrontOf : (List ℕ → Type 0) → List ℕ → Type 0
+IsFrontOf reply written = ((bytes : List ℕ) × reply bytes × IsFront written bytes) ⊎ IsFront written (reply_bytes (answer.Refused 1))
+
+-- a whole reply was put; or the sink failed or found no memory, or none was found for the reply
+abbrev pub PutTells : (List ℕ → Type 0) → Served → Served → List ℕ → Type 0
+PutTells reply whole served written = ((served ≡ whole) × reply written) ⊎ (((served ≡ WriteFault) ⊎ (served ≡ Memory)) × IsFrontOf reply written)
+
+pub record IsReplyPut (reply : List ℕ → Type 0) (whole : Served) (held held' : Option (List ℕ)) (puts puts' : ℕ) (served : Served) : Type 0 where
+  pub written : List ℕ
+  pub put : held' ≡ added written held
+  pub later : puts ≤ puts'
+  pub cause : served ≡ WriteFault → Rose puts puts'
+  pub tells : PutTells reply whole served written
+
+-- where no request was read: nothing is put where the source failed, else a refusal
+abbrev pub IsUnserved : NoRequest → Option (List ℕ) → Option (List ℕ) → ℕ → ℕ → Served → Type 0
+IsUnserved no.Fault held held' puts puts' served = (served ≡ ReadFault) × (held' ≡ held) × (puts' ≡ puts)
+IsUnserved (no.Refused e) held held' puts puts' served = IsReplyPut (λ bytes. bytes ≡ reply_bytes (answer.Refused (number_of e))) (refusal_served e) held held' puts puts' served

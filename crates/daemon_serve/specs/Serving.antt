@@ -1,0 +1,91 @@
+-- What serving one request does: what was read and written, and what the answer tells of them.
+use Rattle.std.specs.Prelude.{◌≡◌, ◌⊎◌, ◌≤◌, ℕ, List, [], ◌∷◌, ◌++◌, length, take, Option, Some, None, codes, bytes_eq, if◌then◌else◌}
+use Rattle.std.specs.Io.KnownBytes.{prepend_known, IsAtEnd}
+use Rattle.base_types.specs.Causes.{Rose}
+use Rattle.base_types.specs.Told.{added}
+use Rattle.job_frames.specs.declared.answer.Answer.TheVariants as answer
+use Rattle.job_frames.specs.Outcomes.{Verdict, going, done, reason, whatever_follows}
+use Rattle.job_frames.specs.Request.{Got, request_at}
+use Rattle.job_frames.specs.Reply.{reply_bytes}
+use Rattle.job_frames.specs.Daemon.{IsAnswerTo, IsReply}
+use Rattle.daemon_serve.specs.declared.serving.Served.{Served}
+use Rattle.daemon_serve.specs.declared.serving.Served.TheVariants.{Replied, Refused, ReadFault, WriteFault, Memory}
+use Rattle.daemon_serve.specs.declared.daemon.Serve.{Serve}
+use Rattle.daemon_serve.specs.declared.daemon.Serve.TheVariants.{Inetd}
+use Rattle.daemon_serve.specs.Served.{Answers}
+
+-- the greatest length of a piece that is read at once
+abbrev pub piece_limit : ℕ
+piece_limit = 65536
+
+-- the verdict on what was read; whatever follows a request's end doesn't matter
+abbrev pub verdict_on : List ℕ → Verdict Got
+verdict_on read = whatever_follows (request_at read)
+
+-- Reading goes on only while the request isn't whole and nothing is wrong: so it was before the last piece.
+pub record StopsInTime (read : List ℕ) : Type 0 where
+  pub before : List ℕ
+  pub last : List ℕ
+  pub parts : read ≡ before ++ last
+  pub piece : length last ≤ piece_limit
+  pub due : verdict_on before ≡ going
+
+-- the verdict on these bytes is the verdict whatever follows
+abbrev pub IsFirm : List ℕ → Type 0
+IsFirm read = (verdict_on read ≡ going → ⊥) → (more : List ℕ) → verdict_on (read ++ more) ≡ verdict_on read
+
+-- the reply to these bytes; that they are too few is replied only where the source gave its end
+abbrev pub IsReplyTo : List ℕ → Option (List ℕ) → List ℕ → Type 0
+IsReplyTo read left reply = IsReply Answers (verdict_on read) reply × (verdict_on read ≡ going → IsAtEnd left)
+
+-- a front of that reply, or of the refusal for want of memory
+abbrev pub IsFront : List ℕ → List ℕ → Type 0
+IsFront front whole = (k : ℕ) × (front ≡ take k whole)
+
+abbrev pub IsPartOfReply : List ℕ → Option (List ℕ) → List ℕ → Type 0
+IsPartOfReply read left written =
+    ((reply : List ℕ) × IsReplyTo read left reply × IsFront written reply) ⊎ IsFront written (reply_bytes (answer.Refused 1))
+
+-- a reason of the bytes that were read
+abbrev pub IsReasonOf : List ℕ → ℕ → Type 0
+IsReasonOf read n = (verdict_on read ≡ reason n) × (2 ≤ n) × (n ≤ 8)
+
+-- the bytes ended too early
+abbrev pub IsCut : List ℕ → Option (List ℕ) → ℕ → Type 0
+IsCut read left n = (n ≡ 9) × (verdict_on read ≡ going) × IsAtEnd left
+
+-- what an answer tells of the bytes read, of what the source has left, and of the bytes written
+abbrev pub Tells : Served → List ℕ → Option (List ℕ) → List ℕ → Type 0
+Tells Replied read left written = (got : Got) × (verdict_on read ≡ done got) × IsAnswerTo Answers got.job got.entries written
+Tells (Refused n) read left written = (written ≡ reply_bytes (answer.Refused n)) × (IsReasonOf read n ⊎ IsCut read left n)
+Tells ReadFault read left written = (written ≡ []) × (verdict_on read ≡ going)
+Tells WriteFault read left written = IsPartOfReply read left written
+Tells Memory read left written = IsPartOfReply read left written
+
+-- One request served, by what the source has left, what the sink holds and the counts of their faults, before and after.
+pub record IsServed (left left' : Option (List ℕ)) (reads reads' : ℕ) (held held' : Option (List ℕ)) (puts puts' : ℕ) (served : Served) : Type 0 where
+  pub read : List ℕ
+  pub written : List ℕ
+  pub taken : left ≡ prepend_known read left'
+  pub put : held' ≡ added written held
+  pub in_time : StopsInTime read
+  pub firm : IsFirm read
+  pub tells : Tells served read left' written
+  pub later_reads : reads ≤ reads'
+  pub later_puts : puts ≤ puts'
+  pub read_cause : served ≡ ReadFault → Rose reads reads'
+  pub write_cause : served ≡ WriteFault → Rose puts puts'
+
+-- the exit status of a program that served one request
+abbrev pub status_of : Served → ℕ
+status_of Replied = 0
+status_of (Refused n) = 1
+status_of ReadFault = 3
+status_of WriteFault = 4
+status_of Memory = 5
+
+-- what a daemon's words ask for
+abbrev pub serve_of : List (List ℕ) → Option Serve
+serve_of [] = None
+serve_of (word ∷ []) = if bytes_eq word (codes "--inetd") then Some Inetd else None
+serve_of (word ∷ next ∷ words) = None

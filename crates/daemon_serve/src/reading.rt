@@ -1,0 +1,65 @@
+// Reading one request from a source.
+ghost use Rattle.std.specs.Prelude.{◌≡◌, [], Some};
+ghost use Rattle.job_frames.specs.Readers.{left, request_of};
+ghost use Rattle.daemon_serve.specs.Parts.{HasWhole, IsRequestRead};
+
+use base_types::List;
+use io_edges::Source;
+use job_frames::{Fed, FrameError, RequestReader, request_spellings, request_trees};
+use job_words::Job;
+use std::alloc::Global;
+use tree_model::{CanonPath, Entry};
+
+// A source is read in pieces of at most so many bytes.
+const PIECE: usize = 16_384;
+
+// The bytes that a request has at most.
+const REQUEST_LIMIT: u32 = 268_435_456;
+
+// Why no request was read: the source failed, or the bytes are refused.
+#[derive(Drop)]
+pub(crate) enum NoRequest {
+    Fault,
+    Refused(FrameError),
+}
+
+// Reads a request, and no piece more once it is whole or refused.
+pub(crate) fn read_request<S: Source>(
+    alloc: Global,
+    source: &mut S,
+) -> Result<(Job, List<(CanonPath, Entry)>), NoRequest>
+    ensures { IsRequestRead (S.left source.old) (S.left source.new) (S.faults source.old) (S.faults source.new) result }
+{
+    request_spellings();
+    request_trees();
+    let mut reader = RequestReader::new(alloc);
+    let mut room = [0u8; PIECE];
+    for _ in 0..=REQUEST_LIMIT {
+        let n = match source.take(&mut room) {
+            Ok(n) => n,
+            Err(_) => return Err(NoRequest::Fault),
+        };
+        if n == 0 {
+            return Err(NoRequest::Refused(FrameError::Cut));
+        }
+        match reader.feed(&room[..n]) {
+            Fed::More => {}
+            Fed::Done => return Ok(finished(reader)),
+            Fed::Refused(why) => return Err(NoRequest::Refused(why)),
+        }
+    }
+    // Each turn reads a byte or more, so that the turns never run out: no request is longer.
+    Err(NoRequest::Refused(FrameError::Memory))
+}
+
+// The request of a reader to which a whole one has come.
+fn finished(reader: RequestReader) -> (Job, List<(CanonPath, Entry)>)
+    requires { HasWhole (left reader) }
+    ensures { request_of (left reader []) ≡ Some result }
+{
+    request_spellings();
+    match reader.finish() {
+        Some((job, entries)) => (job, entries),
+        None => unreachable!(),
+    }
+}

@@ -1,0 +1,125 @@
+// Putting one reply into a sink.
+ghost use Rattle.std.specs.Prelude.{◌≡◌, IfOk, IsTrue, Some};
+ghost use Rattle.tree_model.specs.Entries.{bodies_fit, makes_tree};
+ghost use Rattle.job_frames.specs.declared.answer.Answer.TheVariants.{Refused};
+ghost use Rattle.job_frames.specs.Daemon.{IsAnswerTo};
+ghost use Rattle.job_frames.specs.Outcomes.{number_of};
+ghost use Rattle.job_frames.specs.Reply.{reply_bytes};
+ghost use Rattle.daemon_serve.specs.Served.{Answers, carried};
+ghost use Rattle.daemon_serve.specs.Parts.{fault_served, refusal_served, IsReplyPut};
+
+use crate::serving::Served;
+use base_types::{Bytes, List};
+use daemon_cpp::{CppError, Outcome, preprocess};
+use io_edges::{Sink, WriteFault};
+use job_frames::{Answer, FrameError, write_reply};
+use job_words::Job;
+use mirror_tree::Mirror;
+use std::alloc::Global;
+use tree_model::{CanonPath, Entry};
+
+// Puts the reply to a request. A mirror has no call that fails, so that each error is want of memory.
+pub(crate) fn reply_to<K: Sink>(
+    alloc: Global,
+    sink: &mut K,
+    job: &Job,
+    entries: List<(CanonPath, Entry)>,
+) -> Served
+    requires made { IsTrue (makes_tree entries) }
+    requires bodies { IsTrue (bodies_fit entries) }
+    ensures { IsReplyPut (IsAnswerTo Answers (Some job.now) entries) Served.Replied (K.held sink.old) (K.held sink.new) (K.faults sink.old) (K.faults sink.new) result }
+{
+    match preprocessed(alloc, job, entries) {
+        Ok(reply) => return put_whole(sink, reply.as_slice(), Served::Replied),
+        Err(_) => return refuse(sink, FrameError::Memory),
+    }
+}
+
+// The reply that carries what preprocessing gives over the tree of the entries alone.
+fn preprocessed(
+    alloc: Global,
+    job: &Job,
+    entries: List<(CanonPath, Entry)>,
+) -> Result<Bytes, CppError>
+    requires made { IsTrue (makes_tree entries) }
+    requires bodies { IsTrue (bodies_fit entries) }
+    ensures { IfOk result (λ reply. IsAnswerTo Answers (Some job.now) entries reply) }
+{
+    let Ok(mut tree) = Mirror::build(alloc, entries) else {
+        unreachable!()
+    };
+    let answer = carrying(preprocess(alloc, &mut tree, job)?);
+    Ok(write_reply(alloc, &answer)?)
+}
+
+// The answer that carries an outcome.
+fn carrying(outcome: Outcome) -> Answer
+    ensures { result ≡ carried outcome }
+{
+    match outcome {
+        Outcome::Text(text) => Answer::Text(text),
+        Outcome::Diag(words) => Answer::Diag(words),
+    }
+}
+
+// Puts the refusal of a reason, which takes no memory.
+pub(crate) fn refuse<K: Sink>(sink: &mut K, why: FrameError) -> Served
+    ensures { IsReplyPut (λ bytes. bytes ≡ reply_bytes (Refused (number_of why))) (refusal_served why) (K.held sink.old) (K.held sink.new) (K.faults sink.old) (K.faults sink.new) result }
+{
+    put_whole(sink, refusal_bytes(why), refused(why))
+}
+
+// Puts a whole reply, and answers how serving ends then, if the sink takes it.
+fn put_whole<K: Sink>(sink: &mut K, reply: &[u8], served: Served) -> Served
+    requires { served ≡ Served.WriteFault → ⊥ }
+    ensures { IsReplyPut (λ bytes. bytes ≡ reply.now) served (K.held sink.old) (K.held sink.new) (K.faults sink.old) (K.faults sink.new) result }
+{
+    match sink.put(reply) {
+        Ok(()) => return served,
+        Err(fault) => return stopped(fault),
+    }
+}
+
+// How serving ends where the sink doesn't take the reply.
+fn stopped(fault: WriteFault) -> Served
+    ensures { result ≡ fault_served fault }
+{
+    match fault {
+        WriteFault::Fault => Served::WriteFault,
+        WriteFault::Memory => Served::Memory,
+    }
+}
+
+// How serving ends where a refusal was put.
+fn refused(why: FrameError) -> Served
+    ensures { result ≡ refusal_served why }
+{
+    match why {
+        FrameError::Memory => Served::Memory,
+        FrameError::Version => Served::Refused(2),
+        FrameError::Token => Served::Refused(3),
+        FrameError::Digits => Served::Refused(4),
+        FrameError::Limit => Served::Refused(5),
+        FrameError::Order => Served::Refused(6),
+        FrameError::Parent => Served::Refused(7),
+        FrameError::Words => Served::Refused(8),
+        FrameError::Cut => Served::Refused(9),
+    }
+}
+
+// The reply that refuses by a reason.
+pub(crate) fn refusal_bytes(why: FrameError) -> &'static [u8]
+    ensures { result.now ≡ reply_bytes (Refused (number_of why)) }
+{
+    match why {
+        FrameError::Memory => b"RFSE00000001",
+        FrameError::Version => b"RFSE00000002",
+        FrameError::Token => b"RFSE00000003",
+        FrameError::Digits => b"RFSE00000004",
+        FrameError::Limit => b"RFSE00000005",
+        FrameError::Order => b"RFSE00000006",
+        FrameError::Parent => b"RFSE00000007",
+        FrameError::Words => b"RFSE00000008",
+        FrameError::Cut => b"RFSE00000009",
+    }
+}
