@@ -1,0 +1,74 @@
+//! The daemon's program: one request on standard input, one reply on standard output.
+#![tactic(auto)]
+
+use daemon_serve::{Serve, daemon_words, inetd};
+use io_edges::{StdSink, StdSource};
+use std::alloc::{AllocError, Global};
+use std::io::ErrorKind;
+use std::process::ExitCode;
+use std::{env, io};
+
+const HELP: &str = "usage: pumpd --inetd < REQUEST > REPLY
+
+REQUEST is one request: a working directory, the words of a compile command, and
+the files that it may include, as frames. Of its source the daemon does what
+`cc -E` would, over these files alone, and writes one REPLY: a text, a
+diagnostic, or a refusal. It reads no further than the piece with the request's
+last byte, and looks at no file of the host.
+
+status: 0 a text or a diagnostic, 1 a refusal, 2 wrong words and nothing
+written, 3 the read failed and nothing written, 4 the write failed, 5 out of
+memory";
+
+fn main(rt: HostRuntime) -> ExitCode {
+    match answer(&rt) {
+        Ok(status) => ExitCode::from(status),
+        Err(error) => ExitCode::from(failure(&error)),
+    }
+}
+
+// Does what the words ask for, and answers the status.
+fn answer(rt: &HostRuntime) -> io::Result<u8> {
+    let alloc = rt.alloc();
+    let arguments = env::args(rt)?.collect(alloc)?;
+    let words = words_of(alloc, &arguments)?;
+    match words.as_slice() {
+        ["--help"] => {
+            println!(rt; "{HELP}")?;
+            Ok(0)
+        }
+        ["--version"] => {
+            println!(rt; "pumpd 0.1.0")?;
+            Ok(0)
+        }
+        words => match daemon_words(words) {
+            None => Ok(2),
+            Some(Serve::Inetd) => serve_one(rt),
+        },
+    }
+}
+
+// The words behind the program's own name.
+fn words_of<'a>(alloc: Global, arguments: &'a Vec<String>) -> Result<Vec<&'a str>, AllocError> {
+    arguments
+        .iter()
+        .skip(1)
+        .map(|word| word.as_str())
+        .collect(alloc)
+}
+
+// Serves one request from the host's input into its output.
+fn serve_one(rt: &HostRuntime) -> io::Result<u8> {
+    let mut source = StdSource::new(rt);
+    let mut sink = StdSink::new(rt.clone()?);
+    Ok(inetd(rt.alloc(), &mut source, &mut sink))
+}
+
+// The status of an error of the host: a word that is no UTF-8 is a wrong word, and all but want of memory a failed write.
+fn failure(error: &io::Error) -> u8 {
+    match error.kind() {
+        ErrorKind::InvalidData => 2,
+        ErrorKind::OutOfMemory => 5,
+        _ => 4,
+    }
+}
