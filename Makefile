@@ -1,7 +1,8 @@
-# make demo     builds the program and does two jobs with it, on the C files of examples/hello and of examples/options
+# make demo     builds the programs, does two jobs on the C files of examples/hello and of examples/options, and sends the
+#               daemon's program a stored request
 # make check    the gate: all proofs, edits that must fail, tests and programs; then each header of the host is lexed twice,
 #               and walks in random trees are compared with the host's own
-# make bench    measures the lexer, searches and the program, some against gcc: docs/PERFORMANCE.md
+# make bench    measures the lexer, searches, macro expansion and the program, some against gcc: docs/PERFORMANCE.md
 .PHONY: demo check bench
 
 demo:
@@ -14,6 +15,9 @@ demo:
 	@printf '%s src/main.c -O2 -I include -iquote local -isystem system -include config.h -o app/main.i\n' \
 	    "$(CURDIR)/examples/options" > out/demo/list
 	@sh tools/demo.sh app/main.i
+	@echo '=== a request to the daemon'
+	@cd crates/pumpd && rt run > ../../out/demo/build.log 2>&1 || { cat ../../out/demo/build.log; exit 1; }
+	@sh tools/demo-daemon.sh
 
 check:
 	@sh .ci/run

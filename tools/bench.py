@@ -1,5 +1,6 @@
 #!/usr/bin/env python3
-"""Measures the lexer, searches and the program, and prints tables: bench.py LEX_PROGRAM TREE_PROGRAM PUMP_PROGRAM|none RUNS.
+"""Measures the lexer, searches, macro expansion and the program, and prints tables:
+bench.py LEX_PROGRAM TREE_PROGRAM PUMP_PROGRAM|none EXPAND_PROGRAM|none RUNS.
 
 A figure is processor time of the child, user and system, and the least of its runs. The runs are interleaved: each
 round runs every measurement once.
@@ -18,6 +19,8 @@ TEXT = 14_000_000
 GOAL = 10.0  # nanoseconds a byte, which are 100 MB/s
 SEARCH_GOAL = 100.0  # microseconds a search in 100 directories
 WORDS_GOAL = 1000.0  # microseconds to read 1,000 words
+EXPAND_GOAL = 10.0  # seconds for nearly all the work that a run of text has
+READ_GOAL = 1000.0  # MB/s in which a daemon reads a large request
 
 HEADERS = """
     assert complex ctype errno fenv float inttypes iso646 limits locale math setjmp signal stdalign stdarg stdatomic
@@ -94,6 +97,44 @@ def preprocessed_text():
     return fill(text, TEXT)
 
 
+def lines_of(count, line):
+    return "".join(line(number) for number in range(count))
+
+
+def expansions():
+    """Texts whose expansion takes long, or would where it did work more than once; each by its label."""
+    tgmath = "/usr/include/tgmath.h"
+    if os.path.isfile(tgmath):
+        with open(tgmath) as file:
+            macros = file.read()
+        # Each call is a run of text of its own: a directive stands behind it.
+        yield "tgmath.h, sqrt(x) 2,000 times", macros + "sqrt(x)\n#\n" * 2_000
+        yield "tgmath.h, sqrt(x + pow(y, z)) 100", macros + "sqrt(x + pow(y, z))\n#\n" * 100
+    yield "text that no macro replaces", "#define X x\n" + "int y = f(1, \"s\") + z;\n" * 100_000
+    yield "a chain of 20,000 names", lines_of(20_000, lambda n: f"#define N{n + 1} N{n}\n") + "N20000\n"
+    calls = lines_of(300, lambda n: f"#define F{n + 1}(x) F{n}(x)\n")
+    yield "a chain of 300 calls, 100 times", calls + "F300(1)\n" * 100
+    yield "300 nested calls, 100 times", "#define F(x) x\n" + ("F(" * 300 + "1" + ")" * 300 + "\n") * 100
+    body = " ".join(f"w{n}" for n in range(50))
+    yield "a body of 50 tokens, 100,000 times", f"#define X {body}\n" + "X\n" * 100_000
+    doubling = "#define A0 x x\n" + lines_of(21, lambda n: f"#define A{n + 1} A{n} A{n}\n")
+    yield DOUBLING, doubling + "A21 A20\n"
+    yield "2,000 arguments of 1,000 tokens", "#define F(a) a\n" + ("F(" + "x " * 1_000 + ")\n") * 2_000
+
+
+DOUBLING = "doubling, 18,874,362 units"
+
+# Runs a command, and prints its processor time and the most memory that it had. In a process of its own, since a child's
+# peak is at least what its parent had when it began.
+WATCHED = """
+import os, sys
+child = os.posix_spawn(sys.argv[1], sys.argv[1:], os.environ)
+_, status, used = os.wait4(child, 0)
+print(used.ru_utime + used.ru_stime, used.ru_maxrss, file=sys.stderr)
+sys.exit(os.waitstatus_to_exitcode(status))
+"""
+
+
 class Measurement:
     def __init__(self, label, command, size, cwd=None, given=b""):
         self.label, self.command, self.size, self.cwd, self.given = label, command, size, cwd, given
@@ -145,9 +186,104 @@ class Repeated:
         return f"{self.label:<34} {micros:>9.2f} us{wanted}"
 
 
+class Expansion:
+    """The expansion of a text: its counts, the least of the times, and the most of the peaks of memory."""
+
+    def __init__(self, label, command):
+        self.label, self.command = label, [sys.executable, "-c", WATCHED, *command]
+        self.seconds, self.peak, self.counts, self.error = None, 0, None, ""
+
+    def run(self, folder):
+        done = subprocess.run(self.command, cwd=folder, capture_output=True, text=True)
+        seconds, peak = done.stderr.splitlines()[-1].split()
+        seconds = float(seconds)
+        self.seconds = seconds if self.seconds is None else min(self.seconds, seconds)
+        self.peak = max(self.peak, int(peak))
+        if done.returncode == 0:
+            self.counts = [int(word) for word in done.stdout.split()[-3:]]
+        else:
+            self.error = done.stdout.strip()
+
+    def row(self):
+        if self.counts is None:
+            return f"{self.label:<34} {self.error}"
+        tokens, expanded, units = self.counts
+        counts = f"{tokens:>10,} {expanded:>11,} {units:>11,}"
+        each = f"{self.per(units):>8} {self.per(tokens + expanded):>9}"
+        return f"{self.label:<34} {counts} {self.seconds:>8.3f} {each} {self.peak / 1024:>8.1f}"
+
+    def per(self, count):
+        """Nanoseconds for each of so many; of a few the time of each says nothing."""
+        return f"{self.seconds / count * 1e9:.1f}" if count > 1000 else ""
+
+
+EXPANSIONS = (f"{'':<34} {'tokens':>10} {'expanded':>11} {'units':>11} {'seconds':>8} {'ns/unit':>8} {'ns/token':>9} "
+              f"{'peak MB':>8}")
+
+
+def token(letters, number):
+    return b"%s%08x" % (letters, number)
+
+
+def field(letters, body):
+    return token(letters, len(body)) + body
+
+
+def request(files):
+    """The request of a small job, with these files beside its source; each is a name and a body."""
+    front = token(b"DIST", 0x103) + field(b"CDIR", b"/w") + token(b"ARGC", 1) + field(b"ARGV", b"a.c")
+    entries = [field(b"NAME", b"/w") + token(b"MDIR", 0)]
+    for name, body in [(b"a.c", b"int x;\n"), *files]:
+        entries.append(field(b"NAME", b"/w/" + name) + field(b"FILE", body))
+    return front + token(b"NFIL", len(entries)) + b"".join(entries)
+
+
+LARGE = "a request of 15 files of 16 MiB"
+REQUEST_LIMIT = 268_435_456
+
+
+def requests():
+    """Requests, and what is none, that a daemon reads; each by its label."""
+    yield LARGE, request([(b"f%02d" % number, b"x" * 16_777_216) for number in range(15)])
+    for count in [10_000, 99_998]:
+        yield f"a request of {count + 2:,} entries", request([(b"f%05d" % number, b"int y;\n") for number in range(count)])
+    yield "nonsense, as long as requests may be", b"x" * REQUEST_LIMIT
+
+
+class Served:
+    """A request that `pumpd --inetd` reads: the least of the times, and the most of the peaks of memory."""
+
+    def __init__(self, label, daemon, path, size):
+        self.label, self.path, self.size = label, path, size
+        self.command = [sys.executable, "-c", WATCHED, daemon, "--inetd"]
+        self.seconds, self.peak, self.reply = None, 0, b""
+
+    def run(self, folder):
+        with open(self.path, "rb") as given:
+            done = subprocess.run(self.command, cwd=folder, stdin=given, capture_output=True)
+        seconds, peak = done.stderr.splitlines()[-1].split()
+        seconds = float(seconds)
+        self.seconds = seconds if self.seconds is None else min(self.seconds, seconds)
+        self.peak = max(self.peak, int(peak))
+        self.reply = done.stdout
+
+    def rate(self):
+        return self.size / self.seconds / 1e6
+
+    def row(self):
+        return (f"{self.label:<38} {self.size:>11,} {self.seconds:>8.3f} {self.rate():>8.0f} {self.peak / 1024:>8.1f}"
+                f"  {self.reply[:12].decode()}")
+
+
+SERVED = f"{'':<38} {'bytes':>11} {'seconds':>8} {'MB/s':>8} {'peak MB':>8}  reply"
+
+
 class Bench:
-    def __init__(self, folder, lexer, tree, pump):
-        self.folder, self.lexer, self.tree, self.pump = folder, lexer, tree, pump
+    def __init__(self, folder, lexer, tree, pump, expander, daemon):
+        self.folder, self.lexer, self.tree, self.pump, self.expander = folder, lexer, tree, pump, expander
+        self.daemon = daemon
+        self.served = []
+        self.expansions = []
         self.all = []
         self.has_gcc = shutil.which("gcc") is not None
 
@@ -188,6 +324,12 @@ class Bench:
             Repeated(self, "read_words, 1,000 words", ["words", "999"], 500, WORDS_GOAL),
         ]
 
+        if self.expander != "none":
+            for number, (label, text) in enumerate(expansions()):
+                path = self.write(f"expansion{number}.c", text.encode())
+                self.expansions.append(Expansion(label, [self.expander, path]))
+        self.make_served()
+
     def make_job(self):
         text = preprocessed_text()
         self.text, [path] = self.count("count, preprocessed text", "text", text)
@@ -200,7 +342,7 @@ class Bench:
 
     def measure(self, runs):
         for _ in range(runs):
-            for measurement in self.all:
+            for measurement in self.all + self.expansions + self.served:
                 measurement.run(self.folder)
         for measurement in self.all:
             if measurement.command[0] in (self.lexer, self.tree) and measurement.status != 0:
@@ -221,7 +363,41 @@ class Bench:
         for repeated in self.repeated:
             print(repeated.row())
         print()
+        self.print_expansions()
+        print()
+        self.print_served()
+        print()
         self.print_ratios()
+
+    def print_expansions(self):
+        if self.expander == "none":
+            print("expand_program isn't built")
+            return
+        print(EXPANSIONS)
+        for expansion in self.expansions:
+            print(expansion.row())
+        for expansion in self.expansions:
+            if expansion.label == DOUBLING:
+                print(f"{DOUBLING}: {expansion.seconds:.2f} s ({judged(expansion.seconds <= EXPAND_GOAL)}: {EXPAND_GOAL:.0f})")
+
+    def make_served(self):
+        if self.daemon == "none":
+            return
+        for number, (label, body) in enumerate(requests()):
+            path = self.write(f"request{number}", body)
+            self.served.append(Served(label, self.daemon, path, len(body)))
+
+    def print_served(self):
+        if self.daemon == "none":
+            print("pumpd isn't built")
+            return
+        print(SERVED)
+        for served in self.served:
+            print(served.row())
+        for served in self.served:
+            if served.label == LARGE:
+                met = "at least, met" if served.rate() >= READ_GOAL else "at least, MISSED"
+                print(f"{LARGE}: {served.rate():.0f} MB/s ({met}: {READ_GOAL:.0f})")
 
     def print_job(self):
         if self.job is None:
@@ -250,10 +426,14 @@ def judged(met):
     return "at most, met" if met else "at most, MISSED"
 
 
+def absolute(program):
+    return program if program == "none" else os.path.abspath(program)
+
+
 def main():
-    lexer, tree, pump, runs = sys.argv[1:]
+    *programs, runs = sys.argv[1:]
     with tempfile.TemporaryDirectory(prefix="bench") as folder:
-        bench = Bench(folder, os.path.abspath(lexer), os.path.abspath(tree), pump if pump == "none" else os.path.abspath(pump))
+        bench = Bench(folder, *(absolute(program) for program in programs))
         bench.make()
         bench.measure(int(runs))
         bench.print_tables()

@@ -1,5 +1,6 @@
 #!/bin/sh
-# Measures the lexer, searches and the program: see docs/PERFORMANCE.md. An argument is the number of runs of each measurement.
+# Measures the lexer, searches, macro expansion, the daemon and the program: see docs/PERFORMANCE.md. An argument is the
+# number of runs of each measurement.
 cd "$(dirname "$0")/.." || exit 1
 mkdir -p out/bench
 
@@ -16,4 +17,8 @@ build lex_program || exit 1
 build tree_program || exit 1
 pump=crates/pump_program/out/pump_program
 build pump_program || pump=none
-exec python3 tools/bench.py crates/lex_program/out/lex_program crates/tree_program/out/tree_program "$pump" "${1:-5}"
+expand=crates/expand_program/out/expand_program
+build expand_program || expand=none
+daemon=crates/pumpd/out/pumpd
+build pumpd || daemon=none
+exec python3 tools/bench.py crates/lex_program/out/lex_program crates/tree_program/out/tree_program "$pump" "$expand" "$daemon" "${1:-5}"
