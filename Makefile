@@ -16,7 +16,7 @@ demo:
 	    "$(CURDIR)/examples/options" > out/demo/list
 	@sh tools/demo.sh app/main.i
 	@echo '=== a request to the daemon'
-	@cd crates/pumpd && rt run > ../../out/demo/build.log 2>&1 || { cat ../../out/demo/build.log; exit 1; }
+	@cd crates/pumpd && rt run -- --version > ../../out/demo/build.log 2>&1 || { cat ../../out/demo/build.log; exit 1; }
 	@sh tools/demo-daemon.sh
 
 check:
