@@ -360,7 +360,7 @@ has_all-names s other whole ok all n = go (names_in (names_of s) n) (names_in (n
           ]
         ]
 
-is_same-names : (s t : Tree) → is_same s t ≡ true → names_of s ≡ names_of t
+pub is_same-names : (s t : Tree) → is_same s t ≡ true → names_of s ≡ names_of t
 is_same-names Tip Tip is = refl
 is_same-names Tip (Branch n h z o) is = absurd (both_ways false refl is)
 is_same-names (Branch n h z o) Tip is = absurd (both_ways false refl is)

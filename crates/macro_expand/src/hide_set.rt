@@ -54,7 +54,7 @@ impl Model for HideSet {
 }
 
 impl HideSet {
-    ghost use Rattle.std.specs.Prelude.{[], ◌≡◌, ◌&&◌, ◌||◌, IfOk, ℕ, List, bytes_eq};
+    ghost use Rattle.std.specs.Prelude.{[], ◌≡◌, ◌&&◌, ◌||◌, true, IfOk, ℕ, List, bytes_eq};
     ghost use Rattle.macro_expand.specs.Sets.{names_in};
 
     pub(crate) fn none(_alloc: Global) -> HideSet
@@ -80,6 +80,13 @@ impl HideSet {
             names: shared(&self.names)?,
             count: self.count,
         })
+    }
+
+    // Whether the two are built alike, as copies of one set are. It costs a step for each name.
+    pub(crate) fn is_same(&self, other: &HideSet) -> bool
+        ensures { result ≡ true → self.now ≡ other.now }
+    {
+        is_same(&self.names, &other.names)
     }
 
     // This set and one more name.

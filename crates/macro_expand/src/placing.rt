@@ -1,20 +1,88 @@
 // The tokens of a replacement as they are put in for a name (ISO C 6.10.3 paragraphs 9 and 10, 6.10.3.4).
-ghost use Rattle.std.specs.Prelude.{◌≡◌, map, length, IfOk, OnOk};
+ghost use Rattle.std.specs.Prelude.{◌≡◌, map, length, IfOk, IfSome, OnOk};
 ghost use Rattle.macro_expand.specs.Sets.{names_in};
 ghost use Rattle.macro_expand.specs.Replacement.{with_space, put_in_for};
 ghost use Rattle.macro_expand.specs.Seen.{marked_of};
-ghost use Rattle.macro_expand.specs.Placing.{placed};
+ghost use Rattle.macro_expand.specs.Placing.{placed, IsUnion, KnowsUnion};
 
 use crate::hide_set::HideSet;
 use crate::marked::Marked;
 use pp_tokens::Token;
 use std::alloc::{AllocError, Global};
 
-// Puts a token on the line of the name, and adds the names that the replacement hides.
-fn place(alloc: Global, t: &Token, hidden: &HideSet, m: &mut Marked) -> Result<(), AllocError>
-    ensures { OnOk result (marked_of m.new ≡ placed t.now (names_in hidden.now) (marked_of m.old)) }
+// The names of a token, and the same with those that a replacement hides.
+#[derive(Drop)]
+struct United {
+    own: HideSet,
+    all: HideSet,
+}
+
+// What is kept of the names of the last token, where these are the same. Tokens that stand together mostly have one hide set.
+fn kept_union(
+    last: &Option<United>,
+    own: &HideSet,
+    hidden: &HideSet,
+) -> Result<Option<HideSet>, AllocError>
+    requires { KnowsUnion hidden.now last.now }
+    ensures { IfOk result (λ kept. IfSome kept (λ all. IsUnion all own.now hidden.now)) }
 {
-    let all = m.hidden.all(alloc, hidden)?;
+    let Some(united) = last else {
+        return Ok(None);
+    };
+    if !united.own.is_same(own) {
+        return Ok(None);
+    }
+    Ok(Some(united.all.copy()?))
+}
+
+// The names of a token and those that the replacement hides, kept for the next one.
+fn unite(
+    alloc: Global,
+    last: &mut Option<United>,
+    own: &HideSet,
+    hidden: &HideSet,
+) -> Result<HideSet, AllocError>
+    ensures ok { IfOk result (λ all. IsUnion all own.now hidden.now) }
+    ensures known { OnOk result (KnowsUnion hidden.now last.new) }
+{
+    let all = own.all(alloc, hidden)?;
+    *last = Some(United {
+        own: own.copy()?,
+        all: all.copy()?,
+    });
+    Ok(all)
+}
+
+// The names of a token and those that the replacement hides.
+fn union_with(
+    alloc: Global,
+    last: &mut Option<United>,
+    own: &HideSet,
+    hidden: &HideSet,
+) -> Result<HideSet, AllocError>
+    requires { KnowsUnion hidden.now last.old }
+    ensures ok { IfOk result (λ all. IsUnion all own.now hidden.now) }
+    ensures known { OnOk result (KnowsUnion hidden.now last.new) }
+{
+    match kept_union(last, own, hidden)? {
+        Some(all) => Ok(all),
+        None => unite(alloc, last, own, hidden),
+    }
+}
+
+// Puts a token on the line of the name, and adds the names that the replacement hides.
+fn place(
+    alloc: Global,
+    t: &Token,
+    hidden: &HideSet,
+    last: &mut Option<United>,
+    m: &mut Marked,
+) -> Result<(), AllocError>
+    requires { KnowsUnion hidden.now last.old }
+    ensures placed { OnOk result (marked_of m.new ≡ placed t.now (names_in hidden.now) (marked_of m.old)) }
+    ensures known { OnOk result (KnowsUnion hidden.now last.new) }
+{
+    let all = union_with(alloc, last, &m.hidden, hidden)?;
     m.token.line = t.line;
     m.hidden = all;
     Ok(())
@@ -40,8 +108,9 @@ pub(crate) fn put_in_for(
 ) -> Result<Vec<Marked>, AllocError>
     ensures { IfOk result (λ ts. map marked_of ts.items ≡ put_in_for t.now (names_in hidden.now) (map marked_of made.items)) }
 {
+    let mut last = None;
     for m in made.iter_mut() {
-        place(alloc, t, hidden, m)?;
+        place(alloc, t, hidden, &mut last, m)?;
     }
     Ok(spaced(made, t.space))
 }

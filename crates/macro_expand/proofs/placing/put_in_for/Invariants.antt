@@ -1,6 +1,6 @@
 use Rattle.std.proofs.Common.{◌≡◌, map, length, take, drop}
 use Rattle.macro_expand.specs.Sets.{names_in}
-use Rattle.macro_expand.specs.Placing.{placed}
+use Rattle.macro_expand.specs.Placing.{placed, KnowsUnion}
 use Rattle.macro_expand.specs.Seen.{marked_of}
 use Rattle.macro_expand.proofs.placing.put_in_for.Given as goal
 
@@ -10,4 +10,5 @@ invariant-loop-m l =
       same : length l.m-items ≡ length l.initial.m-items;
       done : map marked_of (take l.m-index l.m-items) ≡ map (placed l.t (names_in l.hidden)) (map marked_of (take l.m-index l.initial.m-items));
       left : drop l.m-index l.m-items ≡ drop l.m-index l.initial.m-items;
+      known : KnowsUnion l.hidden l.last;
     }
