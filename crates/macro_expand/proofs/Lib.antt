@@ -16,7 +16,6 @@ pub mod AnsweredLaws
 pub mod LoopLaws
 pub mod NameLaws
 pub mod GivesLaws
-pub mod HideSetLaws
 pub mod OperandLaws
 pub mod CallLaws
 pub mod TrieLaws

@@ -1,5 +1,5 @@
 -- What one step of the loop over pending tokens keeps, whoever answers.
-use Rattle.std.proofs.Common.{◌≡◌, ℕ, ◌+◌, ◌≤◌, Vec, Global, List, [], ◌∷◌, ◌++◌, map, length, ap, sym, ◌∙◌, subst, Result, Ok, Err, Option, Some, None, arith, append_assoc, OnOk}
+use Rattle.std.proofs.Common.{◌≡◌, refl, ℕ, ◌+◌, ◌≤◌, Vec, Global, List, [], ◌∷◌, ◌++◌, map, length, ap, sym, ◌∙◌, subst, Result, Ok, Err, Option, Some, None, arith, append_assoc, OnOk}
 use Rattle.std.proofs.lemmas.List.{map-append, length-map, append-nil}
 use Rattle.macro_expand.specs.declared.outcome.Mode.{Mode}
 use Rattle.pp_tokens.specs.declared.Kind.TheVariants.{Str, Number}
@@ -10,8 +10,9 @@ use Rattle.macro_expand.specs.declared.outcome.RunError.TheVariants.{Count as Co
 use Rattle.macro_expand.specs.Asking.{Failure}
 use Rattle.macro_expand.specs.Expansion.{Expanded, role_of, operand_of_defined, replaced_token}
 use Rattle.macro_expand.specs.Answered.{Answerer, Stop, ByFailure, Answered, after_result, and_then, before, expanded_for}
-use Rattle.macro_expand.specs.Seen.{marked_of, Reports, Stops, NameReplaced, GoesOn}
-use Rattle.macro_expand.proofs.AnsweredLaws.{before-before, expanded_for-nil, expanded_for-ordinary, expanded_for-defined, expanded_for-file_unknown, expanded_for-file_paid, expanded_for-file_work, expanded_for-line_unknown, expanded_for-line_paid, expanded_for-line_work, charged_for-paid, charged_for-work}
+use Rattle.macro_expand.specs.Seen.{marked_of, Reports, Stops, NameReplaced, GoesOn, HasTokens}
+use Rattle.pp_tokens.specs.declared.Token.{Token}
+use Rattle.macro_expand.proofs.AnsweredLaws.{before-nothing, before-before, expanded_for-nil, expanded_for-ordinary, expanded_for-defined, expanded_for-file_unknown, expanded_for-file_paid, expanded_for-file_work, expanded_for-line_unknown, expanded_for-line_paid, expanded_for-line_work, charged_for-paid, charged_for-work}
 
 pub on_ok-map : {A E : Type 0} {P Q : Type 0} (r : Result A E) → (P → Q) → OnOk r P → OnOk r Q
 on_ok-map (Ok x) f h = f h
@@ -167,3 +168,31 @@ module _ {S : Type 0} (w : Answerer S) (mode : Mode) (depth : ℕ) where
         (ap (λ q. expanded_for w s mode depth units (map marked_of q)) is
         ∙ expanded_for-nil w s mode depth units)
         ∙ ap (λ q. record { result = Ok (record { tokens = q; units = units }); state = s }) (append-nil (map marked_of out))
+
+    -- The same for a list that keeps its tokens without their hide sets.
+    abbrev pub KeepsTokens : List Token → S → ℕ → List Kept → Type 0
+    KeepsTokens out s units pending = (list : List Kept) × (Keeps list s units pending × (out ≡ map (λ m. m.token) list))
+
+    -- the step puts out into a list of its own, which is moved behind the others
+    pub keeps_tokens_step : (out out' : List Token) (put made : List Kept) (t : Kept) (s u : S) (units left : ℕ) (pending rest rest' : List Kept) →
+        pending ≡ t ∷ rest → put ≡ [] → GoesOn w mode depth s units put t rest u left made rest' → out' ≡ out ++ map (λ m. m.token) made →
+        KeepsTokens out s units pending → KeepsTokens out' u left rest'
+    keeps_tokens_step out out' put made t s u units left pending rest rest' is empty step moved (list, (keeps, tokens)) = (
+      list ++ made,
+      (
+        keeps_step list (list ++ made) t s u units left pending rest rest' is
+            (goes_on-put s u units left t made list (list ++ made) rest rest'
+            (sym (before-nothing _) ∙ ap (λ q. before (map marked_of q) (expanded_for w s mode depth units (marked_of t ∷ map marked_of rest))) (sym empty) ∙ step) refl)
+            keeps,
+        moved ∙ ap (λ q. q ++ map (λ m. m.token) made) tokens ∙ sym (map-append (λ (m : Kept). m.token) list made),
+      ),
+    )
+
+    pub stops_tokens_step : (out : List Token) (t : Kept) (s u : S) (units : ℕ) (pending rest : List Kept) (e : RunError) → pending ≡ t ∷ rest →
+        Stops e u (expanded_for w s mode depth units (marked_of t ∷ map marked_of rest)) → KeepsTokens out s units pending → Stops e u whole
+    stops_tokens_step out t s u units pending rest e is stops (list, (keeps, tokens)) =
+        stops_step list t s u units pending rest e is stops keeps
+
+    pub keeps_tokens_end : (out : List Token) (s : S) (units : ℕ) (pending : List Kept) → pending ≡ [] → KeepsTokens out s units pending →
+        HasTokens whole out units s
+    keeps_tokens_end out s units pending is (list, (keeps, tokens)) = (list, (keeps_end list s units pending is keeps, tokens))

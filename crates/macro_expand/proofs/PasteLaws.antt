@@ -1,12 +1,53 @@
--- How pieces are joined, one by one.
-use Rattle.std.proofs.Common.{◌≡◌, ℕ, Bool, true, false, List, [], ◌∷◌, ◌++◌, map, refl, ap, sym, ◌∙◌, append_assoc, Result, Ok, Err, Option, Some, None}
+-- How two tokens are pasted, and pieces joined one by one.
+use mathlib.Core.Path.{fun_ext}
+use Rattle.std.proofs.Common.{◌≡◌, ℕ, Bool, true, false, List, [], ◌∷◌, ◌++◌, ◌&&◌, map, refl, ap, sym, ◌∙◌, append_assoc, Result, Ok, Err, Option, Some, None}
 use Rattle.macro_expand.specs.declared.marked.Marked.{Marked as Kept}
 use Rattle.macro_expand.specs.declared.outcome.RunError.{RunError}
 use Rattle.macro_expand.specs.declared.outcome.RunError.TheVariants.{Count as CountError, Unclosed as UnclosedError, Paste as PasteError, Deep as DeepError, Work as WorkError, Presumed as PresumedError, Memory}
-use Rattle.macro_expand.specs.Replacement.{Marked, Operand, operand_tokens, Piece, Real, Placemarker, Joining, pasted, before_joined, joined}
+use Rattle.pp_tokens.specs.declared.Kind.{Kind}
+use Rattle.pp_tokens.specs.Grammar.{kind_of}
+use Rattle.macro_expand.specs.Sets.{names_in}
+use Rattle.macro_expand.specs.Replacement.{Marked, Operand, operand_tokens, common_names, Piece, Real, Placemarker, Joining, pasted, before_joined, joined}
 use Rattle.macro_expand.specs.declared.marked.Piece.{Piece as KeptPiece}
 use Rattle.macro_expand.specs.declared.marked.Piece.TheVariants.{Real as KeptReal, Placemarker as KeptPlacemarker, Joining as KeptJoining}
 use Rattle.macro_expand.specs.Seen.{ReportsPaste, marked_of, piece_of, operand_of}
+
+-- Two tokens pasted (6.10.3.3).
+abbrev pub Paste_of : Kept → Kept → List ℕ → Option Kind → Result Operand (List ℕ × List ℕ)
+Paste_of a b text None = Err (a.token.text, b.token.text)
+Paste_of a b text (Some k) = Ok (Some (record {
+  token = record { kind = k; text = text; line = a.token.line; space = a.token.space };
+  hidden = common_names (names_in a.hidden) (names_in b.hidden);
+}))
+
+paste_is : (a b : Kept) (text : List ℕ) (o : Option Kind) → text ≡ a.token.text ++ b.token.text → o ≡ kind_of text →
+    pasted (Some (marked_of a)) (Some (marked_of b)) ≡ Paste_of a b text o
+unfolding pasted
+paste_is a b text o is kind = go (kind_of (a.token.text ++ b.token.text))
+    ∙ ap (Paste_of a b (a.token.text ++ b.token.text)) (ap kind_of (sym is) ∙ sym kind) ∙ ap (λ t. Paste_of a b t o) (sym is)
+  where
+    go : (o : Option Kind) → (elim o as (λ o. Result Operand (List ℕ × List ℕ)) [
+      | None ↦ Err (a.token.text, b.token.text)
+      | Some kind ↦ Ok (Some (record {
+        token = record { kind = kind; text = a.token.text ++ b.token.text; line = a.token.line; space = a.token.space };
+        hidden = common_names (names_in a.hidden) (names_in b.hidden);
+      }))
+    ]) ≡ Paste_of a b (a.token.text ++ b.token.text) o
+    go None = refl
+    go (Some k) = refl
+
+pub paste_bad : (a b : Kept) (text : List ℕ) (o : Option Kind) → text ≡ a.token.text ++ b.token.text → o ≡ kind_of text → o ≡ None →
+    pasted (Some (marked_of a)) (Some (marked_of b)) ≡ Err (a.token.text, b.token.text)
+paste_bad a b text o is kind none = paste_is a b text o is kind ∙ ap (Paste_of a b text) none
+
+pub paste_good : (a b : Kept) (text : List ℕ) (o : Option Kind) (k : Kind) (hidden : List (List ℕ)) → text ≡ a.token.text ++ b.token.text →
+    o ≡ kind_of text → o ≡ Some k → ((n : List ℕ) → names_in hidden n ≡ (names_in a.hidden n && names_in b.hidden n)) →
+    pasted (Some (marked_of a)) (Some (marked_of b))
+    ≡ Ok (Some (record { token = record { kind = k; text = text; line = a.token.line; space = a.token.space }; hidden = names_in hidden }))
+paste_good a b text o k hidden is kind some both =
+    paste_is a b text o is kind ∙ ap (Paste_of a b text) some
+    ∙ ap (λ h. Ok (Some (record { token = record { kind = k; text = text; line = a.token.line; space = a.token.space }; hidden = h })))
+    (sym (fun_ext both))
 
 abbrev pub Joined : Type 0
 Joined = Result (List Marked) (List ℕ × List ℕ)

@@ -123,6 +123,12 @@ abbrev pub Gives : Result Expanded Failure → List Token → ℕ → Type 0
 Gives (Ok e) ts left = (map (λ m. m.token) e.tokens ≡ ts) × (e.units ≡ left)
 Gives (Err f) ts left = ⊥
 
+-- a run that gave these tokens, whatever their hide sets, with these units left, in this state
+abbrev pub HasTokens : {S : Type 0} → Answered Expanded S → List Token → ℕ → S → Type 0
+HasTokens a ts left s =
+    (list : List Kept) × ((a ≡ record { result = Ok (record { tokens = map marked_of list; units = left }); state = s })
+    × (ts ≡ map (λ m. m.token) list))
+
 -- a public error reports this result
 abbrev pub ReportsResult : {A : Type 0} → ExpandError → Result A Failure → Type 0
 ReportsResult (PublicCount name line) r = r ≡ Err (Count name line)

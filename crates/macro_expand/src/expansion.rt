@@ -6,7 +6,7 @@ ghost use Rattle.macro_expand.specs.declared.marked.Role.TheVariants.{Name};
 ghost use Rattle.macro_expand.specs.Replacement.{unmarked};
 ghost use Rattle.macro_expand.specs.Expansion.{role_of, expanded_by};
 ghost use Rattle.macro_expand.specs.Answered.{arguments_for, expanded_for};
-ghost use Rattle.macro_expand.specs.Seen.{marked_of, parts_seen, lists_of, Gives, NameReplaced, GoesOn, Stops, place_of, ReportsResult, public_of};
+ghost use Rattle.macro_expand.specs.Seen.{marked_of, parts_seen, lists_of, Gives, NameReplaced, GoesOn, Stops, place_of, ReportsResult, public_of, HasTokens};
 
 use crate::answers::{Answers, Presumed, TablePlace};
 use crate::builtin::{expand_file_name, expand_line_number};
@@ -320,13 +320,51 @@ fn marked_list(alloc: Global, run: &[Token]) -> Result<VecDeque<Marked>, AllocEr
     Ok(q)
 }
 
-// The tokens without their hide sets.
-fn plain_list(alloc: Global, list: Vec<Marked>) -> Result<Vec<Token>, AllocError>
-    ensures { IfOk result (λ ts. ts.items ≡ map (λ m. m.token) list.items) }
+// Moves tokens behind others, without their hide sets.
+fn keep_tokens(out: &mut Vec<Token>, list: &mut Vec<Marked>) -> Result<(), RunError>
+    ensures ok { OnOk result (out.new.items ≡ out.old.items ++ map (λ m. m.token) list.old.items) }
+    ensures emptied { OnOk result (list.new.items ≡ []) }
+    ensures err { IfErr result (λ e. e ≡ RunError.Memory) }
+{
+    for m in list.drain(..) {
+        if out.push(m.token).is_err() {
+            return Err(RunError::Memory);
+        }
+    }
+    Ok(())
+}
+
+// The expansion of a list that stands in no argument. What a step puts out is kept without its hide sets, so that those of the
+// pending tokens alone take memory.
+fn expand_whole<S, A: Answers<S>>(
+    alloc: Global,
+    source: &S,
+    answers: &mut A,
+    mode: Mode,
+    mut pending: VecDeque<Marked>,
+    work: &mut Work,
+) -> Result<Vec<Token>, RunError>
+    ensures ok { IfOk result (λ out. HasTokens (expanded_for (A.answerer source.now) answers.old mode 0 work.old.left (map marked_of pending.items))
+        out.items work.new.left answers.new) }
+    ensures spends { work.new.left ≤ work.old.left }
+    ensures err { IfErr result (λ e. Stops e answers.new
+        (expanded_for (A.answerer source.now) answers.old mode 0 work.old.left (map marked_of pending.items))) }
 {
     let mut out = Vec::new(alloc);
-    for m in list {
-        out.push(m.token)?;
+    let mut step = Vec::new(alloc);
+    while let Some(t) = pending.pop_front() {
+        expand_head(
+            alloc,
+            source,
+            answers,
+            mode,
+            0,
+            t,
+            &mut step,
+            &mut pending,
+            work,
+        )?;
+        keep_tokens(&mut out, &mut step)?;
     }
     Ok(out)
 }
@@ -370,11 +408,8 @@ pub fn expand(
         Err(_) => return Err(ExpandError::Memory),
     };
     let mut answers = TablePlace { here };
-    match expand_list(alloc, table, &mut answers, mode, 0, pending, work) {
-        Ok(list) => match plain_list(alloc, list) {
-            Ok(out) => Ok(List::of(out)),
-            Err(_) => Err(ExpandError::Memory),
-        },
+    match expand_whole(alloc, table, &mut answers, mode, pending, work) {
+        Ok(out) => Ok(List::of(out)),
         Err(e) => Err(public_error(e)),
     }
 }

@@ -5,13 +5,14 @@ use Rattle.macro_defs.specs.Table.{lookup}
 use Rattle.macro_expand.proofs.GivesLaws.{Gives_from, Reports_from}
 use Rattle.macro_expand.proofs.expansion.expand.Goals as goal
 
-pub returns-in-Ok-plain_list-clause-ok : goal.returns-in-Ok-plain_list-clause-ok
-returns-in-Ok-plain_list-clause-ok c =
+pub returns-in-Ok-expand_whole-clause-ok : goal.returns-in-Ok-expand_whole-clause-ok
+returns-in-Ok-expand_whole-clause-ok c =
+    let made = c.in-Ok-expand_whole.ensures.ok in
     Gives_from (lookup c.args.table.now) (λ s. place_of s.here.now) _ c.args.mode c.args.work.now.left (map unmarked c.args.run.now)
-    c.in-Ok-expand_list.list.items _ _ _ (rw c.in-Ok.ensures.ok at c.in-Ok-expand_list.ensures.ok) (c.of.ensures ∙ c.in-Ok-plain_list.ensures)
+    made.0 _ _ _ (rw c.in-Ok.ensures.ok at made.1.0) (c.of.ensures ∙ made.1.1)
 
-pub returns-in-Err-expand_list-clause-err : goal.returns-in-Err-expand_list-clause-err
-returns-in-Err-expand_list-clause-err c =
+pub returns-in-Err-expand_whole-clause-err : goal.returns-in-Err-expand_whole-clause-err
+returns-in-Err-expand_whole-clause-err c =
     rw c.public_error.ensures
     (Reports_from (lookup c.args.table.now) (λ s. place_of s.here.now) _ c.args.mode c.args.work.now.left (map unmarked c.args.run.now)
-    c.in-Err-expand_list.e _ (rw c.in-Ok.ensures.ok at c.in-Err-expand_list.ensures.err))
+    c.in-Err-expand_whole.e _ (rw c.in-Ok.ensures.ok at c.in-Err-expand_whole.ensures.err))

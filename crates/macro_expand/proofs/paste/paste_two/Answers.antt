@@ -1,5 +1,5 @@
 use Rattle.std.proofs.Common.{refl, None, Some}
-use Rattle.macro_expand.proofs.HideSetLaws.{paste_bad, paste_good}
+use Rattle.macro_expand.proofs.PasteLaws.{paste_bad, paste_good}
 use Rattle.macro_expand.proofs.paste.paste_two.Goals as goal
 
 pub returns-in-None-clause-err : goal.returns-in-None-clause-err
