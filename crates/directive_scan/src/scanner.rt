@@ -1,6 +1,6 @@
 // The pieces of a lexed file.
 ghost use Rattle.std.specs.Prelude as seen;
-ghost use Rattle.std.specs.Prelude.{◌≡◌, ◌++◌, ◌∷◌, [], drop, unwrap_or, slice_get, IfOk, OnOk};
+ghost use Rattle.std.specs.Prelude.{◌≡◌, ◌++◌, ◌∷◌, [], drop, false, bytes_eq, codes, unwrap_or, slice_get, IfOk, OnOk};
 ghost use Rattle.directive_scan.specs.Directives.{header_name, target_of, pragma_of, directive_named, directive_of, onto_run, line_before, pieces};
 ghost use Rattle.directive_scan.specs.Gathered.{line_at, hash_of, joined};
 
@@ -131,32 +131,44 @@ fn named_at(alloc: Global, lexed: &Lexed, line: usize, name: &[u8]) -> Result<Di
         Ok(Directive::Include(target_at(alloc, lexed, line)?))
     } else if name == b"include_next".as_slice() {
         Ok(Directive::Next(target_at(alloc, lexed, line)?))
-    } else if name == b"define".as_slice() {
-        Ok(Directive::Define(behind_name(alloc, lexed, line)?))
-    } else if name == b"undef".as_slice() {
-        Ok(Directive::Undef(behind_name(alloc, lexed, line)?))
-    } else if name == b"if".as_slice() {
-        Ok(Directive::If(behind_name(alloc, lexed, line)?))
-    } else if name == b"ifdef".as_slice() {
-        Ok(Directive::Ifdef(behind_name(alloc, lexed, line)?))
-    } else if name == b"ifndef".as_slice() {
-        Ok(Directive::Ifndef(behind_name(alloc, lexed, line)?))
-    } else if name == b"elif".as_slice() {
-        Ok(Directive::Elif(behind_name(alloc, lexed, line)?))
-    } else if name == b"else".as_slice() {
-        Ok(Directive::Else)
-    } else if name == b"endif".as_slice() {
-        Ok(Directive::Endif)
-    } else if name == b"line".as_slice() {
-        Ok(Directive::Line(behind_name(alloc, lexed, line)?))
-    } else if name == b"error".as_slice() {
-        Ok(Directive::Error(behind_name(alloc, lexed, line)?))
-    } else if name == b"warning".as_slice() {
-        Ok(Directive::Warning)
-    } else if name == b"pragma".as_slice() {
-        pragma_at(alloc, lexed, line)
     } else {
-        Ok(Directive::Unknown)
+        Ok(directive_with(name, behind_name(alloc, lexed, line)?))
+    }
+}
+
+// The directive of a name that is none of the two above, with the tokens behind it.
+#[tactic(auto, unfolding(crate::specs::Directives::directive_named))]
+fn directive_with(name: &[u8], tokens: List<Token>) -> Directive
+    requires plain { bytes_eq name.now (codes "include") ≡ false }
+    requires next { bytes_eq name.now (codes "include_next") ≡ false }
+    ensures { result ≡ directive_named name.now tokens }
+{
+    if name == b"define".as_slice() {
+        Directive::Define(tokens)
+    } else if name == b"undef".as_slice() {
+        Directive::Undef(tokens)
+    } else if name == b"if".as_slice() {
+        Directive::If(tokens)
+    } else if name == b"ifdef".as_slice() {
+        Directive::Ifdef(tokens)
+    } else if name == b"ifndef".as_slice() {
+        Directive::Ifndef(tokens)
+    } else if name == b"elif".as_slice() {
+        Directive::Elif(tokens)
+    } else if name == b"else".as_slice() {
+        Directive::Else
+    } else if name == b"endif".as_slice() {
+        Directive::Endif
+    } else if name == b"line".as_slice() {
+        Directive::Line(tokens)
+    } else if name == b"error".as_slice() {
+        Directive::Error(tokens)
+    } else if name == b"warning".as_slice() {
+        Directive::Warning
+    } else if name == b"pragma".as_slice() {
+        pragma_with(tokens)
+    } else {
+        Directive::Unknown
     }
 }
 
@@ -189,17 +201,12 @@ fn header_name(alloc: Global, text: &[u8]) -> Result<HeaderName, AllocError>
 
 // A pragma.
 #[tactic(auto, unfolding(crate::specs::Directives::pragma_of))]
-fn pragma_at(alloc: Global, lexed: &Lexed, line: usize) -> Result<Directive, AllocError>
-    ensures { IfOk result (λ what. what ≡ pragma_of (drop 2 (line_at lexed.now line))) }
+fn pragma_with(tokens: List<Token>) -> Directive
+    ensures { result ≡ pragma_of tokens }
 {
-    match lexed.token(line, 2) {
-        Some(first) => {
-            if first.text == b"once".as_slice() {
-                return Ok(Directive::Once);
-            }
-            Ok(Directive::Pragma(behind_name(alloc, lexed, line)?))
-        }
-        None => Ok(Directive::Pragma(List::new(alloc))),
+    match tokens.as_slice() {
+        [first, ..] if first.text.as_slice() == b"once".as_slice() => Directive::Once,
+        _ => Directive::Pragma(tokens),
     }
 }
 
