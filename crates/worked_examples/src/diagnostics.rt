@@ -1,9 +1,9 @@
 // Jobs whose outcome is a diagnostic.
 use crate::example::{Placed, Talk, Want, asked, byte_by_byte, gives};
-use std::test::Fail;
+use std::alloc::AllocError;
 
 #[test]
-fn a_header_that_is_missing_is_the_daemons_diagnostic(rt: HostRuntime) -> Result<(), Fail> {
+fn a_header_that_is_missing_is_the_daemons_diagnostic(rt: HostRuntime) -> Result<(), AllocError> {
     let files = [Placed {
         path: "/w/a.c",
         body: "#include \"b.h\"\nint y;\n",
@@ -26,7 +26,7 @@ fn a_header_that_is_missing_is_the_daemons_diagnostic(rt: HostRuntime) -> Result
 }
 
 #[test]
-fn a_source_that_is_missing_is_not_sent(rt: HostRuntime) -> Result<(), Fail> {
+fn a_source_that_is_missing_is_not_sent(rt: HostRuntime) -> Result<(), AllocError> {
     let want = Want {
         status: 1,
         report: "job 0 diag local A7\n/w/a.c:0: error: cannot find source\n\
@@ -38,7 +38,7 @@ fn a_source_that_is_missing_is_not_sent(rt: HostRuntime) -> Result<(), Fail> {
 }
 
 #[test]
-fn a_source_that_is_not_built_is_not_sent(rt: HostRuntime) -> Result<(), Fail> {
+fn a_source_that_is_not_built_is_not_sent(rt: HostRuntime) -> Result<(), AllocError> {
     let files = [Placed {
         path: "/w/a.c",
         body: "#define X 1\n",

@@ -1,17 +1,22 @@
 // What a run is given, and what has to come of it.
-ghost use Rattle.std.specs.Prelude.{◌≡◌, ◌<◌, All, IfOk, IsTrue};
+ghost use Rattle.std.specs.Prelude.{◌≡◌, ◌<◌, ◌≤◌, [], Some, length, map, All, IfOk, IfSome, IsTrue, OnOk};
+ghost use Rattle.std.specs.List.{AllByRecursion};
+ghost use Rattle.build_clients.specs.Outside.{seen_end};
+ghost use Rattle.pump_run.specs.Run.{IsFresh};
 ghost use Rattle.tree_model.specs.Entries.{links_fit};
 
 use base_types::Bytes;
 use daemon_serve::{MemWire, ServePeer};
-use io_edges::{MemOuts, MemSink, MemSource, MemSpawner};
+use io_edges::{Exchange, LinkState, MemOuts, MemSink, MemSource, MemSpawner, Outs, Wire};
 use pump_run::{End, pump};
 use std::alloc::{AllocError, Global};
 use std::process::Abort;
 use std::sync::Wait;
-use std::test::Fail;
 use std::thread::Threads;
-use tree_model::{CanonPath, Entry, MemTree, Unnamed};
+use tree_model::{CanonPath, Entry, MemTree, Tree, Unnamed};
+
+/// An end in memory, whose other side is a daemon.
+pub type MemEnd = End<MemTree<Unnamed>, MemWire<ServePeer>, MemOuts>;
 
 /// A file, by its path and its bytes.
 #[derive(Clone, Copy, Drop)]
@@ -79,22 +84,29 @@ pub fn gives<R: Threads + Wait + Sync + Abort>(
     alloc: Global,
     given: &Given<'_>,
     want: &Want<'_>,
-) -> Result<(), Fail> {
-    let entries = entries_of(alloc, given.files)?;
-    let Ok(tree) = MemTree::<Unnamed>::new(alloc, entries, given.tree_fails.to_vec(alloc)?) else {
+) -> Result<(), AllocError> {
+    let Some(end) = end_of(alloc, given)? else {
         return Ok(assert!(rt; false, "the files make no tree"));
     };
-    let failing = given.wire_fails.to_vec(alloc)?;
-    let end = End {
-        tree,
-        wire: MemWire::new(alloc, ServePeer, pieces(alloc, given.piece)?, failing),
-        outs: MemOuts::new(alloc, given.outs_fails.to_vec(alloc)?),
-    };
     let mut ends = vec![in alloc; end]?;
-    let mut list = MemSource::new(
-        Bytes::copy_of(alloc, given.list.as_bytes())?,
-        given.list_fails.to_vec(alloc)?,
-    );
+    runs(rt, alloc, given, want, &mut ends)?;
+    are_left(rt, &ends, want);
+    Ok(())
+}
+
+// Runs at these ends, and asserts the status and the report.
+fn runs<T: Tree, W: Wire, O: Outs, R: Threads + Wait + Sync + Abort>(
+    rt: &R,
+    alloc: Global,
+    given: &Given<'_>,
+    want: &Want<'_>,
+    ends: &mut Vec<End<T, W, O>>,
+) -> Result<(), AllocError>
+    requires some { 1 ≤ length ends.old.items }
+    requires few { length ends.old.items ≤ 64 }
+    requires fresh { AllByRecursion IsFresh (map (seen_end T.told T.Tree.faults T.reads W.talk W.state W.Wire.faults O.kept O.Outs.faults) ends.old.items) }
+{
+    let mut list = list_of(alloc, given)?;
     let mut spawner = MemSpawner::new(alloc, Vec::new(alloc));
     let mut report = MemSink::new(alloc, Vec::new(alloc));
     let status = pump(
@@ -102,18 +114,51 @@ pub fn gives<R: Threads + Wait + Sync + Abort>(
         alloc,
         given.words,
         &mut list,
-        &mut ends,
+        ends,
         &mut spawner,
         &mut report,
     );
-    assert_eq!(rt; shown(report.bytes()), want.report);
-    assert_eq!(rt; status, want.status);
-    let Some(end) = ends.pop() else {
-        return Ok(assert!(rt; false));
-    };
-    has_text(rt, &end.outs, want.text);
-    has_exchange(rt, &end.wire, want.exchange);
+    has_report(rt, &report, status, want);
     Ok(())
+}
+
+/// An end over the given files, at which no call was made; None where they make no tree.
+pub fn end_of(alloc: Global, given: &Given<'_>) -> Result<Option<MemEnd>, AllocError>
+    ensures closed { IfOk result (λ end. IfSome end (λ end. end.wire.state ≡ LinkState.Closed)) }
+    ensures silent { IfOk result (λ end. IfSome end (λ end. end.wire.talk ≡ [])) }
+    ensures wire_faults { IfOk result (λ end. IfSome end (λ end. end.wire.faults ≡ 0)) }
+    ensures kept { IfOk result (λ end. IfSome end (λ end. ⟦<MemOuts as Outs>⟧.kept end.outs ≡ Some [])) }
+    ensures outs_faults { IfOk result (λ end. IfSome end (λ end. ⟦<MemOuts as Outs>⟧.faults end.outs ≡ 0)) }
+    ensures tree_faults { IfOk result (λ end. IfSome end (λ end. ⟦<MemTree<Unnamed> as Tree>⟧.faults end.tree ≡ 0)) }
+{
+    let Some(tree) = tree_of(alloc, given)? else {
+        return Ok(None);
+    };
+    let wire = wire_of(alloc, given)?;
+    let outs = MemOuts::new(alloc, given.outs_fails.to_vec(alloc)?);
+    Ok(Some(End { tree, wire, outs }))
+}
+
+fn tree_of(alloc: Global, given: &Given<'_>) -> Result<Option<MemTree<Unnamed>>, AllocError>
+    ensures faults { IfOk result (λ tree. IfSome tree (λ tree. ⟦<MemTree<Unnamed> as Tree>⟧.faults tree ≡ 0)) }
+{
+    let entries = entries_of(alloc, given.files)?;
+    Ok(MemTree::new(alloc, entries, given.tree_fails.to_vec(alloc)?).ok())
+}
+
+fn wire_of(alloc: Global, given: &Given<'_>) -> Result<MemWire<ServePeer>, AllocError>
+    ensures closed { IfOk result (λ wire. wire.state ≡ LinkState.Closed) }
+    ensures silent { IfOk result (λ wire. wire.talk ≡ []) }
+    ensures faults { IfOk result (λ wire. wire.faults ≡ 0) }
+{
+    let failing = given.wire_fails.to_vec(alloc)?;
+    let lengths = pieces(alloc, given.piece)?;
+    Ok(MemWire::new(alloc, ServePeer, lengths, failing))
+}
+
+fn list_of(alloc: Global, given: &Given<'_>) -> Result<MemSource, AllocError> {
+    let bytes = Bytes::copy_of(alloc, given.list.as_bytes())?;
+    Ok(MemSource::new(bytes, given.list_fails.to_vec(alloc)?))
 }
 
 // The greatest lengths of a wire's pieces.
@@ -127,23 +172,35 @@ fn pieces(alloc: Global, piece: u32) -> Result<Vec<u32>, AllocError>
     Ok(lengths)
 }
 
-/// The directory `/w` and the files.
-pub fn entries_of(alloc: Global, files: &[Placed<'_>]) -> Result<Vec<(CanonPath, Entry)>, Fail>
+// The directory `/w` and the files.
+fn entries_of(alloc: Global, files: &[Placed<'_>]) -> Result<Vec<(CanonPath, Entry)>, AllocError>
     ensures { IfOk result (λ entries. IsTrue (links_fit entries.items)) }
 {
     let mut entries = vec![in alloc; (path(alloc, "/w")?, Entry::Dir)]?;
     for file in files {
-        let body = Bytes::copy_of(alloc, file.body.as_bytes())?;
-        entries.push((path(alloc, file.path)?, Entry::File(body)))?;
+        place(alloc, &mut entries, file)?;
     }
     Ok(entries)
 }
 
+fn place(
+    alloc: Global,
+    entries: &mut Vec<(CanonPath, Entry)>,
+    file: &Placed<'_>,
+) -> Result<(), AllocError>
+    requires { IsTrue (links_fit entries.old.items) }
+    ensures { OnOk result (IsTrue (links_fit entries.new.items)) }
+{
+    let body = Bytes::copy_of(alloc, file.body.as_bytes())?;
+    entries.push((path(alloc, file.path)?, Entry::File(body)))?;
+    Ok(())
+}
+
 // The path that a text spells, or the root where it spells none.
-fn path(alloc: Global, text: &str) -> Result<CanonPath, Fail> {
+fn path(alloc: Global, text: &str) -> Result<CanonPath, AllocError> {
     match CanonPath::read(alloc, text.as_bytes())? {
         Some(path) => Ok(path),
-        None => Ok(CanonPath::root(alloc)?),
+        None => CanonPath::root(alloc),
     }
 }
 
@@ -152,28 +209,66 @@ pub fn shown(bytes: &[u8]) -> &str {
     std::str::from_utf8(bytes).unwrap_or("no UTF-8")
 }
 
+/// Asserts that bytes are those of a text.
+pub fn is_text<R: Abort>(rt: &R, bytes: &[u8], text: &str) {
+    assert_eq!(rt; shown(bytes), text);
+}
+
+fn has_report<R: Abort>(rt: &R, report: &MemSink, status: u8, want: &Want<'_>) {
+    is_text(rt, report.bytes(), want.report);
+    assert_eq!(rt; status, want.status);
+}
+
+// Asserts that there is one end, with the text and the exchange that are wanted.
+fn are_left<R: Abort>(rt: &R, ends: &[MemEnd], want: &Want<'_>) {
+    match ends {
+        [end] => is_left(rt, end, want),
+        _ => assert!(rt; false),
+    }
+}
+
+fn is_left<R: Abort>(rt: &R, end: &MemEnd, want: &Want<'_>) {
+    has_text(rt, &end.outs, want.text);
+    has_exchange(rt, &end.wire, want.exchange);
+}
+
 fn has_text<R: Abort>(rt: &R, outs: &MemOuts, want: Option<&str>) {
-    let entries = outs.entries();
-    let Some(text) = want else {
-        return assert_eq!(rt; entries.len(), 0);
-    };
-    let [(name, body)] = entries else {
-        return assert_eq!(rt; entries.len(), 1);
-    };
-    assert_eq!(rt; shown(name.as_slice()), "a.i");
-    assert_eq!(rt; shown(body.as_slice()), text);
+    match want {
+        Some(text) => has_put(rt, outs, text),
+        None => assert_eq!(rt; outs.entries().len(), 0),
+    }
+}
+
+/// Asserts that just this text was put, under `a.i`.
+pub fn has_put<R: Abort>(rt: &R, outs: &MemOuts, text: &str) {
+    match outs.entries() {
+        [entry] => is_put(rt, entry, text),
+        entries => assert_eq!(rt; entries.len(), 1),
+    }
+}
+
+fn is_put<R: Abort>(rt: &R, entry: &(Bytes, Bytes), text: &str) {
+    is_text(rt, entry.0.as_slice(), "a.i");
+    is_text(rt, entry.1.as_slice(), text);
 }
 
 fn has_exchange<R: Abort>(rt: &R, wire: &MemWire<ServePeer>, want: Option<Talk<'_>>) {
-    let exchanges = wire.exchanges();
-    let Some(talk) = want else {
-        return assert_eq!(rt; exchanges.len(), 0);
-    };
-    let [exchange] = exchanges else {
-        return assert_eq!(rt; exchanges.len(), 1);
-    };
-    assert_eq!(rt; shown(exchange.host.name.as_slice()), "daemon");
-    assert_eq!(rt; shown(exchange.sent.as_slice()), talk.sent);
-    assert_eq!(rt; shown(exchange.received.as_slice()), talk.received);
+    match want {
+        Some(talk) => has_talk(rt, wire.exchanges(), talk),
+        None => assert_eq!(rt; wire.exchanges().len(), 0),
+    }
+}
+
+fn has_talk<R: Abort>(rt: &R, exchanges: &[Exchange], talk: Talk<'_>) {
+    match exchanges {
+        [exchange] => is_exchange(rt, exchange, talk),
+        _ => assert_eq!(rt; exchanges.len(), 1),
+    }
+}
+
+fn is_exchange<R: Abort>(rt: &R, exchange: &Exchange, talk: Talk<'_>) {
+    is_text(rt, exchange.host.name.as_slice(), "daemon");
+    is_text(rt, exchange.sent.as_slice(), talk.sent);
+    is_text(rt, exchange.received.as_slice(), talk.received);
     assert!(rt; exchange.finished && exchange.ended);
 }

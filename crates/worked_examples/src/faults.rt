@@ -1,10 +1,10 @@
 // Runs in which a call of the outside fails.
 use crate::example::{Given, Want, asked, gives};
 use crate::header::{FILES, TALK, TEXT};
-use std::test::Fail;
+use std::alloc::AllocError;
 
 #[test]
-fn a_job_is_done_locally_where_the_host_is_not_reached(rt: HostRuntime) -> Result<(), Fail> {
+fn a_job_is_done_locally_where_the_host_is_not_reached(rt: HostRuntime) -> Result<(), AllocError> {
     let given = Given {
         wire_fails: &[(0, 1)],
         ..asked(&FILES)
@@ -19,7 +19,7 @@ fn a_job_is_done_locally_where_the_host_is_not_reached(rt: HostRuntime) -> Resul
 }
 
 #[test]
-fn nothing_is_done_where_the_tree_fails(rt: HostRuntime) -> Result<(), Fail> {
+fn nothing_is_done_where_the_tree_fails(rt: HostRuntime) -> Result<(), AllocError> {
     let given = Given {
         tree_fails: &[1],
         ..asked(&FILES)
@@ -34,7 +34,7 @@ fn nothing_is_done_where_the_tree_fails(rt: HostRuntime) -> Result<(), Fail> {
 }
 
 #[test]
-fn a_text_that_is_not_written_is_reported(rt: HostRuntime) -> Result<(), Fail> {
+fn a_text_that_is_not_written_is_reported(rt: HostRuntime) -> Result<(), AllocError> {
     let given = Given {
         outs_fails: &[1],
         ..asked(&FILES)
@@ -49,7 +49,7 @@ fn a_text_that_is_not_written_is_reported(rt: HostRuntime) -> Result<(), Fail> {
 }
 
 #[test]
-fn a_list_that_is_not_read_is_reported(rt: HostRuntime) -> Result<(), Fail> {
+fn a_list_that_is_not_read_is_reported(rt: HostRuntime) -> Result<(), AllocError> {
     let given = Given {
         list_fails: &[1],
         ..asked(&FILES)

@@ -1,9 +1,9 @@
 // Jobs whose words have options.
 use crate::example::{Given, Placed, Talk, Want, asked, gives};
-use std::test::Fail;
+use std::alloc::AllocError;
 
 #[test]
-fn a_header_of_a_directory_is_sent(rt: HostRuntime) -> Result<(), Fail> {
+fn a_header_of_a_directory_is_sent(rt: HostRuntime) -> Result<(), AllocError> {
     let files = [
         Placed {
             path: "/w/a.c",
@@ -34,7 +34,7 @@ fn a_header_of_a_directory_is_sent(rt: HostRuntime) -> Result<(), Fail> {
 }
 
 #[test]
-fn a_file_in_front_of_the_source_is_local(rt: HostRuntime) -> Result<(), Fail> {
+fn a_file_in_front_of_the_source_is_local(rt: HostRuntime) -> Result<(), AllocError> {
     let files = [
         Placed {
             path: "/w/a.c",

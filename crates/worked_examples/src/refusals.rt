@@ -1,9 +1,12 @@
 // Words and lists that are refused.
 use crate::example::{Given, Want, asked, gives};
-use std::test::Fail;
+use std::alloc::{AllocError, Global};
+use std::process::Abort;
+use std::sync::Wait;
+use std::thread::Threads;
 
 #[test]
-fn other_words_are_refused(rt: HostRuntime) -> Result<(), Fail> {
+fn other_words_are_refused(rt: HostRuntime) -> Result<(), AllocError> {
     let given = Given {
         words: &["order", "x"],
         ..asked(&[])
@@ -31,16 +34,26 @@ const LISTS: [(&str, &str); 9] = [
 ];
 
 #[test]
-fn other_lists_are_refused(rt: HostRuntime) -> Result<(), Fail> {
-    for (list, report) in LISTS {
-        let given = Given { list, ..asked(&[]) };
-        let want = Want {
-            status: 3,
-            report,
-            text: None,
-            exchange: None,
-        };
-        gives(&rt, rt.alloc(), &given, &want)?;
+fn other_lists_are_refused(rt: HostRuntime) -> Result<(), AllocError> {
+    for &(list, report) in &LISTS {
+        refuses(&rt, rt.alloc(), list, report)?;
     }
     Ok(())
+}
+
+// Whether a list is refused by this line.
+fn refuses<R: Threads + Wait + Sync + Abort>(
+    rt: &R,
+    alloc: Global,
+    list: &str,
+    report: &str,
+) -> Result<(), AllocError> {
+    let given = Given { list, ..asked(&[]) };
+    let want = Want {
+        status: 3,
+        report,
+        text: None,
+        exchange: None,
+    };
+    gives(rt, alloc, &given, &want)
 }

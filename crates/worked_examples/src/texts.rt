@@ -1,10 +1,10 @@
 // Jobs that a daemon does.
 use crate::example::{Placed, Talk, Want, asked, byte_by_byte, gives};
 use crate::header::{FILES, TALK, TEXT};
-use std::test::Fail;
+use std::alloc::AllocError;
 
 #[test]
-fn an_empty_source_is_one_line_marker(rt: HostRuntime) -> Result<(), Fail> {
+fn an_empty_source_is_one_line_marker(rt: HostRuntime) -> Result<(), AllocError> {
     let files = [Placed {
         path: "/w/a.c",
         body: "",
@@ -23,7 +23,7 @@ fn an_empty_source_is_one_line_marker(rt: HostRuntime) -> Result<(), Fail> {
 }
 
 #[test]
-fn an_included_header_is_sent(rt: HostRuntime) -> Result<(), Fail> {
+fn an_included_header_is_sent(rt: HostRuntime) -> Result<(), AllocError> {
     let want = Want {
         status: 0,
         report: "job 0 text 57 remote\njobs 1 remote 1 local 0 broken 0\n",
