@@ -4,10 +4,10 @@ ghost use Rattle.std.specs.List.{list_any};
 ghost use Rattle.tree_model.specs.Entries.{entry_fits, is_link_text, links_fit};
 
 use base_types::{Bytes, List};
-use daemon_cpp::{Outcome, preprocess};
+use daemon_cpp::{CppError, Outcome, preprocess};
 use job_words::read_words;
 use std::alloc::{AllocError, Global};
-use std::io::Write;
+use std::process::Abort;
 use std::test::Fail;
 use tree_model::{CanonPath, Entry, MemTree, Unnamed};
 
@@ -93,42 +93,75 @@ fn words_of(alloc: Global, line: &str) -> Result<List<Bytes>, AllocError> {
     Ok(words)
 }
 
-// The outcome of the job of these words in `/w`, with T before a text and D before a diagnostic; empty where there is
-// none.
-fn outcome(alloc: Global, nodes: &[(&str, Stands<'_>)], words: &str) -> Result<Vec<u8>, Fail> {
+// A letter and these bytes.
+fn lettered(alloc: Global, letter: u8, bytes: &[u8]) -> Result<Vec<u8>, AllocError> {
     let mut seen = Vec::new(alloc);
-    let Ok(mut tree) = MemTree::<Unnamed>::new(alloc, entries_of(alloc, nodes)?, Vec::new(alloc))
-    else {
-        return Ok(seen);
-    };
-    let words = words_of(alloc, words)?;
-    let Ok(job) = read_words(alloc, b"/w", words.as_slice()) else {
-        return Ok(seen);
-    };
-    let (letter, bytes) = match preprocess(alloc, &mut tree, &job) {
-        Ok(Outcome::Text(text)) => (b'T', text),
-        Ok(Outcome::Diag(words)) => (b'D', words),
-        Err(_) => return Ok(seen),
-    };
     seen.push(letter)?;
-    seen.extend_from_slice(bytes.as_slice())?;
+    seen.extend_from_slice(bytes)?;
     Ok(seen)
 }
 
-/// Whether each row's job, by its words in `/w`, has its outcome over the tree of these nodes.
+// What preprocessing gave, with T before a text and D before a diagnostic; empty where it gave nothing.
+fn shown(alloc: Global, outcome: Result<Outcome, CppError>) -> Result<Vec<u8>, AllocError> {
+    match outcome {
+        Ok(Outcome::Text(text)) => lettered(alloc, b'T', text.as_slice()),
+        Ok(Outcome::Diag(words)) => lettered(alloc, b'D', words.as_slice()),
+        Err(_) => Ok(Vec::new(alloc)),
+    }
+}
+
+fn outcome_over(
+    alloc: Global,
+    tree: &mut MemTree<Unnamed>,
+    words: &[Bytes],
+) -> Result<Vec<u8>, AllocError> {
+    match read_words(alloc, b"/w", words) {
+        Ok(job) => shown(alloc, preprocess(alloc, tree, &job)),
+        Err(_) => Ok(Vec::new(alloc)),
+    }
+}
+
+// The outcome of the job of these words in `/w`; empty where there is none.
+fn outcome(
+    alloc: Global,
+    nodes: &[(&str, Stands<'_>)],
+    words: &str,
+) -> Result<Vec<u8>, AllocError> {
+    let words = words_of(alloc, words)?;
+    let entries = entries_of(alloc, nodes)?;
+    match MemTree::<Unnamed>::new(alloc, entries, Vec::new(alloc)) {
+        Ok(mut tree) => outcome_over(alloc, &mut tree, words.as_slice()),
+        Err(_) => Ok(Vec::new(alloc)),
+    }
+}
+
+fn check_seen(rt: &impl Abort, alloc: Global, words: &str, seen: Vec<u8>, want: &str) {
+    let same = seen.as_slice() == want.as_bytes();
+    let text = String::from_utf8(seen).unwrap_or(String::new(alloc));
+    assert!(rt; same, "{words}: {text}");
+}
+
+fn check_row(
+    rt: &impl Abort,
+    alloc: Global,
+    nodes: &[(&str, Stands<'_>)],
+    words: &str,
+    want: &str,
+) -> Result<(), Fail> {
+    let seen = outcome(alloc, nodes, words)?;
+    check_seen(rt, alloc, words, seen, want);
+    Ok(())
+}
+
+/// Each row's job, by its words in `/w`, has its outcome over the tree of these nodes.
 pub fn check<'x>(
-    rt: &HostRuntime,
+    rt: &impl Abort,
     alloc: Global,
     nodes: &[(&'x str, Stands<'x>)],
     rows: &[(&'x str, &'x str)],
-) -> Result<bool, Fail> {
+) -> Result<(), Fail> {
     for (words, want) in rows {
-        let seen = outcome(alloc, nodes, words)?;
-        if seen.as_slice() != want.as_bytes() {
-            let text = String::from_utf8(seen).unwrap_or(String::new(alloc));
-            let _ = writeln!(rt.stderr(), "{words}: {text}");
-            return Ok(false);
-        }
+        check_row(rt, alloc, nodes, words, want)?;
     }
-    Ok(true)
+    Ok(())
 }

@@ -6,49 +6,66 @@ use std::test::Fail;
 
 #[test]
 fn a_directory_behind_a_link(rt: HostRuntime) -> Result<(), Fail> {
-    let nodes = [
-        ("/v", Dir),
-        ("/v/inc", Dir),
-        ("/v/x.h", File("int v;\n")),
-        ("/w", Dir),
-        ("/w/a.c", File("#include \"l/../x.h\"\n")),
-        ("/w/b.c", File("#include \"k//.././x.h\"\n")),
-        ("/w/k", Link("./l/")),
-        ("/w/l", Link("/v/inc")),
-        ("/w/x.h", File("int w;\n")),
-    ];
-    let rows = [
-        (
-            "a.c",
-            "T# 1 \"/w/a.c\"\n# 1 \"/v/x.h\" 1\nint v;\n# 2 \"/w/a.c\" 2\n",
-        ),
-        (
-            "b.c",
-            "T# 1 \"/w/b.c\"\n# 1 \"/v/x.h\" 1\nint v;\n# 2 \"/w/b.c\" 2\n",
-        ),
-    ];
-    assert!(rt; check(&rt, rt.alloc(), &nodes, &rows)?);
-    Ok(())
+    check(
+        &rt,
+        rt.alloc(),
+        &[
+            ("/v", Dir),
+            ("/v/inc", Dir),
+            ("/v/x.h", File("int v;\n")),
+            ("/w", Dir),
+            ("/w/a.c", File("#include \"l/../x.h\"\n")),
+            ("/w/b.c", File("#include \"k//.././x.h\"\n")),
+            ("/w/k", Link("./l/")),
+            ("/w/l", Link("/v/inc")),
+            ("/w/x.h", File("int w;\n")),
+        ],
+        &[
+            (
+                "a.c",
+                "T# 1 \"/w/a.c\"\n# 1 \"/v/x.h\" 1\nint v;\n# 2 \"/w/a.c\" 2\n",
+            ),
+            (
+                "b.c",
+                "T# 1 \"/w/b.c\"\n# 1 \"/v/x.h\" 1\nint v;\n# 2 \"/w/b.c\" 2\n",
+            ),
+        ],
+    )
 }
+
+// A source whose include goes through a directory and up again.
+const THROUGH_A_DIRECTORY: &str = "#include \"gone/../x.h\"\n";
 
 #[test]
 fn an_empty_directory_on_the_way(rt: HostRuntime) -> Result<(), Fail> {
-    let source = ("/w/a.c", File("#include \"gone/../x.h\"\n"));
-    let with = [
-        ("/w", Dir),
-        source,
-        ("/w/gone", Dir),
-        ("/w/x.h", File("int x;\n")),
-    ];
-    let rows = [(
-        "a.c",
-        "T# 1 \"/w/a.c\"\n# 1 \"/w/x.h\" 1\nint x;\n# 2 \"/w/a.c\" 2\n",
-    )];
-    assert!(rt; check(&rt, rt.alloc(), &with, &rows)?);
-    let without = [("/w", Dir), source, ("/w/x.h", File("int x;\n"))];
-    let rows = [("a.c", "D/w/a.c:1: error: cannot find \"gone/../x.h\"")];
-    assert!(rt; check(&rt, rt.alloc(), &without, &rows)?);
-    Ok(())
+    check(
+        &rt,
+        rt.alloc(),
+        &[
+            ("/w", Dir),
+            ("/w/a.c", File(THROUGH_A_DIRECTORY)),
+            ("/w/gone", Dir),
+            ("/w/x.h", File("int x;\n")),
+        ],
+        &[(
+            "a.c",
+            "T# 1 \"/w/a.c\"\n# 1 \"/w/x.h\" 1\nint x;\n# 2 \"/w/a.c\" 2\n",
+        )],
+    )
+}
+
+#[test]
+fn no_directory_on_the_way(rt: HostRuntime) -> Result<(), Fail> {
+    check(
+        &rt,
+        rt.alloc(),
+        &[
+            ("/w", Dir),
+            ("/w/a.c", File(THROUGH_A_DIRECTORY)),
+            ("/w/x.h", File("int x;\n")),
+        ],
+        &[("a.c", "D/w/a.c:1: error: cannot find \"gone/../x.h\"")],
+    )
 }
 
 // The paths of 41 links, and their names.
@@ -67,44 +84,62 @@ const NAMES: [&str; 41] = [
     "l40", "l41",
 ];
 
+// Adds the link of this index, where there is one to add: the last of so many leads to a file, another one to the next.
+fn add_link(
+    nodes: &mut Vec<(&'static str, Stands<'static>)>,
+    index: usize,
+    path: &'static str,
+    count: usize,
+) -> Result<(), AllocError> {
+    let next = index.saturating_add(1);
+    if next == count {
+        return Ok(nodes.push((path, Link("x.h")))?);
+    }
+    match NAMES.get(next) {
+        Some(name) => Ok(nodes.push((path, Link(name)))?),
+        None => Ok(()),
+    }
+}
+
 // A source that asks for the first of so many links, each of which leads to the next and the last to a file; and a file of
 // the first one's name in a directory. Links behind the last lead on as well.
 fn links(alloc: Global, count: usize) -> Result<Vec<(&'static str, Stands<'static>)>, AllocError> {
-    let mut nodes = vec![in alloc; ("/w", Dir)]?;
-    nodes.push(("/w/a.c", File("#include \"l01\"\n")))?;
-    nodes.push(("/w/i", Dir))?;
-    nodes.push(("/w/i/l01", File("int i;\n")))?;
+    let mut nodes = vec![in alloc;
+        ("/w", Dir),
+        ("/w/a.c", File("#include \"l01\"\n")),
+        ("/w/i", Dir),
+        ("/w/i/l01", File("int i;\n")),
+    ]?;
     for (k, path) in PATHS.iter().enumerate() {
-        let next = k.saturating_add(1);
-        if next == count {
-            nodes.push((*path, Link("x.h")))?;
-        } else if let Some(name) = NAMES.get(next) {
-            nodes.push((*path, Link(name)))?;
-        }
+        add_link(&mut nodes, k, path, count)?;
     }
     nodes.push(("/w/x.h", File("int x;\n")))?;
     Ok(nodes)
 }
 
 #[test]
-fn forty_links_and_one_more(rt: HostRuntime) -> Result<(), Fail> {
-    let alloc = rt.alloc();
+fn forty_links(rt: HostRuntime) -> Result<(), Fail> {
     let followed = "T# 1 \"/w/a.c\"\n# 1 \"/w/l01\" 1\nint x;\n# 2 \"/w/a.c\" 2\n";
-    assert!(rt;
-        check(
-            &rt,
-            alloc,
-            &links(alloc, 40)?,
-            &[("a.c", followed), ("a.c -Ii", followed)]
-        )?
-    );
-    let rows = [
-        ("a.c", "D/w/a.c:1: error: cannot find \"l01\""),
-        (
-            "a.c -Ii",
-            "T# 1 \"/w/a.c\"\n# 1 \"/w/i/l01\" 1\nint i;\n# 2 \"/w/a.c\" 2\n",
-        ),
-    ];
-    assert!(rt; check(&rt, alloc, &links(alloc, 41)?, &rows)?);
-    Ok(())
+    check(
+        &rt,
+        rt.alloc(),
+        &links(rt.alloc(), 40)?,
+        &[("a.c", followed), ("a.c -Ii", followed)],
+    )
+}
+
+#[test]
+fn forty_links_and_one_more(rt: HostRuntime) -> Result<(), Fail> {
+    check(
+        &rt,
+        rt.alloc(),
+        &links(rt.alloc(), 41)?,
+        &[
+            ("a.c", "D/w/a.c:1: error: cannot find \"l01\""),
+            (
+                "a.c -Ii",
+                "T# 1 \"/w/a.c\"\n# 1 \"/w/i/l01\" 1\nint i;\n# 2 \"/w/a.c\" 2\n",
+            ),
+        ],
+    )
 }

@@ -1,12 +1,14 @@
 // Sources, sinks, outputs and a spawner in memory, the files of a folder, and a runtime's streams.
+use crate::same::check_same;
 use base_types::Bytes;
 use io_edges::{
-    FolderOuts, MemOuts, MemSink, MemSource, MemSpawner, OutFault, Outs, ReadFault, Sink, Source,
-    SpawnFault, Spawner, StdSink, StdSource, WriteFault,
+    FolderOuts, Host, MemOuts, MemSink, MemSource, MemSpawner, OutFault, Outs, ReadFault, Sink,
+    Source, SpawnFault, Spawner, StdSink, StdSource, WriteFault,
 };
-use std::alloc::{Allocator, Global};
-use std::fs;
+use std::alloc::{AllocError, Allocator, Global};
+use std::fs::{self, Files};
 use std::io::{self, BufRead, Input, Lines, Print};
+use std::process::Abort;
 use std::test::Fail;
 
 // The words of a text, one a call.
@@ -26,21 +28,41 @@ fn take_three<S: Source>(alloc: Global, source: &mut S) -> Result<Vec<u8>, Fail>
     Ok(room[..n].to_vec(alloc)?)
 }
 
+// What is left begins with this, of which at most three bytes are taken.
+fn check_three<S: Source>(
+    rt: &impl Abort,
+    alloc: Global,
+    source: &mut S,
+    want: &[u8],
+) -> Result<(), Fail> {
+    let taken = take_three(alloc, source)?;
+    check_same(rt, taken.as_slice(), want);
+    Ok(())
+}
+
+fn check_take<S: Source>(rt: &impl Abort, source: &mut S, want: Result<usize, ReadFault>) {
+    let mut room = [0; 4];
+    assert_eq!(rt; source.take(&mut room), want);
+}
+
+fn check_put<K: Sink>(rt: &impl Abort, sink: &mut K, words: &[&str], want: Result<(), WriteFault>) {
+    assert_eq!(rt; put_words(sink, words), want);
+}
+
+// A source of five bytes, whose second call fails.
+fn failing_source(alloc: Global) -> Result<MemSource, AllocError> {
+    let bytes = Bytes::copy_of(alloc, b"abcde")?;
+    Ok(MemSource::new(bytes, vec![in alloc; 2]?))
+}
+
 #[test]
 fn a_source_gives_its_bytes_and_fails_where_listed(rt: HostRuntime) -> Result<(), Fail> {
     let alloc = rt.alloc();
-    let mut source = MemSource::new(Bytes::copy_of(alloc, b"abcde")?, vec![in alloc; 2]?);
-    assert_eq!(rt;
-        take_three(alloc, &mut source)?.as_slice(),
-        b"abc".as_slice()
-    );
-    let mut room = [0; 4];
-    assert_eq!(rt; source.take(&mut room), Err(ReadFault::Fault));
-    assert_eq!(rt;
-        take_three(alloc, &mut source)?.as_slice(),
-        b"de".as_slice()
-    );
-    assert_eq!(rt; source.take(&mut room), Ok(0));
+    let mut source = failing_source(alloc)?;
+    check_three(&rt, alloc, &mut source, b"abc")?;
+    check_take(&rt, &mut source, Err(ReadFault::Fault));
+    check_three(&rt, alloc, &mut source, b"de")?;
+    check_take(&rt, &mut source, Ok(0));
     Ok(())
 }
 
@@ -48,76 +70,157 @@ fn a_source_gives_its_bytes_and_fails_where_listed(rt: HostRuntime) -> Result<()
 fn a_sink_holds_its_pieces(rt: HostRuntime) -> Result<(), Fail> {
     let alloc = rt.alloc();
     let mut sink = MemSink::new(alloc, vec![in alloc; 3]?);
-    assert_eq!(rt;
-        put_words(&mut sink, &["one ", "two ", "three"]),
-        Err(WriteFault::Fault)
+    check_put(
+        &rt,
+        &mut sink,
+        &["one ", "two ", "three"],
+        Err(WriteFault::Fault),
     );
-    assert_eq!(rt; put_words(&mut sink, &["four"]), Ok(()));
-    assert_eq!(rt; sink.bytes(), b"one two four".as_slice());
+    check_put(&rt, &mut sink, &["four"], Ok(()));
+    check_same(&rt, sink.bytes(), b"one two four");
     Ok(())
+}
+
+fn check_body<O: Outs>(rt: &impl Abort, outs: &mut O, name: &str, body: &str) {
+    assert_eq!(rt;
+        outs.put(name.as_bytes(), body.as_bytes()),
+        Ok(()),
+        "at {name}"
+    );
+}
+
+fn check_refused<O: Outs>(rt: &impl Abort, outs: &mut O, name: &[u8], body: &[u8]) {
+    assert_eq!(rt; outs.put(name, body), Err(OutFault::Fault), "at {name:?}");
+}
+
+fn check_one_entry(rt: &impl Abort, entries: &[(Bytes, Bytes)], name: &[u8], body: &[u8]) {
+    assert_eq!(rt; entries.len(), 1);
+    check_same(rt, entries[0].0.as_slice(), name);
+    check_same(rt, entries[0].1.as_slice(), body);
 }
 
 #[test]
 fn outs_keep_names_and_bodies(rt: HostRuntime) -> Result<(), Fail> {
     let alloc = rt.alloc();
     let mut outs = MemOuts::new(alloc, vec![in alloc; 1]?);
-    assert_eq!(rt; outs.put(b"/a.o", b"first"), Err(OutFault::Fault));
-    assert_eq!(rt; outs.put(b"/a.o", b"second"), Ok(()));
-    let entries = outs.entries();
-    assert_eq!(rt; entries.len(), 1);
-    assert_eq!(rt; entries[0].0.as_slice(), b"/a.o".as_slice());
-    assert_eq!(rt; entries[0].1.as_slice(), b"second".as_slice());
+    check_refused(&rt, &mut outs, b"/a.o", b"first");
+    check_body(&rt, &mut outs, "/a.o", "second");
+    check_one_entry(&rt, outs.entries(), b"/a.o", b"second");
     Ok(())
+}
+
+fn check_localhost(rt: &impl Abort, host: &Host) {
+    check_same(rt, host.name.as_slice(), b"localhost");
+    assert_eq!(rt; (host.port, host.limit), (3632, 1));
+}
+
+fn check_start<P: Spawner>(rt: &impl Abort, spawner: &mut P, k: u32) {
+    match spawner.start(k) {
+        Ok(host) => check_localhost(rt, &host),
+        Err(_) => assert!(rt; false, "the first start failed"),
+    }
+}
+
+fn check_stop<P: Spawner>(rt: &impl Abort, spawner: &mut P, want: Result<(), SpawnFault>) {
+    assert_eq!(rt; spawner.stop_all(), want);
 }
 
 #[test]
 fn a_spawner_starts_localhost(rt: HostRuntime) -> Result<(), Fail> {
     let alloc = rt.alloc();
     let mut spawner = MemSpawner::new(alloc, vec![in alloc; 2]?);
-    let Ok(host) = spawner.start(7) else {
-        assert!(rt; false, "the first start failed");
-        return Ok(());
-    };
-    assert_eq!(rt; host.name.as_slice(), b"localhost".as_slice());
-    assert_eq!(rt; (host.port, host.limit), (3632, 1));
-    assert_eq!(rt; spawner.stop_all(), Err(SpawnFault::Fault));
-    assert_eq!(rt; spawner.stop_all(), Ok(()));
+    check_start(&rt, &mut spawner, 7);
+    check_stop(&rt, &mut spawner, Err(SpawnFault::Fault));
+    check_stop(&rt, &mut spawner, Ok(()));
     assert_eq!(rt; spawner.started(), [7].as_slice());
     Ok(())
+}
+
+// A folder below the working directory.
+const FOLDER: &str = "folder_outs_test/out";
+
+fn check_text(rt: &impl Abort, path: &str, text: &str, want: &str) {
+    assert_eq!(rt; text, want, "at {path}");
+}
+
+fn check_file<R: Files + Alloc + Abort>(rt: &R, path: &str, body: &str) -> Result<(), Fail> {
+    let text = fs::read_to_string(rt, path)?;
+    check_text(rt, path, text.as_str(), body);
+    Ok(())
+}
+
+fn check_below<R: Files + Alloc + Abort>(
+    rt: &R,
+    alloc: Global,
+    path: &str,
+    body: &str,
+) -> Result<(), Fail> {
+    let path = format!(in alloc; "{FOLDER}/{path}")?;
+    check_file(rt, &path, body)
+}
+
+fn remove_folder<R: Files + Alloc>(rt: &R) -> Result<(), Fail> {
+    fs::create_dir_all(rt, FOLDER)?;
+    fs::remove_dir_all(rt, FOLDER)?;
+    Ok(())
+}
+
+fn check_bodies<O: Outs>(rt: &impl Abort, outs: &mut O, files: &[(&str, &str)]) {
+    for (name, body) in files {
+        check_body(rt, outs, name, body);
+    }
+}
+
+fn check_refusals<O: Outs>(rt: &impl Abort, outs: &mut O, names: &[&[u8]]) {
+    for name in names {
+        check_refused(rt, outs, name, b"x");
+    }
+}
+
+fn check_files<R: Files + Alloc + Abort>(
+    rt: &R,
+    alloc: Global,
+    files: &[(&str, &str)],
+) -> Result<(), Fail> {
+    for (path, body) in files {
+        check_below(rt, alloc, path, body)?;
+    }
+    Ok(())
+}
+
+fn check_folder<O: Outs>(rt: &impl Abort, outs: &mut O) {
+    check_bodies(
+        rt,
+        outs,
+        &[
+            ("/a/b/c.o", "c"),
+            ("a/b/d.o", "d"),
+            ("//e..", "e"),
+            ("/a/b/c.o", "later"),
+        ],
+    );
+    check_refusals(
+        rt,
+        outs,
+        &[
+            b"", b"/", b"../x", b"/..", b"/a/../x", b"/a/..", b"/a\0b", b"/\xff",
+        ],
+    );
+    // A folder stands at the name.
+    check_refused(rt, outs, b"/a/b", b"x");
 }
 
 #[test]
 fn a_folder_holds_the_files_and_nothing_above_it(rt: HostRuntime) -> Result<(), Fail> {
     let alloc = rt.alloc();
-    let folder = "folder_outs_test/out";
-    fs::create_dir_all(&rt, folder)?;
-    fs::remove_dir_all(&rt, folder)?;
-    let mut outs = FolderOuts::new(&rt, alloc, folder)?;
-    let written = [
-        ("/a/b/c.o", "c"),
-        ("a/b/d.o", "d"),
-        ("//e..", "e"),
-        ("/a/b/c.o", "later"),
-    ];
-    for (name, body) in written {
-        assert_eq!(rt;
-            outs.put(name.as_bytes(), body.as_bytes()),
-            Ok(()),
-            "at {name}"
-        );
-    }
-    let refused: [&[u8]; 8] = [
-        b"", b"/", b"../x", b"/..", b"/a/../x", b"/a/..", b"/a\0b", b"/\xff",
-    ];
-    for name in refused {
-        assert_eq!(rt; outs.put(name, b"x"), Err(OutFault::Fault), "at {name:?}");
-    }
-    // A folder stands at the name.
-    assert_eq!(rt; outs.put(b"/a/b", b"x"), Err(OutFault::Fault));
-    for (path, body) in [("a/b/c.o", "later"), ("a/b/d.o", "d"), ("e..", "e")] {
-        let path = format!(in alloc; "{folder}/{path}")?;
-        assert_eq!(rt; fs::read_to_string(&rt, &path)?.as_str(), body, "at {path}");
-    }
+    remove_folder(&rt)?;
+    let mut outs = FolderOuts::new(&rt, alloc, FOLDER)?;
+    check_folder(&rt, &mut outs);
+    check_files(
+        &rt,
+        alloc,
+        &[("a/b/c.o", "later"), ("a/b/d.o", "d"), ("e..", "e")],
+    )?;
     fs::remove_dir_all(&rt, "folder_outs_test")?;
     Ok(())
 }
@@ -157,23 +260,23 @@ impl Print for Canned {
 }
 
 #[test]
-fn the_streams_of_a_runtime(rt: HostRuntime) -> Result<(), Fail> {
+fn the_input_of_a_runtime(rt: HostRuntime) -> Result<(), Fail> {
     let alloc = rt.alloc();
     let mut source = StdSource::new(&Canned);
-    assert_eq!(rt;
-        take_three(alloc, &mut source)?.as_slice(),
-        b"inp".as_slice()
-    );
-    assert_eq!(rt;
-        take_three(alloc, &mut source)?.as_slice(),
-        b"ut".as_slice()
-    );
-    assert_eq!(rt; take_three(alloc, &mut source)?.as_slice(), b"".as_slice());
-    assert_eq!(rt;
-        put_words(&mut StdSink::new(Canned), &["x"]),
-        Err(WriteFault::Fault)
-    );
-    assert_eq!(rt; put_words(&mut StdSink::new(&rt), &["", ""]), Ok(()));
+    check_three(&rt, alloc, &mut source, b"inp")?;
+    check_three(&rt, alloc, &mut source, b"ut")?;
+    check_three(&rt, alloc, &mut source, b"")?;
     let _input = StdSource::new(&rt);
     Ok(())
+}
+
+#[test]
+fn the_output_of_a_runtime(rt: HostRuntime) {
+    check_put(
+        &rt,
+        &mut StdSink::new(Canned),
+        &["x"],
+        Err(WriteFault::Fault),
+    );
+    check_put(&rt, &mut StdSink::new(&rt), &["", ""], Ok(()));
 }

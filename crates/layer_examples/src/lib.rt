@@ -8,4 +8,6 @@ mod layouts;
 #[cfg(test)]
 mod lists;
 #[cfg(test)]
+mod same;
+#[cfg(test)]
 mod serving;

@@ -1,12 +1,14 @@
 // Wires in memory, the answers behind them, and the daemon.
-ghost use Rattle.std.specs.Prelude.{◌≡◌, true};
+ghost use Rattle.std.specs.Prelude.{◌≡◌, ◌<◌, All, IfOk, true};
 
+use crate::same::check_same;
 use base_types::Bytes;
 use daemon_serve::{
     Answerer, MemWire, PieceSource, Scripted, Serve, ServePeer, Served, daemon_words, inetd, serve,
 };
-use io_edges::{Host, LinkState, MemSink, MemSource, Wire};
+use io_edges::{Exchange, Host, LinkState, MemSink, MemSource, Source, Wire};
 use std::alloc::{AllocError, Global};
+use std::process::Abort;
 use std::test::Fail;
 
 // The request of an empty source, and the reply to it.
@@ -31,6 +33,21 @@ fn a_peer(alloc: Global, answers: &[&str]) -> Result<Scripted, Fail> {
     Ok(Scripted::new(list))
 }
 
+// A wire with these answers behind it, which was never dialled.
+fn a_wire(
+    alloc: Global,
+    answers: &[&str],
+    pieces: Vec<u32>,
+    failing: &[(u32, u32)],
+) -> Result<MemWire<Scripted>, Fail>
+    requires { All (λ n. 0 < n) pieces.items }
+    ensures { IfOk result (λ wire. wire.state ≡ LinkState.Closed) }
+{
+    let peer = a_peer(alloc, answers)?;
+    let failing = failing.to_vec(alloc)?;
+    Ok(MemWire::new(alloc, peer, pieces, failing))
+}
+
 // Whether the wire came to take the answer to a request.
 fn is_asked<W: Wire>(wire: &mut W, host: &Host, request: &[u8]) -> bool
     requires { W.state wire.old ≡ LinkState.Closed }
@@ -51,33 +68,58 @@ fn gives<W: Wire>(wire: &mut W, piece: &[u8]) -> bool
     }
 }
 
+fn check_pieces<W: Wire>(rt: &impl Abort, wire: &mut W, host: &Host)
+    requires { W.state wire.old ≡ LinkState.Closed }
+{
+    assert!(rt; is_asked(wire, host, b"one"));
+    assert!(rt; gives(wire, b"ab") && gives(wire, b"cde") && gives(wire, b"fg"));
+    assert!(rt; gives(wire, b"h") && gives(wire, b""));
+}
+
+fn check_one_exchange(rt: &impl Abort, exchanges: &[Exchange], sent: &[u8], received: &[u8]) {
+    assert_eq!(rt; exchanges.len(), 1);
+    check_same(rt, exchanges[0].sent.as_slice(), sent);
+    check_same(rt, exchanges[0].received.as_slice(), received);
+}
+
 #[test]
 fn an_answer_comes_in_pieces(rt: HostRuntime) -> Result<(), Fail> {
     let alloc = rt.alloc();
     let host = a_host(alloc)?;
-    let peer = a_peer(alloc, &["abcdefgh"])?;
-    let mut wire = MemWire::new(alloc, peer, vec![in alloc; 2, 3]?, Vec::new(alloc));
-    assert!(rt; is_asked(&mut wire, &host, b"one"));
-    assert!(rt; gives(&mut wire, b"ab") && gives(&mut wire, b"cde") && gives(&mut wire, b"fg"));
-    assert!(rt; gives(&mut wire, b"h") && gives(&mut wire, b""));
-    let exchanges = wire.exchanges();
-    assert_eq!(rt; exchanges.len(), 1);
-    assert_eq!(rt; exchanges[0].sent.as_slice(), b"one".as_slice());
-    assert_eq!(rt; exchanges[0].received.as_slice(), b"abcdefgh".as_slice());
+    let mut wire = a_wire(alloc, &["abcdefgh"], vec![in alloc; 2, 3]?, &[])?;
+    check_pieces(&rt, &mut wire, &host);
+    check_one_exchange(&rt, wire.exchanges(), b"one", b"abcdefgh");
     Ok(())
+}
+
+fn check_asked<W: Wire>(rt: &impl Abort, wire: &mut W, host: &Host, request: &[u8], answer: &[u8])
+    requires { W.state wire.old ≡ LinkState.Closed }
+{
+    assert!(rt; is_asked(wire, host, request) && gives(wire, answer));
 }
 
 #[test]
 fn answers_come_in_turn_and_then_empty(rt: HostRuntime) -> Result<(), Fail> {
     let alloc = rt.alloc();
     let host = a_host(alloc)?;
-    let peer = a_peer(alloc, &["first", "second"])?;
-    let mut wire = MemWire::new(alloc, peer, Vec::new(alloc), Vec::new(alloc));
-    assert!(rt; is_asked(&mut wire, &host, b"a") && gives(&mut wire, b"first"));
+    let mut wire = a_wire(alloc, &["first", "second"], Vec::new(alloc), &[])?;
+    check_asked(&rt, &mut wire, &host, b"a", b"first");
     wire.close();
-    assert!(rt; is_asked(&mut wire, &host, b"b") && gives(&mut wire, b"second"));
+    check_asked(&rt, &mut wire, &host, b"b", b"second");
     wire.close();
-    assert!(rt; is_asked(&mut wire, &host, b"c") && gives(&mut wire, b""));
+    check_asked(&rt, &mut wire, &host, b"c", b"");
+    Ok(())
+}
+
+fn check_answer<P: Answerer>(
+    rt: &impl Abort,
+    alloc: Global,
+    peer: &mut P,
+    sent: &[u8],
+    want: &[u8],
+) -> Result<(), Fail> {
+    let answer = peer.answer(alloc, sent)?;
+    check_same(rt, answer.as_slice(), want);
     Ok(())
 }
 
@@ -85,52 +127,84 @@ fn answers_come_in_turn_and_then_empty(rt: HostRuntime) -> Result<(), Fail> {
 fn written_answers_are_given_whatever_was_sent(rt: HostRuntime) -> Result<(), Fail> {
     let alloc = rt.alloc();
     let mut peer = a_peer(alloc, &["first", "second"])?;
-    for answer in ["first", "second", ""] {
-        assert_eq!(rt; peer.answer(alloc, b"one")?.as_slice(), answer.as_bytes());
-    }
+    check_answer(&rt, alloc, &mut peer, b"one", b"first")?;
+    check_answer(&rt, alloc, &mut peer, b"one", b"second")?;
+    check_answer(&rt, alloc, &mut peer, b"one", b"")?;
     Ok(())
+}
+
+fn check_not_asked<W: Wire>(rt: &impl Abort, wire: &mut W, host: &Host, request: &[u8])
+    requires { W.state wire.old ≡ LinkState.Closed }
+{
+    assert!(rt; !is_asked(wire, host, request));
+}
+
+fn check_no_answer<W: Wire>(
+    rt: &impl Abort,
+    wire: &mut W,
+    host: &Host,
+    request: &[u8],
+    answer: &[u8],
+)
+    requires { W.state wire.old ≡ LinkState.Closed }
+{
+    assert!(rt; is_asked(wire, host, request));
+    assert!(rt; !gives(wire, answer));
 }
 
 #[test]
 fn calls_fail_where_listed(rt: HostRuntime) -> Result<(), Fail> {
     let alloc = rt.alloc();
     let host = a_host(alloc)?;
-    let peer = a_peer(alloc, &["answer"])?;
-    let failing = vec![in alloc; (0, 1), (1, 2), (2, 4)]?;
-    let mut wire = MemWire::new(alloc, peer, Vec::new(alloc), failing);
-    assert!(rt; !is_asked(&mut wire, &host, b"the dial fails"));
+    let failing = [(0, 1), (1, 2), (2, 4)];
+    let mut wire = a_wire(alloc, &["answer"], Vec::new(alloc), &failing)?;
+    check_not_asked(&rt, &mut wire, &host, b"the dial fails");
     wire.close();
-    assert!(rt; !is_asked(&mut wire, &host, b"the piece fails"));
+    check_not_asked(&rt, &mut wire, &host, b"the piece fails");
     wire.close();
-    assert!(rt; is_asked(&mut wire, &host, b"the first take fails"));
-    assert!(rt; !gives(&mut wire, b"answer"));
+    check_no_answer(&rt, &mut wire, &host, b"the first take fails", b"answer");
     assert_eq!(rt; wire.exchanges().len(), 2);
     Ok(())
 }
 
 #[test]
 fn the_daemon_answers_with_the_text(rt: HostRuntime) -> Result<(), Fail> {
-    let reply = ServePeer.answer(rt.alloc(), REQUEST.as_bytes())?;
-    assert_eq!(rt; reply.as_slice(), REPLY.as_bytes());
-    Ok(())
+    check_answer(
+        &rt,
+        rt.alloc(),
+        &mut ServePeer,
+        REQUEST.as_bytes(),
+        REPLY.as_bytes(),
+    )
 }
 
 #[test]
-fn the_daemon_refuses_by_the_reason(rt: HostRuntime) -> Result<(), Fail> {
-    let cut = ServePeer.answer(rt.alloc(), b"DIST".as_slice())?;
-    assert_eq!(rt; cut.as_slice(), b"RFSE00000009".as_slice());
-    let other = ServePeer.answer(rt.alloc(), b"XXXX".as_slice())?;
-    assert_eq!(rt; other.as_slice(), b"RFSE00000003".as_slice());
-    Ok(())
+fn the_daemon_refuses_what_is_cut(rt: HostRuntime) -> Result<(), Fail> {
+    check_answer(&rt, rt.alloc(), &mut ServePeer, b"DIST", b"RFSE00000009")
+}
+
+#[test]
+fn the_daemon_refuses_another_word(rt: HostRuntime) -> Result<(), Fail> {
+    check_answer(&rt, rt.alloc(), &mut ServePeer, b"XXXX", b"RFSE00000003")
+}
+
+fn check_served<S: Source>(
+    rt: &impl Abort,
+    alloc: Global,
+    source: &mut S,
+    want: Served,
+    reply: &str,
+) {
+    let mut sink = MemSink::new(alloc, Vec::new(alloc));
+    assert_eq!(rt; serve(alloc, source, &mut sink), want);
+    check_same(rt, sink.bytes(), reply.as_bytes());
 }
 
 #[test]
 fn a_request_is_served_in_pieces(rt: HostRuntime) -> Result<(), Fail> {
     let alloc = rt.alloc();
     let mut source = PieceSource::new(REQUEST.as_bytes(), vec![in alloc; 1, 2, 30]?);
-    let mut sink = MemSink::new(alloc, Vec::new(alloc));
-    assert_eq!(rt; serve(alloc, &mut source, &mut sink), Served::Replied);
-    assert_eq!(rt; sink.bytes(), REPLY.as_bytes());
+    check_served(&rt, alloc, &mut source, Served::Replied, REPLY);
     Ok(())
 }
 
@@ -138,9 +212,7 @@ fn a_request_is_served_in_pieces(rt: HostRuntime) -> Result<(), Fail> {
 fn a_request_that_ends_too_early_is_cut(rt: HostRuntime) -> Result<(), Fail> {
     let alloc = rt.alloc();
     let mut source = PieceSource::new(b"DIST00000103CDIR", vec![in alloc; 5]?);
-    let mut sink = MemSink::new(alloc, Vec::new(alloc));
-    assert_eq!(rt; serve(alloc, &mut source, &mut sink), Served::Refused(9));
-    assert_eq!(rt; sink.bytes(), b"RFSE00000009".as_slice());
+    check_served(&rt, alloc, &mut source, Served::Refused(9), "RFSE00000009");
     Ok(())
 }
 
@@ -152,21 +224,44 @@ fn status(alloc: Global, request: &str, reads: &[u64], writes: &[u64]) -> Result
     Ok(inetd(alloc, &mut source, &mut sink))
 }
 
-#[test]
-fn a_status_tells_how_serving_ended(rt: HostRuntime) -> Result<(), Fail> {
-    let alloc = rt.alloc();
-    assert_eq!(rt; status(alloc, REQUEST, &[], &[])?, 0);
-    assert_eq!(rt; status(alloc, "DIST00000104", &[], &[])?, 1);
-    assert_eq!(rt; status(alloc, REQUEST, &[1], &[])?, 3);
-    assert_eq!(rt; status(alloc, REQUEST, &[], &[1])?, 4);
+// A request, the reads and the writes that fail, and the status.
+type Ended<'a> = (&'a str, &'a [u64], &'a [u64], u8);
+
+fn check_status(rt: &impl Abort, alloc: Global, row: Ended<'_>) -> Result<(), Fail> {
+    let (request, reads, writes, want) = row;
+    assert_eq!(rt; status(alloc, request, reads, writes)?, want);
+    Ok(())
+}
+
+fn check_statuses(rt: &impl Abort, alloc: Global, rows: &[Ended<'_>]) -> Result<(), Fail> {
+    for row in rows {
+        check_status(rt, alloc, *row)?;
+    }
     Ok(())
 }
 
 #[test]
-fn a_daemon_has_one_word(rt: HostRuntime) -> Result<(), Fail> {
-    assert_eq!(rt; daemon_words(&["--inetd"]), Some(Serve::Inetd));
-    assert_eq!(rt; daemon_words(&[]), None);
-    assert_eq!(rt; daemon_words(&["--inetd", "--inetd"]), None);
-    assert_eq!(rt; daemon_words(&["inetd"]), None);
-    Ok(())
+fn a_status_tells_how_serving_ended(rt: HostRuntime) -> Result<(), Fail> {
+    check_statuses(
+        &rt,
+        rt.alloc(),
+        &[
+            (REQUEST, &[], &[], 0),
+            ("DIST00000104", &[], &[], 1),
+            (REQUEST, &[1], &[], 3),
+            (REQUEST, &[], &[1], 4),
+        ],
+    )
+}
+
+fn check_words(rt: &impl Abort, words: &[&str], want: Option<Serve>) {
+    assert_eq!(rt; daemon_words(words), want);
+}
+
+#[test]
+fn a_daemon_has_one_word(rt: HostRuntime) {
+    check_words(&rt, &["--inetd"], Some(Serve::Inetd));
+    check_words(&rt, &[], None);
+    check_words(&rt, &["--inetd", "--inetd"], None);
+    check_words(&rt, &["inetd"], None);
 }

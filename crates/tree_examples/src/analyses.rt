@@ -1,12 +1,19 @@
 // Analyses over a tree in memory.
-use crate::files::{Placed, entries_of, job};
+use crate::files::{Placed, job, tree_of};
+use base_types::Bytes;
 use closure_fixpoint::{Analysed, Refusal, analyse};
 use std::alloc::Global;
 use std::test::Fail;
-use tree_model::{MemTree, Unnamed};
+use tree_model::Tree;
 
-// What the analysis of the job gives over the tree of these files.
-fn analysed(alloc: Global, name: &[u8], body: &[u8]) -> Result<Option<Analysed>, Fail> {
+// What the analysis of the job gives over any tree.
+fn analysed_over<T: Tree>(alloc: Global, tree: &mut T) -> Result<Analysed, Fail> {
+    let job = job(alloc, b"/w")?;
+    analyse(alloc, tree, &job, 0).map_err(Fail::from)
+}
+
+// What it gives over the tree of this file and `/w/b.h`.
+fn analysed(alloc: Global, name: &[u8], body: &[u8]) -> Result<Analysed, Fail> {
     let files = [
         Placed { path: name, body },
         Placed {
@@ -14,35 +21,47 @@ fn analysed(alloc: Global, name: &[u8], body: &[u8]) -> Result<Option<Analysed>,
             body: b"int y;\n",
         },
     ];
-    let entries = entries_of(alloc, &files)?;
-    let Ok(mut tree) = MemTree::<Unnamed>::new(alloc, entries, Vec::new(alloc)) else {
-        return Ok(None);
-    };
-    let Some(job) = job(alloc)? else {
-        return Ok(None);
-    };
-    match analyse(alloc, &mut tree, &job, 0) {
-        Ok(answer) => Ok(Some(answer)),
-        Err(_) => Ok(None),
+    let mut tree = tree_of(alloc, &files)?;
+    analysed_over(alloc, &mut tree)
+}
+
+// The request that an analysis gives, or None where it is refused.
+fn sent(answer: Analysed) -> Option<Bytes> {
+    match answer {
+        Analysed::Request(sent) => Some(sent),
+        Analysed::Refused(_) => None,
     }
 }
 
+// Why an analysis is refused, or None where it is not.
+fn refusal(answer: Analysed) -> Option<Refusal> {
+    match answer {
+        Analysed::Request(_) => None,
+        Analysed::Refused(refusal) => Some(refusal),
+    }
+}
+
+// The request of `a.c` and the header that it includes.
+fn request() -> &'static [u8] {
+    b"DIST00000103CDIR00000002/wARGC00000001ARGV00000003a.cNFIL00000003NAME00000002/wMDIR00000000NAME00000006/w/a.cFILE00000016#include \"b.h\"\nint x;\nNAME00000006/w/b.hFILE00000007int y;\n".as_slice()
+}
+
 #[test]
-fn jobs_are_analysed(rt: HostRuntime) -> Result<(), Fail> {
+fn a_job_gives_its_request(rt: HostRuntime) -> Result<(), Fail> {
+    let answer = analysed(rt.alloc(), b"/w/a.c", b"#include \"b.h\"\nint x;\n")?;
+    let Some(sent) = sent(answer) else {
+        return Ok(assert!(rt; false));
+    };
+    assert_eq!(rt; sent.as_slice(), request());
+    Ok(())
+}
+
+#[test]
+fn jobs_are_refused(rt: HostRuntime) -> Result<(), Fail> {
     let alloc = rt.alloc();
-    let want =
-        b"DIST00000103CDIR00000002/wARGC00000001ARGV00000003a.cNFIL00000003NAME00000002/wMDIR00000000NAME00000006/w/a.cFILE00000016#include \"b.h\"\nint x;\nNAME00000006/w/b.hFILE00000007int y;\n".as_slice();
-    match analysed(alloc, b"/w/a.c", b"#include \"b.h\"\nint x;\n")? {
-        Some(Analysed::Request(sent)) => assert_eq!(rt; sent.as_slice(), want),
-        _ => assert!(rt; false),
-    }
-    match analysed(alloc, b"/w/a.cc", b"")? {
-        Some(Analysed::Refused(refusal)) => assert_eq!(rt; refusal, Refusal::NoSource),
-        _ => assert!(rt; false),
-    }
-    match analysed(alloc, b"/w/a.c", b"#define X 1\n")? {
-        Some(Analysed::Refused(refusal)) => assert_eq!(rt; refusal, Refusal::Unbuilt),
-        _ => assert!(rt; false),
-    }
+    let missing = analysed(alloc, b"/w/a.cc", b"")?;
+    assert_eq!(rt; refusal(missing), Some(Refusal::NoSource));
+    let unbuilt = analysed(alloc, b"/w/a.c", b"#define X 1\n")?;
+    assert_eq!(rt; refusal(unbuilt), Some(Refusal::Unbuilt));
     Ok(())
 }

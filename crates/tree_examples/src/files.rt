@@ -1,12 +1,12 @@
 // Files of a tree, and the job of one of them.
 ghost use Rattle.std.specs.Prelude.{IfOk, IsTrue};
-ghost use Rattle.tree_model.specs.Entries.{links_fit};
+ghost use Rattle.tree_model.specs.Entries.{entry_fits, links_fit};
 
 use base_types::Bytes;
 use job_words::{Job, read_words};
-use std::alloc::{AllocError, Global};
+use std::alloc::Global;
 use std::test::Fail;
-use tree_model::{CanonPath, Entry};
+use tree_model::{CanonPath, Entry, MemTree, Unnamed};
 
 /// A file, by its path and its bytes.
 #[derive(Clone, Copy, Drop)]
@@ -23,11 +23,26 @@ pub fn path(alloc: Global, text: &[u8]) -> Result<CanonPath, Fail> {
     }
 }
 
+/// The entries with one more at their end.
+pub fn with(
+    alloc: Global,
+    mut entries: Vec<(CanonPath, Entry)>,
+    place: &[u8],
+    entry: Entry,
+) -> Result<Vec<(CanonPath, Entry)>, Fail>
+    requires links { IsTrue (links_fit entries.items) }
+    requires entry { IsTrue (entry_fits entry) }
+    ensures { IfOk result (λ entries. IsTrue (links_fit entries.items)) }
+{
+    entries.push((path(alloc, place)?, entry))?;
+    Ok(entries)
+}
+
 /// The directory `/w` and these files.
 pub fn entries_of(alloc: Global, files: &[Placed<'_>]) -> Result<Vec<(CanonPath, Entry)>, Fail>
     ensures { IfOk result (λ entries. IsTrue (links_fit entries.items)) }
 {
-    let mut entries = vec![in alloc; (path(alloc, b"/w")?, Entry::Dir)]?;
+    let mut entries = with(alloc, Vec::new(alloc), b"/w", Entry::Dir)?;
     for file in files {
         let body = Bytes::copy_of(alloc, file.body)?;
         entries.push((path(alloc, file.path)?, Entry::File(body)))?;
@@ -35,8 +50,25 @@ pub fn entries_of(alloc: Global, files: &[Placed<'_>]) -> Result<Vec<(CanonPath,
     Ok(entries)
 }
 
-/// The job of `a.c` in `/w`.
-pub fn job(alloc: Global) -> Result<Option<Job>, AllocError> {
+/// The tree of these entries, in which the calls with these numbers fail.
+pub fn tree_with(
+    alloc: Global,
+    entries: Vec<(CanonPath, Entry)>,
+    fails: &[u64],
+) -> Result<MemTree<Unnamed>, Fail>
+    requires { IsTrue (links_fit entries.items) }
+{
+    let fails = fails.to_vec(alloc)?;
+    Ok(MemTree::<Unnamed>::new(alloc, entries, fails)?)
+}
+
+/// The tree of the directory `/w` and these files.
+pub fn tree_of(alloc: Global, files: &[Placed<'_>]) -> Result<MemTree<Unnamed>, Fail> {
+    tree_with(alloc, entries_of(alloc, files)?, &[])
+}
+
+/// The job of `a.c` in this directory.
+pub fn job(alloc: Global, dir: &[u8]) -> Result<Job, Fail> {
     let words = [Bytes::copy_of(alloc, b"a.c")?];
-    Ok(read_words(alloc, b"/w", &words).ok())
+    Ok(read_words(alloc, dir, &words)?)
 }
