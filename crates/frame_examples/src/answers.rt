@@ -26,12 +26,21 @@ fn shown(alloc: Global, answer: Option<Answer>) -> Result<(char, Bytes), AllocEr
     }
 }
 
+// A reply, its answer's kind and what is in it.
+type Says<'x> = (&'x [u8], char, &'x [u8]);
+
+fn check_says<A: Abort>(rt: &A, alloc: Global, row: &Says<'_>) -> Result<(), AllocError> {
+    let (reply, kind, content) = row;
+    let (is, holds) = shown(alloc, answer_of(alloc, reply))?;
+    assert_eq!(rt; is, *kind);
+    assert_eq!(rt; holds.as_slice(), *content);
+    Ok(())
+}
+
 // Each reply says this.
-fn check<A: Abort>(rt: &A, alloc: Global, rows: &[(&[u8], char, &[u8])]) -> Result<(), AllocError> {
-    for (reply, kind, content) in rows {
-        let (is, holds) = shown(alloc, answer_of(alloc, reply))?;
-        assert_eq!(rt; is, *kind);
-        assert_eq!(rt; holds.as_slice(), *content);
+fn check<A: Abort>(rt: &A, alloc: Global, rows: &[Says<'_>]) -> Result<(), AllocError> {
+    for row in rows {
+        check_says(rt, alloc, row)?;
     }
     Ok(())
 }

@@ -99,13 +99,29 @@ fn expected<R: Reader>(verdict: Verdict, n: usize) -> Fed {
     followed::<R>(verdict.fed)
 }
 
+// A reader comes to this verdict with a piece more.
+fn check_take<R: Reader, A: Abort>(rt: &A, reader: &mut R, piece: &[u8], fed: Fed) {
+    assert_eq!(rt; reader.take(piece), fed);
+}
+
+// A reader comes to this verdict where no byte follows.
+fn check_stop<R: Reader, A: Abort>(rt: &A, reader: &mut R, fed: Fed) {
+    assert_eq!(rt; reader.stop(), fed);
+}
+
+// A reader gives what was read exactly where its verdict is `Done`.
+fn check_gives<R: Reader, A: Abort>(rt: &A, reader: R, fed: Fed) {
+    assert_eq!(rt; reader.gives(), fed == Fed::Done);
+}
+
 // A reader that came to this verdict keeps it: it ends with it, and gives what was read exactly where it is `Done`.
 fn check_end<R: Reader, A: Abort>(rt: &A, mut reader: R, fed: Fed) {
-    assert_eq!(rt; reader.take(b""), fed);
-    assert_eq!(rt; reader.stop(), ended(fed));
-    assert_eq!(rt; reader.take(b""), ended(fed));
-    assert_eq!(rt; reader.stop(), ended(fed));
-    assert_eq!(rt; reader.gives(), fed == Fed::Done);
+    let last = ended(fed);
+    check_take(rt, &mut reader, b"", fed);
+    check_stop(rt, &mut reader, last);
+    check_take(rt, &mut reader, b"", last);
+    check_stop(rt, &mut reader, last);
+    check_gives(rt, reader, fed);
 }
 
 // Bytes behind a verdict other than `More` don't change it, but behind a whole frame.
@@ -114,29 +130,36 @@ fn check_behind<R: Reader, A: Abort>(rt: &A, mut reader: R, fed: Fed) {
         reader.stop();
     }
     let last = followed::<R>(ended(fed));
-    assert_eq!(rt; reader.take(b"DIST00000103"), last);
-    assert_eq!(rt; reader.take(b"R"), last);
-    assert_eq!(rt; reader.stop(), last);
-    assert_eq!(rt; reader.gives(), last == Fed::Done);
+    check_take(rt, &mut reader, b"DIST00000103", last);
+    check_take(rt, &mut reader, b"R", last);
+    check_stop(rt, &mut reader, last);
+    check_gives(rt, reader, last);
+}
+
+// A reader that comes to this verdict with its first piece.
+fn begun<R: Reader, A: Abort>(rt: &A, alloc: Global, piece: &[u8], fed: Fed) -> R {
+    let mut reader = R::begin(alloc);
+    check_take(rt, &mut reader, piece, fed);
+    reader
 }
 
 // The verdicts where a frame comes in one piece.
 fn check_whole<R: Reader, A: Abort>(rt: &A, alloc: Global, frame: &[u8], verdict: Verdict) {
     let last = expected::<R>(verdict, frame.len());
-    let mut reader = R::begin(alloc);
-    assert_eq!(rt; reader.take(frame), last);
-    check_end(rt, reader, last);
-    let mut again = R::begin(alloc);
-    assert_eq!(rt; again.take(frame), last);
-    check_behind(rt, again, last);
+    check_end(rt, begun::<R, A>(rt, alloc, frame, last), last);
+    check_behind(rt, begun::<R, A>(rt, alloc, frame, last), last);
+}
+
+// The verdict with the byte of this number.
+fn check_byte<R: Reader, A: Abort>(rt: &A, reader: &mut R, i: usize, byte: u8, fed: Fed) {
+    assert_eq!(rt; reader.take([byte].as_slice()), fed, "byte {i}");
 }
 
 // The verdicts where a frame comes byte by byte.
 fn check_bytes<R: Reader, A: Abort>(rt: &A, alloc: Global, frame: &[u8], verdict: Verdict) {
     let mut reader = R::begin(alloc);
     for (i, byte) in frame.iter().enumerate() {
-        let want = expected::<R>(verdict, i + 1);
-        assert_eq!(rt; reader.take([*byte].as_slice()), want, "byte {i}");
+        check_byte(rt, &mut reader, i, *byte, expected::<R>(verdict, i + 1));
     }
     check_end(rt, reader, expected::<R>(verdict, frame.len()));
 }
@@ -144,10 +167,10 @@ fn check_bytes<R: Reader, A: Abort>(rt: &A, alloc: Global, frame: &[u8], verdict
 // The verdicts where a frame comes in two pieces.
 fn check_cut<R: Reader, A: Abort>(rt: &A, alloc: Global, pieces: (&[u8], &[u8]), verdict: Verdict) {
     let (front, rest) = pieces;
-    let mut reader = R::begin(alloc);
-    assert_eq!(rt; reader.take(front), expected::<R>(verdict, front.len()));
+    let first = expected::<R>(verdict, front.len());
     let last = expected::<R>(verdict, front.len().saturating_add(rest.len()));
-    assert_eq!(rt; reader.take(rest), last);
+    let mut reader = begun::<R, A>(rt, alloc, front, first);
+    check_take(rt, &mut reader, rest, last);
     check_end(rt, reader, last);
 }
 

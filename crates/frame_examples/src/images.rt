@@ -18,6 +18,14 @@ fn read(alloc: Global, image: &[u8]) -> Result<Result<Vec<u8>, FrameError>, Allo
     }
 }
 
+// An image was read as these lines.
+fn check_lines<A: Abort>(rt: &A, read: Result<Vec<u8>, FrameError>, lines: &[u8]) {
+    match read {
+        Ok(text) => assert_eq!(rt; text.as_slice(), lines),
+        Err(why) => assert!(rt; false, "{why:?}"),
+    }
+}
+
 // An image has these entries.
 fn check_read<A: Abort>(
     rt: &A,
@@ -25,10 +33,7 @@ fn check_read<A: Abort>(
     image: &[u8],
     lines: &[u8],
 ) -> Result<(), AllocError> {
-    match read(alloc, image)? {
-        Ok(text) => assert_eq!(rt; text.as_slice(), lines),
-        Err(why) => assert!(rt; false, "{why:?}"),
-    }
+    check_lines(rt, read(alloc, image)?, lines);
     Ok(())
 }
 

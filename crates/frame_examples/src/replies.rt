@@ -5,16 +5,22 @@ use job_frames::{Fed, FrameError};
 use std::alloc::{AllocError, Global};
 use std::process::Abort;
 
-// Each reply is whole with its last byte, cut before it, and refused with a byte behind it.
+// A reply is whole with its last byte, cut before it, and refused with a byte behind it.
+fn check_whole<A: Abort>(rt: &A, alloc: Global, reply: &[u8]) -> Result<(), AllocError> {
+    let at = reply.len();
+    let whole = Verdict { fed: Fed::Done, at };
+    check_reply(rt, alloc, reply, whole);
+    check_fronts(rt, alloc, reply, whole);
+    let mut longer = reply.to_vec(alloc)?;
+    longer.extend_from_slice(b"R0")?;
+    check_reply(rt, alloc, longer.as_slice(), whole);
+    Ok(())
+}
+
+// Each reply is a whole one.
 fn check_good<A: Abort>(rt: &A, alloc: Global, replies: &[&[u8]]) -> Result<(), AllocError> {
     for reply in replies {
-        let at = reply.len();
-        let whole = Verdict { fed: Fed::Done, at };
-        check_reply(rt, alloc, reply, whole);
-        check_fronts(rt, alloc, reply, whole);
-        let mut longer = reply.to_vec(alloc)?;
-        longer.extend_from_slice(b"R0")?;
-        check_reply(rt, alloc, longer.as_slice(), whole);
+        check_whole(rt, alloc, reply)?;
     }
     Ok(())
 }
@@ -26,6 +32,21 @@ fn check_fronts<A: Abort>(rt: &A, alloc: Global, reply: &[u8], verdict: Verdict)
     }
 }
 
+// A text is refused with its last byte.
+fn check_refused<A: Abort>(
+    rt: &A,
+    alloc: Global,
+    text: &[u8],
+    why: FrameError,
+) -> Result<(), AllocError> {
+    let fed = Fed::Refused(why);
+    let at = text.len();
+    let mut longer = text.to_vec(alloc)?;
+    longer.extend_from_slice(b"DOTI00000000")?;
+    check_reply(rt, alloc, longer.as_slice(), Verdict { fed, at });
+    Ok(())
+}
+
 // Each text is refused with its last byte.
 fn check_wrong<A: Abort>(
     rt: &A,
@@ -33,13 +54,22 @@ fn check_wrong<A: Abort>(
     rows: &[(&[u8], FrameError)],
 ) -> Result<(), AllocError> {
     for (text, why) in rows {
-        let fed = Fed::Refused(*why);
-        let at = text.len();
-        let mut longer = text.to_vec(alloc)?;
-        longer.extend_from_slice(b"DOTI00000000")?;
-        check_reply(rt, alloc, longer.as_slice(), Verdict { fed, at });
+        check_refused(rt, alloc, text, *why)?;
     }
     Ok(())
+}
+
+// The first bytes of a reply with a byte behind them are refused with it.
+fn check_front<A: Abort>(
+    rt: &A,
+    alloc: Global,
+    front: &[u8],
+    wrong: (u8, FrameError),
+) -> Result<(), AllocError> {
+    let (byte, why) = wrong;
+    let mut text = front.to_vec(alloc)?;
+    text.push(byte)?;
+    check_refused(rt, alloc, text.as_slice(), why)
 }
 
 // A byte in each place of some of a reply is refused there.
@@ -50,16 +80,27 @@ fn check_byte<A: Abort>(
     places: (usize, usize),
     wrong: (u8, FrameError),
 ) -> Result<(), AllocError> {
-    let (byte, why) = wrong;
     for place in places.0..places.1 {
-        let mut text = front(reply, place).to_vec(alloc)?;
-        text.push(byte)?;
-        check_wrong(rt, alloc, &[(text.as_slice(), why)])?;
+        check_front(rt, alloc, front(reply, place), wrong)?;
     }
     Ok(())
 }
 
-// A wrong byte in each token of a reply, at each letter and at each digit, by the places where the tokens begin.
+// A wrong byte in the token of a reply at a place, at each letter and at each digit.
+fn check_token<A: Abort>(
+    rt: &A,
+    alloc: Global,
+    reply: &[u8],
+    place: usize,
+) -> Result<(), AllocError> {
+    let digits = place.saturating_add(4);
+    let end = place.saturating_add(12);
+    check_byte(rt, alloc, reply, (place, digits), (b'Z', FrameError::Token))?;
+    check_byte(rt, alloc, reply, (digits, end), (b'g', FrameError::Digits))?;
+    check_byte(rt, alloc, reply, (digits, end), (b'A', FrameError::Digits))
+}
+
+// A wrong byte in each token of a reply, by the places where the tokens begin.
 fn check_tokens<A: Abort>(
     rt: &A,
     alloc: Global,
@@ -67,17 +108,7 @@ fn check_tokens<A: Abort>(
     tokens: &[usize],
 ) -> Result<(), AllocError> {
     for place in tokens {
-        let digits = place.saturating_add(4);
-        let end = place.saturating_add(12);
-        check_byte(
-            rt,
-            alloc,
-            reply,
-            (*place, digits),
-            (b'Z', FrameError::Token),
-        )?;
-        check_byte(rt, alloc, reply, (digits, end), (b'g', FrameError::Digits))?;
-        check_byte(rt, alloc, reply, (digits, end), (b'A', FrameError::Digits))?;
+        check_token(rt, alloc, reply, *place)?;
     }
     Ok(())
 }

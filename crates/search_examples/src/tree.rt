@@ -46,26 +46,53 @@ pub fn check(
     places: &Places<'_>,
     rows: &[Row<'_>],
 ) -> Result<(), Fail> {
+    let setup = setup_of(rt, alloc, places)?;
+    for row in rows {
+        check_row(rt, alloc, &setup, places.fails, row)?;
+    }
+    Ok(())
+}
+
+fn setup_of(rt: &impl Abort, alloc: Global, places: &Places<'_>) -> Result<Setup, Fail> {
     let quote = texts(alloc, places.quote)?;
     let bracket = texts(alloc, places.bracket)?;
     assert!(rt; quote.len() < 100 && bracket.len() < 100);
     let cwd = Bytes::copy_of(alloc, b"/w")?;
-    let setup = Setup::new(cwd, quote, bracket, false);
-    for (form, from, name, want) in rows {
-        let Some(ask) = asked(alloc, *form, *from, name)? else {
-            return Ok(assert!(rt; false, "{name:?} is asked for by no file"));
-        };
-        let fails = vec![in alloc; places.fails]?;
-        let Ok(mut tree) = MemTree::<Unnamed>::new(alloc, entries(alloc)?, fails) else {
-            return Ok(assert!(rt; false));
-        };
-        let shown = shown(alloc, &mut tree, &setup, &ask)?;
-        assert!(rt;
-            shown.as_slice() == want.as_bytes(),
-            "{form:?} {from:?} {name:?}"
-        );
+    Ok(Setup::new(cwd, quote, bracket, false))
+}
+
+// The search of a row, with the tree's call of this number failing.
+fn check_row(
+    rt: &impl Abort,
+    alloc: Global,
+    setup: &Setup,
+    fails: u64,
+    row: &Row<'_>,
+) -> Result<(), Fail> {
+    match made(alloc, fails)? {
+        Some(mut tree) => check_search(rt, alloc, &mut tree, setup, row),
+        None => Ok(assert!(rt; false)),
     }
+}
+
+fn check_search<T: Tree>(
+    rt: &impl Abort,
+    alloc: Global,
+    tree: &mut T,
+    setup: &Setup,
+    row: &Row<'_>,
+) -> Result<(), Fail> {
+    let Some(ask) = asked(alloc, row)? else {
+        return Ok(assert!(rt; false, "{:?} is asked for by no file", row.2));
+    };
+    let text = shown(alloc, tree, setup, &ask)?;
+    check_shown(rt, row, text.as_slice());
     Ok(())
+}
+
+fn check_shown(rt: &impl Abort, row: &Row<'_>, text: &[u8]) {
+    let (form, from, name, want) = row;
+    assert!(rt; text == want.as_bytes(), "{form:?} {from:?} {name:?}");
 }
 
 fn texts(alloc: Global, texts: &[&str]) -> Result<List<Bytes>, Fail> {
@@ -77,9 +104,10 @@ fn texts(alloc: Global, texts: &[&str]) -> Result<List<Bytes>, Fail> {
 }
 
 // The ask of a row; None where its form wants a file that asks, and there is none.
-fn asked(alloc: Global, form: Form, from: Asker<'_>, name: &str) -> Result<Option<Ask>, Fail>
+fn asked(alloc: Global, row: &Row<'_>) -> Result<Option<Ask>, Fail>
     ensures { IfOk result (λ ask. IfSome ask (λ ask. NeedsFrom ask.form ask.from)) }
 {
+    let (form, from, name, _) = *row;
     let name = Bytes::copy_of(alloc, name.as_bytes())?;
     match from {
         Some((place, found)) => {
@@ -102,19 +130,24 @@ fn asked(alloc: Global, form: Form, from: Asker<'_>, name: &str) -> Result<Optio
 fn shown<T: Tree>(alloc: Global, tree: &mut T, setup: &Setup, ask: &Ask) -> Result<Vec<u8>, Fail>
     requires { NeedsFrom ask.now.form ask.now.from }
 {
-    let mut text = Vec::new(alloc);
     match search(alloc, tree, setup, ask) {
-        Ok(Some((visit, located))) => {
-            let found = visit.found;
-            text.extend_from_slice(format!(in alloc; "{found:?} ")?.as_bytes())?;
-            text.extend_from_slice(visit.place.bytes())?;
-            text.push(b' ')?;
-            text.extend_from_slice(located.real.bytes())?;
-        }
-        Ok(None) => {}
-        Err(error) => text.extend_from_slice(format!(in alloc; "{error:?}")?.as_bytes())?,
+        Ok(Some((visit, located))) => shown_place(alloc, &visit, &located.real),
+        Ok(None) => Ok(Vec::new(alloc)),
+        Err(error) => shown_error(alloc, error),
     }
+}
+
+fn shown_place(alloc: Global, visit: &Visit, real: &CanonPath) -> Result<Vec<u8>, Fail> {
+    let found = visit.found;
+    let mut text = format!(in alloc; "{found:?} ")?.into_bytes();
+    text.extend_from_slice(visit.place.bytes())?;
+    text.push(b' ')?;
+    text.extend_from_slice(real.bytes())?;
     Ok(text)
+}
+
+fn shown_error(alloc: Global, error: TreeError) -> Result<Vec<u8>, Fail> {
+    Ok(format!(in alloc; "{error:?}")?.into_bytes())
 }
 
 // The path that a text spells, or the root where it spells none.
@@ -123,6 +156,12 @@ fn path(alloc: Global, text: &str) -> Result<CanonPath, Fail> {
         Some(path) => Ok(path),
         None => CanonPath::root(alloc).map_err(Fail::from),
     }
+}
+
+// The tree, with its call of this number failing.
+fn made(alloc: Global, fails: u64) -> Result<Option<MemTree<Unnamed>>, Fail> {
+    let fails = vec![in alloc; fails]?;
+    Ok(MemTree::new(alloc, entries(alloc)?, fails).ok())
 }
 
 // The entries of the tree: a text that ends with `/` is a directory's, and any other a file's; then two links.
