@@ -6,7 +6,6 @@ use daemon_serve::{PieceSource, serve};
 use io_edges::MemSink;
 use std::alloc::{AllocError, Global};
 use std::process::Abort;
-use std::test::Fail;
 
 // The request of a source that includes a header, 180 bytes.
 const REQUEST: &str = "DIST00000103CDIR00000002/wARGC00000001ARGV00000003a.cNFIL00000003\
@@ -38,22 +37,39 @@ fn cut_behind(alloc: Global, more: u32) -> Result<Vec<u32>, AllocError>
     Ok(pieces)
 }
 
-#[test]
-fn a_request_is_served_whole_and_byte_by_byte(rt: HostRuntime) -> Result<(), Fail> {
-    let alloc = rt.alloc();
-    let whole = reply_to(alloc, REQUEST.as_bytes(), Vec::new(alloc))?;
-    assert_eq!(rt; whole.as_slice(), REPLY.as_bytes());
-    let each = reply_to(alloc, REQUEST.as_bytes(), vec![in alloc; 1]?)?;
-    assert_eq!(rt; each.as_slice(), REPLY.as_bytes());
+// Asserts what is replied to bytes that come in such pieces.
+fn replies(
+    rt: &impl Abort,
+    alloc: Global,
+    bytes: &[u8],
+    pieces: Vec<u32>,
+    reply: &str,
+) -> Result<(), AllocError>
+    requires { All (λ n. 0 < n) pieces.items }
+{
+    let got = reply_to(alloc, bytes, pieces)?;
+    assert_eq!(rt; got.as_slice(), reply.as_bytes());
     Ok(())
 }
 
 #[test]
-fn a_request_is_served_cut_in_two_at_every_place(rt: HostRuntime) -> Result<(), Fail> {
+fn a_request_is_served_whole(rt: HostRuntime) -> Result<(), AllocError> {
+    let alloc = rt.alloc();
+    replies(&rt, alloc, REQUEST.as_bytes(), Vec::new(alloc), REPLY)
+}
+
+#[test]
+fn a_request_is_served_byte_by_byte(rt: HostRuntime) -> Result<(), AllocError> {
+    let alloc = rt.alloc();
+    replies(&rt, alloc, REQUEST.as_bytes(), vec![in alloc; 1]?, REPLY)
+}
+
+#[test]
+fn a_request_is_served_cut_in_two_at_every_place(rt: HostRuntime) -> Result<(), AllocError> {
     let alloc = rt.alloc();
     for more in 0..180u32 {
-        let reply = reply_to(alloc, REQUEST.as_bytes(), cut_behind(alloc, more)?)?;
-        assert_eq!(rt; reply.as_slice(), REPLY.as_bytes());
+        let pieces = cut_behind(alloc, more)?;
+        replies(&rt, alloc, REQUEST.as_bytes(), pieces, REPLY)?;
     }
     Ok(())
 }
@@ -64,6 +80,12 @@ struct Change<'x> {
     from: usize,
     to: usize,
     bytes: &'x str,
+}
+
+impl<'x> Change<'x> {
+    fn of(from: usize, to: usize, bytes: &'x str) -> Change<'x> {
+        Change { from, to, bytes }
+    }
 }
 
 // The request with a change.
@@ -77,16 +99,15 @@ fn changed(alloc: Global, change: &Change<'_>) -> Result<Bytes, AllocError> {
     Ok(bytes)
 }
 
-// Asserts what is replied to the changed request.
-fn refuses<R: Abort>(
-    rt: &R,
-    alloc: Global,
-    change: &Change<'_>,
-    reply: &str,
-) -> Result<(), AllocError> {
-    let request = changed(alloc, change)?;
-    let got = reply_to(alloc, request.as_slice(), Vec::new(alloc))?;
-    assert_eq!(rt; got.as_slice(), reply.as_bytes());
+// A change, and what is replied to the request with it.
+type Row<'x> = (Change<'x>, &'x str);
+
+// Asserts what is replied to each changed request.
+fn refuses(rt: &impl Abort, alloc: Global, rows: &[Row<'_>]) -> Result<(), AllocError> {
+    for (change, reply) in rows {
+        let request = changed(alloc, change)?;
+        replies(rt, alloc, request.as_slice(), Vec::new(alloc), reply)?;
+    }
     Ok(())
 }
 
@@ -95,84 +116,20 @@ const EXCHANGED: &str = "NAME00000006/w/b.hFILE00000007int y;\n\
                          NAME00000006/w/a.cFILE00000016#include \"b.h\"\nint x;\n";
 
 #[test]
-fn what_is_wrong_is_refused_by_its_reason(rt: HostRuntime) -> Result<(), Fail> {
-    let alloc = rt.alloc();
-    let rows = [
-        (
-            Change {
-                from: 0,
-                to: 12,
-                bytes: "DIST00000003",
-            },
-            "RFSE00000002",
-        ),
-        (
-            Change {
-                from: 0,
-                to: 4,
-                bytes: "DOST",
-            },
-            "RFSE00000003",
-        ),
-        (
-            Change {
-                from: 12,
-                to: 24,
-                bytes: "CDIR0000000A",
-            },
-            "RFSE00000004",
-        ),
-        (
-            Change {
-                from: 26,
-                to: 38,
-                bytes: "ARGC000003e9",
-            },
-            "RFSE00000005",
-        ),
-        (
-            Change {
-                from: 91,
-                to: 180,
-                bytes: EXCHANGED,
-            },
-            "RFSE00000006",
-        ),
-        (
-            Change {
-                from: 53,
-                to: 91,
-                bytes: "NFIL00000002",
-            },
-            "RFSE00000007",
-        ),
-        (
-            Change {
-                from: 38,
-                to: 53,
-                bytes: "ARGV00000002-q",
-            },
-            "RFSE00000008",
-        ),
-        (
-            Change {
-                from: 179,
-                to: 180,
-                bytes: "",
-            },
-            "RFSE00000009",
-        ),
-        (
-            Change {
-                from: 180,
-                to: 180,
-                bytes: "more",
-            },
-            REPLY,
-        ),
-    ];
-    for (change, reply) in rows {
-        refuses(&rt, alloc, &change, reply)?;
-    }
-    Ok(())
+fn what_is_wrong_is_refused_by_its_reason(rt: HostRuntime) -> Result<(), AllocError> {
+    refuses(
+        &rt,
+        rt.alloc(),
+        &[
+            (Change::of(0, 12, "DIST00000003"), "RFSE00000002"),
+            (Change::of(0, 4, "DOST"), "RFSE00000003"),
+            (Change::of(12, 24, "CDIR0000000A"), "RFSE00000004"),
+            (Change::of(26, 38, "ARGC000003e9"), "RFSE00000005"),
+            (Change::of(91, 180, EXCHANGED), "RFSE00000006"),
+            (Change::of(53, 91, "NFIL00000002"), "RFSE00000007"),
+            (Change::of(38, 53, "ARGV00000002-q"), "RFSE00000008"),
+            (Change::of(179, 180, ""), "RFSE00000009"),
+            (Change::of(180, 180, "more"), REPLY),
+        ],
+    )
 }

@@ -7,8 +7,7 @@ use macro_defs::{DefineError, MacroTable, names_macro, read_define};
 use macro_expand::{ExpandError, Mode, Presumed, Work, expand};
 use pp_tokens::{Token, lex};
 use std::alloc::{AllocError, Global};
-use std::io::Write;
-use std::test::Fail;
+use std::process::Abort;
 
 /// What a token is shown with: the space that stands before it, or its line.
 #[derive(Clone, Copy, Drop)]
@@ -35,11 +34,18 @@ pub const TEXT: Task = Task {
     shows: Shows::Space,
 };
 
-/// What a text became: the tokens of its runs up to the first error, that error, and the units of work left.
+/// What a text became: the tokens of its runs up to the first error, that error, and the work left.
 #[derive(Drop)]
 pub struct Expanded {
     pub text: Vec<u8>,
-    pub left: u64,
+    pub work: Work,
+}
+
+impl Expanded {
+    /// Whether this is the text, and so many units of work are left.
+    pub fn is(&self, text: &str, left: u64) -> bool {
+        self.work.left == left && self.text.as_slice() == text.as_bytes()
+    }
 }
 
 /// The expansion of a text, whose `#define` and `#undef` lines are obeyed in order; those that define nothing are passed
@@ -48,19 +54,33 @@ pub fn expansion(alloc: Global, body: &[u8], task: Task) -> Result<Expanded, All
     requires { length body.now ≤ 16777216 }
 {
     let pieces = scan(alloc, &lex(alloc, body, false)?)?;
+    expand_pieces(alloc, pieces.as_slice(), task)
+}
+
+fn expand_pieces(alloc: Global, pieces: &[Piece], task: Task) -> Result<Expanded, AllocError> {
     let mut table = MacroTable::initial(alloc)?;
-    let mut work = Work { left: task.units };
-    let mut text = Vec::new(alloc);
-    for piece in pieces.as_slice() {
-        match piece {
-            Piece::Run { tokens } => add_run(alloc, &table, tokens, task, &mut work, &mut text)?,
-            Piece::Line { what, .. } => obey(alloc, &mut table, what)?,
-        }
+    let mut found = Expanded {
+        text: Vec::new(alloc),
+        work: Work { left: task.units },
+    };
+    for piece in pieces {
+        add_piece(alloc, &mut table, piece, task, &mut found)?;
     }
-    Ok(Expanded {
-        text,
-        left: work.left,
-    })
+    Ok(found)
+}
+
+// Adds what a run becomes, or obeys a line.
+fn add_piece(
+    alloc: Global,
+    table: &mut MacroTable,
+    piece: &Piece,
+    task: Task,
+    found: &mut Expanded,
+) -> Result<(), AllocError> {
+    match piece {
+        Piece::Run { tokens } => add_run(alloc, table, tokens, task, found),
+        Piece::Line { what, .. } => obey(alloc, table, what),
+    }
 }
 
 fn obey(alloc: Global, table: &mut MacroTable, what: &Directive) -> Result<(), AllocError> {
@@ -96,16 +116,22 @@ fn add_run(
     table: &MacroTable,
     run: &List<Token>,
     task: Task,
-    work: &mut Work,
-    text: &mut Vec<u8>,
+    found: &mut Expanded,
 ) -> Result<(), AllocError> {
     let here = Presumed {
         name: Bytes::copy_of(alloc, b"/w/a.c")?,
         shift: 0,
     };
-    match expand(alloc, table, run.as_slice(), &here, task.mode, work) {
-        Ok(tokens) => add_tokens(alloc, text, &tokens, task.shows),
-        Err(e) => add_error(alloc, text, &e),
+    match expand(
+        alloc,
+        table,
+        run.as_slice(),
+        &here,
+        task.mode,
+        &mut found.work,
+    ) {
+        Ok(tokens) => add_tokens(alloc, &mut found.text, &tokens, task.shows),
+        Err(e) => add_error(alloc, &mut found.text, &e),
     }
 }
 
@@ -145,16 +171,21 @@ fn add_error(alloc: Global, text: &mut Vec<u8>, error: &ExpandError) -> Result<(
         ExpandError::Count { name, line } => add_named(alloc, text, b" Count ", name, *line),
         ExpandError::Unclosed { name, line } => add_named(alloc, text, b" Unclosed ", name, *line),
         ExpandError::Paste { left, right, line } => {
-            text.extend_from_slice(b" Paste ")?;
-            text.extend_from_slice(left.as_slice())?;
+            add_joined(text, left)?;
             add_named(alloc, text, b" ", right, *line)
         }
         ExpandError::Deep { line } => {
-            text.extend_from_slice(format!(in alloc; " Deep {line}")?.as_bytes())
+            text.extend_from_slice(b" Deep")?;
+            add_line(alloc, text, *line)
         }
         ExpandError::Work => text.extend_from_slice(b" Work"),
         ExpandError::Memory => Err(AllocError),
     }
+}
+
+fn add_joined(text: &mut Vec<u8>, left: &Bytes) -> Result<(), AllocError> {
+    text.extend_from_slice(b" Paste ")?;
+    text.extend_from_slice(left.as_slice())
 }
 
 fn add_named(
@@ -166,80 +197,71 @@ fn add_named(
 ) -> Result<(), AllocError> {
     text.extend_from_slice(word)?;
     text.extend_from_slice(name.as_slice())?;
+    add_line(alloc, text, line)
+}
+
+fn add_line(alloc: Global, text: &mut Vec<u8>, line: u32) -> Result<(), AllocError> {
     text.extend_from_slice(format!(in alloc; " {line}")?.as_bytes())
 }
 
-/// Whether each row's text, done as the task says, is what the row says. The first that isn't is printed.
+/// Each row's text, done as the task says, is what the row says.
 pub fn check(
-    rt: &HostRuntime,
+    rt: &impl Abort,
     alloc: Global,
     task: Task,
     rows: &[(&str, &str)],
-) -> Result<bool, Fail> {
+) -> Result<(), AllocError> {
     for (body, want) in rows {
-        if !gives(rt, alloc, task, body, want)? {
-            return Ok(false);
-        }
+        gives(rt, alloc, task, body, want)?;
     }
-    Ok(true)
+    Ok(())
 }
 
-// Whether a text is expanded so.
 fn gives(
-    rt: &HostRuntime,
+    rt: &impl Abort,
     alloc: Global,
     task: Task,
     body: &str,
     want: &str,
-) -> Result<bool, Fail> {
-    if 10_000 < body.len() {
-        return Ok(false);
-    }
+) -> Result<(), AllocError> {
+    assert!(rt; body.len() < 10_000);
     let found = expansion(alloc, body.as_bytes(), task)?.text;
-    if found.as_slice() == want.as_bytes() {
-        return Ok(true);
-    }
+    let is_right = found.as_slice() == want.as_bytes();
     let text = String::from_utf8(found).unwrap_or(String::new(alloc));
-    let _ = writeln!(rt.stderr(), "{body} gives {text}");
-    Ok(false)
+    assert!(rt; is_right, "{body} gives {text}");
+    Ok(())
 }
 
-/// Whether each row's text, with the units of work that the row says, is what the row says, with so many units left.
+/// Each row's text, with the units of work that the row says, is what the row says, with so many units left.
 pub fn check_work(
-    rt: &HostRuntime,
+    rt: &impl Abort,
     alloc: Global,
     rows: &[(&str, u64, &str, u64)],
-) -> Result<bool, Fail> {
+) -> Result<(), AllocError> {
     for (body, units, want, left) in rows {
-        if !leaves(rt, alloc, body, *units, want, *left)? {
-            return Ok(false);
-        }
+        leaves(rt, alloc, body, *units, want, *left)?;
     }
-    Ok(true)
+    Ok(())
 }
 
-// Whether a text is expanded so with so many units, and leaves so many.
 fn leaves(
-    rt: &HostRuntime,
+    rt: &impl Abort,
     alloc: Global,
     body: &str,
     units: u64,
     want: &str,
     left: u64,
-) -> Result<bool, Fail> {
-    if 10_000 < body.len() {
-        return Ok(false);
-    }
-    let task = Task { units, ..TEXT };
-    let found = expansion(alloc, body.as_bytes(), task)?;
-    if found.left == left && found.text.as_slice() == want.as_bytes() {
-        return Ok(true);
-    }
+) -> Result<(), AllocError> {
+    assert!(rt; body.len() < 10_000);
+    let found = expansion(alloc, body.as_bytes(), Task { units, ..TEXT })?;
+    let is_right = found.is(want, left);
+    let shown = shown(alloc, found)?;
+    assert!(rt; is_right, "{body} with {units} units gives {shown}");
+    Ok(())
+}
+
+fn shown(alloc: Global, found: Expanded) -> Result<String, AllocError> {
+    let left = found.work.left;
     let text = String::from_utf8(found.text).unwrap_or(String::new(alloc));
-    let is_left = found.left;
-    let _ = writeln!(
-        rt.stderr(),
-        "{body} with {units} units gives {text} and leaves {is_left}"
-    );
-    Ok(false)
+    format!(in alloc; "{text} and leaves {left}")
 }

@@ -2,7 +2,7 @@
 use base_types::Bytes;
 use directive_scan::{Directive, Piece, scan};
 use macro_defs::{DefineError, Definition, MacroTable, Shape, read_define};
-use pp_tokens::lex;
+use pp_tokens::{Token, lex};
 use std::alloc::{AllocError, Global};
 use std::process::Abort;
 
@@ -10,14 +10,21 @@ use std::process::Abort;
 fn defined(rt: &impl Abort, alloc: Global, line: &str) -> Result<(Bytes, Definition), DefineError> {
     assert!(rt; line.len() < 100);
     let pieces = scan(alloc, &lex(alloc, line.as_bytes(), false)?)?;
-    for piece in pieces.as_slice() {
+    match first_define(pieces.as_slice()) {
+        Some(tokens) => read_define(alloc, tokens),
+        None => Err(DefineError::Memory),
+    }
+}
+
+fn first_define(pieces: &[Piece]) -> Option<&[Token]> {
+    for piece in pieces {
         if let Piece::Line { what, .. } = piece {
             if let Directive::Define(tokens) = what {
-                return read_define(alloc, tokens.as_slice());
+                return Some(tokens.as_slice());
             }
         }
     }
-    Err(DefineError::Memory)
+    None
 }
 
 // The parameters of a function-like macro in parentheses, `+` behind them where it is variadic; a bar; and the
@@ -60,21 +67,46 @@ fn word(e: DefineError) -> &'static [u8] {
 // Each line gives this name and this definition.
 fn check(rt: &impl Abort, alloc: Global, rows: &[(&str, &str, &str)]) -> Result<(), DefineError> {
     for (line, name, text) in rows {
-        let (found, definition) = defined(rt, alloc, line)?;
-        assert!(rt; found.as_slice() == name.as_bytes(), "{line}");
-        let written = shown(alloc, &definition)?;
-        assert!(rt; written.as_slice() == text.as_bytes(), "{line}");
+        check_line(rt, alloc, line, name, text)?;
     }
+    Ok(())
+}
+
+fn check_line(
+    rt: &impl Abort,
+    alloc: Global,
+    line: &str,
+    name: &str,
+    text: &str,
+) -> Result<(), DefineError> {
+    let (found, definition) = defined(rt, alloc, line)?;
+    assert!(rt; found.as_slice() == name.as_bytes(), "{line}");
+    check_shown(rt, alloc, line, &definition, text)
+}
+
+fn check_shown(
+    rt: &impl Abort,
+    alloc: Global,
+    row: &str,
+    definition: &Definition,
+    text: &str,
+) -> Result<(), DefineError> {
+    let written = shown(alloc, definition)?;
+    assert!(rt; written.as_slice() == text.as_bytes(), "{row}");
     Ok(())
 }
 
 // Each line gives this error.
 fn refused(rt: &impl Abort, alloc: Global, rows: &[(&str, &str)]) {
     for (line, error) in rows {
-        match defined(rt, alloc, line) {
-            Ok(_) => assert!(rt; false, "{line}"),
-            Err(e) => assert!(rt; word(e) == error.as_bytes(), "{line}"),
-        }
+        assert!(rt; error_of(rt, alloc, line) == error.as_bytes(), "{line}");
+    }
+}
+
+fn error_of(rt: &impl Abort, alloc: Global, line: &str) -> &'static [u8] {
+    match defined(rt, alloc, line) {
+        Ok(_) => b"",
+        Err(e) => word(e),
     }
 }
 
@@ -85,13 +117,35 @@ fn compared(
     rows: &[(&str, &str, bool)],
 ) -> Result<(), DefineError> {
     for (one, other, same) in rows {
-        let (_, left) = defined(rt, alloc, one)?;
-        let (_, right) = defined(rt, alloc, other)?;
-        assert!(rt; (left == right) == *same, "{one} {other}");
-        let copy = left.copy(alloc)?;
-        assert!(rt; copy == left, "{one}");
+        compare(rt, alloc, one, other, *same)?;
+        compare_copy(rt, alloc, one)?;
     }
     Ok(())
+}
+
+fn compare(
+    rt: &impl Abort,
+    alloc: Global,
+    one: &str,
+    other: &str,
+    same: bool,
+) -> Result<(), DefineError> {
+    let left = definition_of(rt, alloc, one)?;
+    let right = definition_of(rt, alloc, other)?;
+    assert!(rt; (left == right) == same, "{one} {other}");
+    Ok(())
+}
+
+fn compare_copy(rt: &impl Abort, alloc: Global, line: &str) -> Result<(), DefineError> {
+    let definition = definition_of(rt, alloc, line)?;
+    let copy = definition.copy(alloc)?;
+    assert!(rt; copy == definition, "{line}");
+    Ok(())
+}
+
+fn definition_of(rt: &impl Abort, alloc: Global, line: &str) -> Result<Definition, DefineError> {
+    let (_, definition) = defined(rt, alloc, line)?;
+    Ok(definition)
 }
 
 // Each name has this definition in the table; `-` stands for none.
@@ -100,13 +154,10 @@ fn looked_up(
     alloc: Global,
     table: &MacroTable,
     rows: &[(&str, &str)],
-) -> Result<(), AllocError> {
+) -> Result<(), DefineError> {
     for (name, text) in rows {
         match table.get(name.as_bytes()) {
-            Some(definition) => {
-                let written = shown(alloc, definition)?;
-                assert!(rt; written.as_slice() == text.as_bytes(), "{name}");
-            }
+            Some(definition) => check_shown(rt, alloc, name, definition, text)?,
             None => assert!(rt; *text == "-", "{name}"),
         }
     }
@@ -125,6 +176,13 @@ fn define_all(
         table.define(name, definition)?;
     }
     Ok(())
+}
+
+// The first table with the definition of each line.
+fn table_of(rt: &impl Abort, alloc: Global, lines: &[&str]) -> Result<MacroTable, DefineError> {
+    let mut table = MacroTable::initial(alloc)?;
+    define_all(rt, alloc, &mut table, lines)?;
+    Ok(table)
 }
 
 #[test]
@@ -268,7 +326,7 @@ fn compares_definitions(rt: HostRuntime) -> Result<(), DefineError> {
 }
 
 #[test]
-fn begins_with_five_macros(rt: HostRuntime) -> Result<(), AllocError> {
+fn begins_with_five_macros(rt: HostRuntime) -> Result<(), DefineError> {
     let table = MacroTable::initial(rt.alloc())?;
     looked_up(
         &rt,
@@ -290,35 +348,39 @@ fn begins_with_five_macros(rt: HostRuntime) -> Result<(), AllocError> {
 
 #[test]
 fn keeps_the_last_definition(rt: HostRuntime) -> Result<(), DefineError> {
-    let mut table = MacroTable::initial(rt.alloc())?;
-    define_all(
-        &rt,
-        rt.alloc(),
-        &mut table,
-        &["#define A 1", "#define B 2", "#define A 3"],
-    )?;
+    let lines = &["#define A 1", "#define B 2", "#define A 3"];
+    let table = table_of(&rt, rt.alloc(), lines)?;
     looked_up(
         &rt,
         rt.alloc(),
         &table,
         &[("A", "| 3"), ("B", "| 2"), ("C", "-"), ("__STDC__", "| 1")],
-    )?;
-    Ok(())
+    )
+}
+
+// A table with A and B, out of which A, `__STDC__` and what isn't in it are taken.
+fn table_with_less(rt: &impl Abort, alloc: Global) -> Result<MacroTable, DefineError> {
+    let mut table = table_of(rt, alloc, &["#define A 1", "#define B 2"])?;
+    table.undef(b"A");
+    table.undef(b"C");
+    table.undef(b"__STDC__");
+    Ok(table)
 }
 
 #[test]
 fn takes_definitions_away(rt: HostRuntime) -> Result<(), DefineError> {
-    let mut table = MacroTable::initial(rt.alloc())?;
-    define_all(&rt, rt.alloc(), &mut table, &["#define A 1", "#define B 2"])?;
-    table.undef(b"A");
-    table.undef(b"C");
-    table.undef(b"__STDC__");
+    let table = table_with_less(&rt, rt.alloc())?;
     looked_up(
         &rt,
         rt.alloc(),
         &table,
         &[("A", "-"), ("B", "| 2"), ("C", "-"), ("__STDC__", "-")],
-    )?;
+    )
+}
+
+#[test]
+fn defines_names_that_were_taken_away(rt: HostRuntime) -> Result<(), DefineError> {
+    let mut table = table_with_less(&rt, rt.alloc())?;
     define_all(
         &rt,
         rt.alloc(),
@@ -335,6 +397,5 @@ fn takes_definitions_away(rt: HostRuntime) -> Result<(), DefineError> {
             ("C", "| 4"),
             ("__STDC__", "-"),
         ],
-    )?;
-    Ok(())
+    )
 }

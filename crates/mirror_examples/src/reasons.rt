@@ -13,10 +13,20 @@ type Row<'a> = (&'a [&'a str], Option<MirrorError>);
 // The reason of each row is what its list is refused for.
 fn check(rt: &impl Abort, alloc: Global, rows: &[Row<'_>]) -> Result<(), Fail> {
     for (places, want) in rows {
-        let entries = List::of(placed(alloc, places)?);
-        assert_eq!(rt; judge_entries(entries.as_slice()), *want);
-        assert_eq!(rt; Mirror::build(alloc, entries).err(), *want);
+        check_row(rt, alloc, places, *want)?;
     }
+    Ok(())
+}
+
+fn check_row(
+    rt: &impl Abort,
+    alloc: Global,
+    places: &[&str],
+    want: Option<MirrorError>,
+) -> Result<(), Fail> {
+    let entries = List::of(placed(alloc, places)?);
+    assert_eq!(rt; judge_entries(entries.as_slice()), want);
+    assert_eq!(rt; Mirror::build(alloc, entries).err(), want);
     Ok(())
 }
 

@@ -1,4 +1,6 @@
 // The pieces of small files, as text.
+ghost use Rattle.std.specs.Prelude.{◌≤◌, length};
+
 use base_types::List;
 use directive_scan::{Directive, Piece, Target, scan};
 use pp_tokens::{Token, lex};
@@ -9,16 +11,24 @@ use std::process::Abort;
 fn shown(alloc: Global, pieces: &List<Piece>) -> Result<Vec<u8>, AllocError> {
     let mut text = Vec::new(alloc);
     for piece in pieces.as_slice() {
-        match piece {
-            Piece::Run { tokens } => add_tokens(&mut text, b"run", tokens)?,
-            Piece::Line { at, what } => {
-                text.extend_from_slice(format!(in alloc; "{at} ")?.as_bytes())?;
-                add_directive(&mut text, what)?;
-            }
-        }
+        add_piece(alloc, &mut text, piece)?;
         text.push(b'\n')?;
     }
     Ok(text)
+}
+
+fn add_piece(alloc: Global, text: &mut Vec<u8>, piece: &Piece) -> Result<(), AllocError> {
+    match piece {
+        Piece::Run { tokens } => add_tokens(text, b"run", tokens),
+        Piece::Line { at, what } => {
+            add_place(alloc, text, *at)?;
+            add_directive(text, what)
+        }
+    }
+}
+
+fn add_place(alloc: Global, text: &mut Vec<u8>, line: u32) -> Result<(), AllocError> {
+    text.extend_from_slice(format!(in alloc; "{line} ")?.as_bytes())
 }
 
 fn add_directive(text: &mut Vec<u8>, what: &Directive) -> Result<(), AllocError> {
@@ -69,12 +79,23 @@ fn add_tokens(text: &mut Vec<u8>, word: &[u8], tokens: &List<Token>) -> Result<(
 // Each file has these pieces.
 fn check(rt: &impl Abort, alloc: Global, files: &[(&str, &str)]) -> Result<(), AllocError> {
     for (body, pieces) in files {
-        assert!(rt; body.len() < 100);
-        let found = scan(alloc, &lex(alloc, body.as_bytes(), false)?)?;
-        let text = shown(alloc, &found)?;
-        assert!(rt; text.as_slice() == pieces.as_bytes(), "{body}");
+        check_file(rt, alloc, body, pieces)?;
     }
     Ok(())
+}
+
+fn check_file(rt: &impl Abort, alloc: Global, body: &str, pieces: &str) -> Result<(), AllocError> {
+    assert!(rt; body.len() < 100);
+    let text = pieces_of(alloc, body.as_bytes())?;
+    assert!(rt; text.as_slice() == pieces.as_bytes(), "{body}");
+    Ok(())
+}
+
+fn pieces_of(alloc: Global, body: &[u8]) -> Result<Vec<u8>, AllocError>
+    requires { length body.now ≤ 16777216 }
+{
+    let pieces = scan(alloc, &lex(alloc, body, false)?)?;
+    shown(alloc, &pieces)
 }
 
 #[test]

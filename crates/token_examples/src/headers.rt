@@ -1,7 +1,7 @@
 // Header names, the places where none is due, and those that expanded tokens give (ISO C 6.4.7, 6.10.1, 6.10.2).
 use crate::notation::check;
-use directive_scan::header_of;
-use pp_tokens::{Token, lex};
+use directive_scan::{HeaderName, header_of};
+use pp_tokens::{Token, TokenRef, lex};
 use std::alloc::{AllocError, Global};
 use std::process::Abort;
 
@@ -119,24 +119,32 @@ fn reads_none_elsewhere(rt: HostRuntime) -> Result<(), AllocError> {
 
 #[test]
 fn names_headers_by_tokens(rt: HostRuntime) -> Result<(), AllocError> {
-    let rows: &[(&str, &str)] = &[
-        ("\"a.h\"", "\"a.h"),
-        ("\"a\\b.h\" x", "\"a\\b.h"),
-        ("<a.h>", "<a.h"),
-        ("< a . h >", "<a . h"),
-        ("<a.h> x>", "<a.h"),
-        ("<\"a\">", "<\"a\""),
-        ("L\"a.h\"", ""),
-        ("\"\"", ""),
-        ("<>", ""),
-        ("<>a>", ""),
-        ("<a", ""),
-        ("", ""),
-        ("x", ""),
-        ("x <a>", ""),
-    ];
+    check_names(
+        &rt,
+        rt.alloc(),
+        &[
+            ("\"a.h\"", "\"a.h"),
+            ("\"a\\b.h\" x", "\"a\\b.h"),
+            ("<a.h>", "<a.h"),
+            ("< a . h >", "<a . h"),
+            ("<a.h> x>", "<a.h"),
+            ("<\"a\">", "<\"a\""),
+            ("L\"a.h\"", ""),
+            ("\"\"", ""),
+            ("<>", ""),
+            ("<>a>", ""),
+            ("<a", ""),
+            ("", ""),
+            ("x", ""),
+            ("x <a>", ""),
+        ],
+    )
+}
+
+// Each text's first line gives this header name, as `shown_name` writes it.
+fn check_names(rt: &impl Abort, alloc: Global, rows: &[(&str, &str)]) -> Result<(), AllocError> {
     for (text, name) in rows {
-        let shown = shown_name(&rt, rt.alloc(), text.as_bytes())?;
+        let shown = shown_name(rt, alloc, text.as_bytes())?;
         assert!(rt; shown.as_slice() == name.as_bytes(), "{text:?}");
     }
     Ok(())
@@ -144,12 +152,17 @@ fn names_headers_by_tokens(rt: HostRuntime) -> Result<(), AllocError> {
 
 // The header name that the tokens of a text's first line give, behind its first delimiter; nothing where they give none.
 fn shown_name(rt: &impl Abort, alloc: Global, text: &[u8]) -> Result<Vec<u8>, AllocError> {
-    let mut shown = Vec::new(alloc);
     let tokens = first_line(rt, alloc, text)?;
-    if let Some(header) = header_of(alloc, &tokens)? {
-        shown.push(if header.angle { b'<' } else { b'"' })?;
-        shown.extend_from_slice(header.name.as_slice())?;
+    match header_of(alloc, &tokens)? {
+        Some(header) => shown_header(alloc, &header),
+        None => Ok(Vec::new(alloc)),
     }
+}
+
+fn shown_header(alloc: Global, header: &HeaderName) -> Result<Vec<u8>, AllocError> {
+    let mut shown = Vec::new(alloc);
+    shown.push(if header.angle { b'<' } else { b'"' })?;
+    shown.extend_from_slice(header.name.as_slice())?;
     Ok(shown)
 }
 
@@ -159,8 +172,17 @@ fn first_line(rt: &impl Abort, alloc: Global, text: &[u8]) -> Result<Vec<Token>,
     let mut tokens = Vec::new(alloc);
     for at in 0..lexed.token_count(0) {
         if let Some(token) = lexed.token(0, at) {
-            tokens.push(token.to_token(alloc)?)?;
+            add_copy(alloc, &mut tokens, &token)?;
         }
     }
     Ok(tokens)
+}
+
+fn add_copy(
+    alloc: Global,
+    tokens: &mut Vec<Token>,
+    token: &TokenRef<'_>,
+) -> Result<(), AllocError> {
+    tokens.push(token.to_token(alloc)?)?;
+    Ok(())
 }

@@ -1,4 +1,6 @@
 // What is wrong with the conditionals of small files (ISO C 6.10).
+ghost use Rattle.std.specs.Prelude.{◌≤◌, length};
+
 use BranchName::{Elif, Else, Endif};
 use Malformed::{AfterElse, Unended, WithoutIf};
 use directive_scan::{BranchName, Malformed, malformed, scan};
@@ -13,12 +15,28 @@ fn check(
     files: &[(&str, Option<Malformed>)],
 ) -> Result<(), AllocError> {
     for (body, wrong) in files {
-        assert!(rt; body.len() <= 1000);
-        let pieces = scan(alloc, &lex(alloc, body.as_bytes(), false)?)?;
-        let found = malformed(alloc, pieces.as_slice())?;
-        assert!(rt; found == *wrong, "{body}");
+        check_file(rt, alloc, body, *wrong)?;
     }
     Ok(())
+}
+
+fn check_file(
+    rt: &impl Abort,
+    alloc: Global,
+    body: &str,
+    wrong: Option<Malformed>,
+) -> Result<(), AllocError> {
+    assert!(rt; body.len() <= 1000);
+    let found = wrong_in(alloc, body.as_bytes())?;
+    assert!(rt; found == wrong, "{body}");
+    Ok(())
+}
+
+fn wrong_in(alloc: Global, body: &[u8]) -> Result<Option<Malformed>, AllocError>
+    requires { length body.now ≤ 16777216 }
+{
+    let pieces = scan(alloc, &lex(alloc, body, false)?)?;
+    malformed(alloc, pieces.as_slice())
 }
 
 #[test]

@@ -1,7 +1,7 @@
 // The lines of a body's tokens, as text.
 ghost use Rattle.std.specs.Prelude.{◌≤◌, length};
 
-use pp_tokens::{Kind, TokenRef, lex};
+use pp_tokens::{Kind, Lexed, TokenRef, lex};
 use std::alloc::{AllocError, Global};
 use std::process::Abort;
 
@@ -16,10 +16,21 @@ pub fn check(
     rows: &[(&str, &str)],
 ) -> Result<(), AllocError> {
     for (body, lines) in rows {
-        assert!(rt; body.len() <= 16777216);
-        let text = shown(alloc, body.as_bytes(), trigraphs)?;
-        assert!(rt; text.as_slice() == lines.as_bytes(), "{body:?}");
+        check_body(rt, alloc, trigraphs, body, lines)?;
     }
+    Ok(())
+}
+
+fn check_body(
+    rt: &impl Abort,
+    alloc: Global,
+    trigraphs: bool,
+    body: &str,
+    lines: &str,
+) -> Result<(), AllocError> {
+    assert!(rt; body.len() <= 16777216);
+    let text = shown(alloc, body.as_bytes(), trigraphs)?;
+    assert!(rt; text.as_slice() == lines.as_bytes(), "{body:?}");
     Ok(())
 }
 
@@ -29,17 +40,31 @@ fn shown(alloc: Global, body: &[u8], trigraphs: bool) -> Result<Vec<u8>, AllocEr
     let lexed = lex(alloc, body, trigraphs)?;
     let mut text = Vec::new(alloc);
     for line in 0..lexed.line_count() {
-        for place in 0..lexed.token_count(line) {
-            if let Some(token) = lexed.token(line, place) {
-                add_token(alloc, &mut text, &token)?;
-            }
-        }
-        text.push(b'\n')?;
+        add_line(alloc, &mut text, &lexed, line)?;
     }
     if let Some(line) = lexed.open_comment() {
-        text.extend_from_slice(format!(in alloc; "open {line}\n")?.as_bytes())?;
+        add_open(alloc, &mut text, line)?;
     }
     Ok(text)
+}
+
+fn add_line(
+    alloc: Global,
+    text: &mut Vec<u8>,
+    lexed: &Lexed,
+    line: usize,
+) -> Result<(), AllocError> {
+    for place in 0..lexed.token_count(line) {
+        if let Some(token) = lexed.token(line, place) {
+            add_token(alloc, text, &token)?;
+        }
+    }
+    text.push(b'\n')?;
+    Ok(())
+}
+
+fn add_open(alloc: Global, text: &mut Vec<u8>, line: u32) -> Result<(), AllocError> {
+    text.extend_from_slice(format!(in alloc; "open {line}\n")?.as_bytes())
 }
 
 fn add_token(alloc: Global, text: &mut Vec<u8>, token: &TokenRef<'_>) -> Result<(), AllocError> {
@@ -47,11 +72,14 @@ fn add_token(alloc: Global, text: &mut Vec<u8>, token: &TokenRef<'_>) -> Result<
         text.push(b' ')?;
     }
     text.push(letter(token.kind))?;
-    let line = token.line;
-    text.extend_from_slice(format!(in alloc; "{line}(")?.as_bytes())?;
+    add_place(alloc, text, token.line)?;
     text.extend_from_slice(token.text)?;
     text.push(b')')?;
     Ok(())
+}
+
+fn add_place(alloc: Global, text: &mut Vec<u8>, line: u32) -> Result<(), AllocError> {
+    text.extend_from_slice(format!(in alloc; "{line}(")?.as_bytes())
 }
 
 fn letter(kind: Kind) -> u8 {

@@ -1,7 +1,8 @@
 // Plain bodies and simple names, and tokens by their places.
 use crate::notation::check;
-use pp_tokens::{Kind, is_plain, is_simple_name, lex};
+use pp_tokens::{Kind, Token, is_plain, is_simple_name, lex};
 use std::alloc::AllocError;
+use std::process::Abort;
 
 #[test]
 fn tells_plain_bodies(rt: HostRuntime) {
@@ -49,16 +50,27 @@ fn tells_simple_names(rt: HostRuntime) {
 }
 
 #[test]
-fn has_no_tokens_past_the_end(rt: HostRuntime) -> Result<(), AllocError> {
+fn counts_lines_and_tokens(rt: HostRuntime) -> Result<(), AllocError> {
     let lexed = lex(rt.alloc(), b"a b\n\nc", false)?;
     assert!(rt; lexed.line_count() == 3);
     assert!(rt; lexed.token_count(0) == 2);
     assert!(rt; lexed.token_count(1) == 0);
     assert!(rt; lexed.token_count(3) == 0);
+    Ok(())
+}
+
+#[test]
+fn has_no_tokens_past_the_end(rt: HostRuntime) -> Result<(), AllocError> {
+    let lexed = lex(rt.alloc(), b"a b\n\nc", false)?;
     assert!(rt; lexed.token(0, 1).is_some());
     assert!(rt; lexed.token(0, 2).is_none());
     assert!(rt; lexed.token(1, 0).is_none());
     assert!(rt; lexed.token(3, 0).is_none());
+    Ok(())
+}
+
+#[test]
+fn has_no_lines_without_bytes(rt: HostRuntime) -> Result<(), AllocError> {
     let none = lex(rt.alloc(), b"", false)?;
     assert!(rt; none.line_count() == 0);
     assert!(rt; none.token(0, 0).is_none());
@@ -85,10 +97,13 @@ fn copies_tokens(rt: HostRuntime) -> Result<(), AllocError> {
     let Some(token) = lexed.token(1, 1) else {
         return Ok(assert!(rt; false));
     };
-    let owned = token.to_token(alloc)?;
-    assert!(rt; owned.kind == Kind::Number);
-    assert!(rt; owned.text.as_slice() == b"08e".as_slice());
-    assert!(rt; owned.line == 2);
-    assert!(rt; owned.space);
+    check_number(&rt, &token.to_token(alloc)?);
     Ok(())
+}
+
+fn check_number(rt: &impl Abort, token: &Token) {
+    assert!(rt; token.kind == Kind::Number);
+    assert!(rt; token.text.as_slice() == b"08e".as_slice());
+    assert!(rt; token.line == 2);
+    assert!(rt; token.space);
 }

@@ -1,5 +1,5 @@
 // Words that give no job, also for two reasons: the first from the left holds.
-use crate::notation::{check, check_rows, words_of};
+use crate::notation::{check_line, check_rows};
 use std::alloc::AllocError;
 
 #[test]
@@ -36,11 +36,9 @@ fn tells_the_first_reason(rt: HostRuntime) -> Result<(), AllocError> {
 #[test]
 fn refuses_a_working_directory(rt: HostRuntime) -> Result<(), AllocError> {
     let alloc = rt.alloc();
-    let words = words_of(alloc, "a.c")?;
     for cwd in [b"".as_slice(), b"w", b"./", b"/w\0", b"/\0w"] {
-        check(&rt, alloc, cwd, words.as_slice(), b"Cwd")?;
+        check_line(&rt, alloc, cwd, "a.c", b"Cwd")?;
     }
-    check(&rt, alloc, b"/", words.as_slice(), b"a.c to a.i")?;
-    let unknown = words_of(alloc, "-q")?;
-    check(&rt, alloc, b"w", unknown.as_slice(), b"Cwd")
+    check_line(&rt, alloc, b"/", "a.c", b"a.c to a.i")?;
+    check_line(&rt, alloc, b"w", "-q", b"Cwd")
 }
