@@ -12,13 +12,19 @@ pub const BODY_LIMIT: usize = 16_777_216;
 pub fn read_body<R: Files + AllocGlobal>(rt: &R, path: &str) -> Result<Vec<u8>>
     ensures { IfOk result (λ body. length body.items ≤ 16777216) }
 {
+    check_file(rt, path)?;
+    let body = fs::read(rt, path)?;
+    ensure!(body.len() <= BODY_LIMIT, "more than {BODY_LIMIT} bytes");
+    Ok(body)
+}
+
+// An error where no file of at most 16 MiB stands.
+fn check_file<R: Files + AllocGlobal>(rt: &R, path: &str) -> Result<()> {
     let found = fs::metadata(rt, path)?;
     ensure!(found.is_file(), "not a file");
     ensure!(
         found.len() <= BODY_LIMIT as u64,
         "more than {BODY_LIMIT} bytes"
     );
-    let body = fs::read(rt, path)?;
-    ensure!(body.len() <= BODY_LIMIT, "more than {BODY_LIMIT} bytes");
-    Ok(body)
+    Ok(())
 }

@@ -4,6 +4,8 @@
 mod body;
 mod unit;
 
+ghost use Rattle.std.specs.Prelude.{◌≤◌};
+
 use anyhow::Result;
 use base_types::List;
 use body::read_body;
@@ -15,7 +17,7 @@ use std::io::{BufWriter, Write};
 use std::process::ExitCode;
 use std::rt::Files;
 use std::{env, io};
-use unit::Unit;
+use unit::{Expanded, Unit};
 
 const HELP: &str = "usage: expand_program FILE..
        expand_program text FILE
@@ -34,24 +36,35 @@ fn main(rt: HostRuntime) -> Result<ExitCode> {
     let arguments = env::args(&rt)?.collect(rt.alloc())?;
     let words = words_of(rt.alloc(), &arguments)?;
     let mut out = BufWriter::new(rt.alloc(), io::writer(&rt))?;
-    let status = match words.as_slice() {
-        ["--help"] => {
-            writeln!(out, "{HELP}")?;
-            ExitCode::SUCCESS
-        }
-        ["--version"] => {
-            writeln!(out, "expand_program 0.1.0")?;
-            ExitCode::SUCCESS
-        }
-        ["text", file] => status_of(done(&rt, &mut out, Task::Text, file)?),
-        [first, files @ ..] => each(&rt, &mut out, first, files)?,
-        [] => {
-            eprintln!(rt; "{HELP}")?;
-            ExitCode::from(2)
-        }
-    };
+    let status = obey(&rt, &mut out, words.as_slice())?;
     out.flush()?;
     Ok(status)
+}
+
+// Does what the words ask for, and answers the status.
+fn obey<R: Files + AllocGlobal + Eprint, W: Write>(
+    rt: &R,
+    out: &mut W,
+    words: &[&str],
+) -> Result<ExitCode> {
+    match words {
+        ["--help"] => print_line(out, HELP),
+        ["--version"] => print_line(out, "expand_program 0.1.0"),
+        ["text", file] => Ok(status_of(done(rt, out, Task::Text, file)?)),
+        [first, files @ ..] => each(rt, out, first, files),
+        [] => refuse(rt),
+    }
+}
+
+fn print_line<W: Write>(out: &mut W, line: &str) -> Result<ExitCode> {
+    writeln!(out, "{line}")?;
+    Ok(ExitCode::SUCCESS)
+}
+
+// Shows the help, as there are no words.
+fn refuse<R: Eprint>(rt: &R) -> Result<ExitCode> {
+    eprintln!(rt; "{HELP}")?;
+    Ok(ExitCode::from(2))
 }
 
 // The words behind the program's own name.
@@ -99,24 +112,48 @@ fn done<R: Files + AllocGlobal + Eprint, W: Write>(
     task: Task,
     file: &str,
 ) -> Result<bool> {
-    let alloc = rt.alloc();
-    let pieces = match pieces_of(rt, file) {
-        Ok(pieces) => pieces,
+    match pieces_of(rt, file) {
+        Ok(pieces) => done_with(rt, out, task, file, pieces.as_slice()),
         Err(e) => {
             eprintln!(rt; "{file}: {e}")?;
-            return Ok(false);
+            Ok(false)
         }
-    };
-    let mut unit = Unit::new(alloc, file)?;
-    let passed = match task {
-        Task::Count => count(alloc, out, file, &pieces, &mut unit)?,
-        Task::Text => print_text(alloc, out, file, &pieces, &mut unit)?,
-    };
-    let refused = unit.refused();
+    }
+}
+
+// Whether the task passed with the pieces of a file.
+fn done_with<R: AllocGlobal + Eprint, W: Write>(
+    rt: &R,
+    out: &mut W,
+    task: Task,
+    file: &str,
+    pieces: &[Piece],
+) -> Result<bool> {
+    let mut unit = Unit::new(rt.alloc(), file)?;
+    let passed = do_task(rt.alloc(), out, task, file, pieces, &mut unit)?;
+    print_refused(rt, file, unit.refused())?;
+    Ok(passed)
+}
+
+fn do_task<W: Write>(
+    alloc: Global,
+    out: &mut W,
+    task: Task,
+    file: &str,
+    pieces: &[Piece],
+    unit: &mut Unit,
+) -> Result<bool> {
+    match task {
+        Task::Count => count(alloc, out, file, pieces, unit),
+        Task::Text => print_text(alloc, out, file, pieces, unit),
+    }
+}
+
+fn print_refused<R: Eprint>(rt: &R, file: &str, refused: u64) -> io::Result<()> {
     if 0 < refused {
         eprintln!(rt; "{file}: {refused} definitions refused")?;
     }
-    Ok(passed)
+    Ok(())
 }
 
 fn pieces_of<R: Files + AllocGlobal>(rt: &R, file: &str) -> Result<List<Piece>> {
@@ -147,18 +184,12 @@ fn count<W: Write>(
     alloc: Global,
     out: &mut W,
     file: &str,
-    pieces: &List<Piece>,
+    pieces: &[Piece],
     unit: &mut Unit,
 ) -> Result<bool> {
     match added_up(alloc, pieces, unit) {
-        Ok(
-            Counts {
-                tokens,
-                expanded,
-                work,
-            },
-        ) => {
-            writeln!(out, "{file} {tokens} {expanded} {work}")?;
+        Ok(counts) => {
+            print_counts(out, file, counts)?;
             Ok(true)
         }
         Err(e) => {
@@ -168,22 +199,37 @@ fn count<W: Write>(
     }
 }
 
-fn added_up(alloc: Global, pieces: &List<Piece>, unit: &mut Unit) -> Result<Counts, ExpandError> {
+fn print_counts<W: Write>(out: &mut W, file: &str, counts: Counts) -> io::Result<()> {
+    let Counts {
+        tokens,
+        expanded,
+        work,
+    } = counts;
+    writeln!(out, "{file} {tokens} {expanded} {work}")
+}
+
+fn added_up(alloc: Global, pieces: &[Piece], unit: &mut Unit) -> Result<Counts, ExpandError> {
     let mut all = Counts {
         tokens: 0,
         expanded: 0,
         work: 0,
     };
-    for piece in pieces.as_slice() {
+    for piece in pieces {
         if let Some(run) = unit.take(alloc, piece)? {
-            all = all.and(Counts {
-                tokens: text_length(piece),
-                expanded: run.tokens.len() as u64,
-                work: unit::UNITS - run.left,
-            });
+            all = all.and(counts_of(piece, &run));
         }
     }
     Ok(all)
+}
+
+fn counts_of(piece: &Piece, run: &Expanded) -> Counts
+    requires { run.now.left ≤ 20000000 }
+{
+    Counts {
+        tokens: text_length(piece),
+        expanded: run.tokens.len() as u64,
+        work: unit::UNITS - run.left,
+    }
 }
 
 // How many tokens of text a piece has.
@@ -199,17 +245,29 @@ fn print_text<W: Write>(
     alloc: Global,
     out: &mut W,
     file: &str,
-    pieces: &List<Piece>,
+    pieces: &[Piece],
     unit: &mut Unit,
 ) -> Result<bool> {
-    for piece in pieces.as_slice() {
-        match unit.take(alloc, piece) {
-            Ok(None) => {}
-            Ok(Some(run)) => print_run(out, run.tokens.as_slice())?,
-            Err(e) => {
-                print_error(out, file, &e)?;
-                return Ok(false);
-            }
+    for piece in pieces {
+        if !print_taken(out, file, unit.take(alloc, piece))? {
+            return Ok(false);
+        }
+    }
+    Ok(true)
+}
+
+// Prints what a piece became, or its error; whether it has none.
+fn print_taken<W: Write>(
+    out: &mut W,
+    file: &str,
+    taken: Result<Option<Expanded>, ExpandError>,
+) -> io::Result<bool> {
+    match taken {
+        Ok(None) => {}
+        Ok(Some(run)) => print_run(out, run.tokens.as_slice())?,
+        Err(e) => {
+            print_error(out, file, &e)?;
+            return Ok(false);
         }
     }
     Ok(true)
@@ -227,36 +285,40 @@ fn print_run<W: Write>(out: &mut W, tokens: &[Token]) -> io::Result<()> {
 }
 
 fn print_error<W: Write>(out: &mut W, file: &str, error: &ExpandError) -> io::Result<()> {
+    write!(out, "{file} error: ")?;
+    print_reason(out, error)
+}
+
+fn print_reason<W: Write>(out: &mut W, error: &ExpandError) -> io::Result<()> {
     match error {
-        ExpandError::Count { name, line } => {
-            let name = name.as_slice().escape_ascii();
-            writeln!(
-                out,
-                "{file} error: line {line}: {name} has another number of parameters"
-            )
-        }
-        ExpandError::Unclosed { name, line } => {
-            let name = name.as_slice().escape_ascii();
-            writeln!(
-                out,
-                "{file} error: line {line}: the call of {name} doesn't end"
-            )
-        }
+        ExpandError::Count { name, line } => print_count_error(out, name.as_slice(), *line),
+        ExpandError::Unclosed { name, line } => print_unclosed(out, name.as_slice(), *line),
         ExpandError::Paste { left, right, line } => {
-            let left = left.as_slice().escape_ascii();
-            let right = right.as_slice().escape_ascii();
-            writeln!(
-                out,
-                "{file} error: line {line}: {left} and {right} make no token"
-            )
+            print_paste_error(out, left.as_slice(), right.as_slice(), *line)
         }
-        ExpandError::Deep { line } => {
-            writeln!(
-                out,
-                "{file} error: line {line}: arguments more than 400 deep"
-            )
-        }
-        ExpandError::Work => writeln!(out, "{file} error: more than {} units of work", unit::UNITS),
-        ExpandError::Memory => writeln!(out, "{file} error: out of memory"),
+        ExpandError::Deep { line } => { writeln!(out, "line {line}: arguments more than 400 deep") }
+        ExpandError::Work => writeln!(out, "more than {} units of work", unit::UNITS),
+        ExpandError::Memory => writeln!(out, "out of memory"),
     }
+}
+
+fn print_count_error<W: Write>(out: &mut W, name: &[u8], line: u32) -> io::Result<()> {
+    let name = name.escape_ascii();
+    writeln!(out, "line {line}: {name} has another number of parameters")
+}
+
+fn print_unclosed<W: Write>(out: &mut W, name: &[u8], line: u32) -> io::Result<()> {
+    let name = name.escape_ascii();
+    writeln!(out, "line {line}: the call of {name} doesn't end")
+}
+
+fn print_paste_error<W: Write>(
+    out: &mut W,
+    left: &[u8],
+    right: &[u8],
+    line: u32,
+) -> io::Result<()> {
+    let left = left.escape_ascii();
+    let right = right.escape_ascii();
+    writeln!(out, "line {line}: {left} and {right} make no token")
 }

@@ -26,22 +26,29 @@ status: 0, 1 where a file differs or isn't read, 2 wrong words";
 fn main(rt: HostRuntime) -> Result<ExitCode> {
     let arguments = env::args(&rt)?.collect(rt.alloc())?;
     let words = words_of(rt.alloc(), &arguments)?;
-    match words.as_slice() {
-        ["--help"] => {
-            println!(rt; "{HELP}")?;
-            Ok(ExitCode::SUCCESS)
-        }
-        ["--version"] => {
-            println!(rt; "lex_program 0.1.0")?;
-            Ok(ExitCode::SUCCESS)
-        }
-        ["count", first, files @ ..] => each(&rt, Task::Count, first, files),
-        ["again", first, files @ ..] => each(&rt, Task::Again, first, files),
-        _ => {
-            eprintln!(rt; "{HELP}")?;
-            Ok(ExitCode::from(2))
-        }
+    obey(&rt, words.as_slice())
+}
+
+// Does what the words ask for, and answers the status.
+fn obey<R: Files + AllocGlobal + Print + Eprint>(rt: &R, words: &[&str]) -> Result<ExitCode> {
+    match words {
+        ["--help"] => print_line(rt, HELP),
+        ["--version"] => print_line(rt, "lex_program 0.1.0"),
+        ["count", first, files @ ..] => each(rt, Task::Count, first, files),
+        ["again", first, files @ ..] => each(rt, Task::Again, first, files),
+        _ => refuse(rt),
     }
+}
+
+fn print_line<R: Print>(rt: &R, line: &str) -> Result<ExitCode> {
+    println!(rt; "{line}")?;
+    Ok(ExitCode::SUCCESS)
+}
+
+// Shows the help, as the words are wrong.
+fn refuse<R: Eprint>(rt: &R) -> Result<ExitCode> {
+    eprintln!(rt; "{HELP}")?;
+    Ok(ExitCode::from(2))
 }
 
 // The words behind the program's own name.
@@ -96,58 +103,88 @@ fn done<R: Files + AllocGlobal + Print + Eprint>(rt: &R, task: Task, file: &str)
 fn count<R: Files + AllocGlobal + Print>(rt: &R, file: &str) -> Result<bool> {
     let body = read_body(rt, file)?;
     let lexed = lex(rt.alloc(), &body, false)?;
-    let bytes = body.len();
+    print_counts(rt, file, body.len(), &lexed)?;
+    Ok(true)
+}
+
+fn print_counts<R: Print>(rt: &R, file: &str, bytes: usize, lexed: &Lexed) -> io::Result<()> {
     let lines = lexed.line_count();
+    let tokens = count_tokens(lexed);
+    println!(rt; "{file} {bytes} {lines} {tokens}")
+}
+
+fn count_tokens(lexed: &Lexed) -> u64 {
     let mut tokens = 0u64;
-    for line in 0..lines {
+    for line in 0..lexed.line_count() {
         tokens = tokens.saturating_add(lexed.token_count(line) as u64);
     }
-    println!(rt; "{file} {bytes} {lines} {tokens}")?;
-    Ok(true)
+    tokens
 }
 
 // Whether a file's tokens are lexed again as they were.
 fn again<R: Files + AllocGlobal + Print>(rt: &R, file: &str) -> Result<bool> {
+    let first = lex_file(rt, file)?;
+    let second = lex_again(rt.alloc(), &first)?;
+    compare(rt, file, &first, &second)
+}
+
+fn lex_file<R: Files + AllocGlobal>(rt: &R, file: &str) -> Result<Lexed> {
     let body = read_body(rt, file)?;
-    let first = lex(rt.alloc(), &body, false)?;
-    let text = joined(rt.alloc(), &first)?;
+    Ok(lex(rt.alloc(), &body, false)?)
+}
+
+// Lexes the tokens of a file from their spellings.
+fn lex_again(alloc: Global, file: &Lexed) -> Result<Lexed> {
+    let text = joined(alloc, file)?;
     ensure!(
         text.len() <= BODY_LIMIT,
         "its tokens take more than {BODY_LIMIT} bytes"
     );
-    let second = lex(rt.alloc(), &text, false)?;
-    match first_difference(&first, &second) {
-        None => {
-            println!(rt; "{file} same")?;
-            Ok(true)
-        }
-        Some(difference) => {
-            print_difference(rt, file, &first, &second, difference)?;
-            Ok(false)
-        }
-    }
+    Ok(lex(alloc, &text, false)?)
 }
 
-fn print_difference<R: Print>(
+// Whether two lexings of a file have the same tokens. It prints that, or what first differs.
+fn compare<R: Print>(rt: &R, file: &str, first: &Lexed, second: &Lexed) -> Result<bool> {
+    let difference = first_difference(first, second);
+    print_outcome(rt, file, first, second, difference)?;
+    Ok(difference.is_none())
+}
+
+fn print_outcome<R: Print>(
     rt: &R,
     file: &str,
     first: &Lexed,
     second: &Lexed,
-    difference: Difference,
+    difference: Option<Difference>,
 ) -> io::Result<()> {
     match difference {
-        Difference::Place { line, place } => {
-            let number = line.saturating_add(1);
-            let before = shown(first.token(line, place));
-            let after = shown(second.token(line, place));
-            println!(rt; "{file} differs at {number}: `{before}`, then `{after}`")
+        None => println!(rt; "{file} same"),
+        Some(Difference::Place { line, place }) => {
+            let before = first.token(line, place);
+            let after = second.token(line, place);
+            print_tokens(rt, file, line, before, after)
         }
-        Difference::Lines => {
-            let before = first.line_count();
-            let after = second.line_count();
-            println!(rt; "{file} differs at {before}: {before} lines, then {after}")
-        }
+        Some(Difference::Lines) => print_lines(rt, file, first.line_count(), second.line_count()),
     }
+}
+
+// Prints two tokens that differ on a line.
+fn print_tokens<R: Print>(
+    rt: &R,
+    file: &str,
+    line: usize,
+    before: Option<TokenRef<'_>>,
+    after: Option<TokenRef<'_>>,
+) -> io::Result<()> {
+    let number = line.saturating_add(1);
+    let before = shown(before);
+    let after = shown(after);
+    println!(rt; "{file} differs at {number}: `{before}`, then `{after}`")
+}
+
+// Prints two numbers of lines that differ.
+fn print_lines<R: Print>(rt: &R, file: &str, before: usize, after: usize) -> io::Result<()> {
+    println!(rt; "{file} differs at {before}: {before} lines, then {after}")
 }
 
 // The spelling of a token, or no bytes where none is there.

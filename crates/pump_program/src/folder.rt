@@ -111,13 +111,18 @@ fn body_at<R: Files + AllocGlobal>(rt: &R, path: &[u8]) -> io::Result<Body>
         return Ok(Body::Absent);
     };
     match fs::metadata(rt, text) {
-        Ok(found) if !found.is_file() => return Ok(Body::Absent),
-        Ok(found) if found.len() > BODY_LIMIT as u64 => return Ok(Body::Large),
-        Ok(_) => {}
-        Err(e) if is_absent(e.kind()) => return Ok(Body::Absent),
-        Err(e) => return Err(e),
+        Ok(found) if !found.is_file() => Ok(Body::Absent),
+        Ok(found) if found.len() > BODY_LIMIT as u64 => Ok(Body::Large),
+        Ok(_) => read_file(rt, text),
+        Err(e) if is_absent(e.kind()) => Ok(Body::Absent),
+        Err(e) => Err(e),
     }
-    let bytes = fs::read(rt, text)?;
+}
+
+fn read_file<R: Files + AllocGlobal>(rt: &R, path: &str) -> io::Result<Body>
+    ensures { IfOk result IsSmall }
+{
+    let bytes = fs::read(rt, path)?;
     if bytes.len() > BODY_LIMIT {
         return Ok(Body::Large);
     }

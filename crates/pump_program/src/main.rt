@@ -11,7 +11,7 @@ ghost use Rattle.pump_run.specs.Run.{IsFresh};
 
 use daemon_serve::{MemWire, ServePeer};
 use folder::Folder;
-use io_edges::{FolderOuts, MemSpawner, Outs, StdSink, StdSource, Wire};
+use io_edges::{FolderOuts, MemSpawner, Outs, Sink, Source, StdSink, StdSource, Wire};
 use pump_run::{End, pump};
 use std::alloc::{AllocError, Global};
 use std::process::ExitCode;
@@ -41,16 +41,15 @@ fn main(rt: HostRuntime) -> io::Result<ExitCode> {
     let arguments = env::args(&rt)?.collect(rt.alloc())?;
     let words = words_of(rt.alloc(), &arguments)?;
     match words.as_slice() {
-        ["--help"] => {
-            println!(rt; "{HELP}")?;
-            Ok(ExitCode::SUCCESS)
-        }
-        ["--version"] => {
-            println!(rt; "pump_program 0.1.0")?;
-            Ok(ExitCode::SUCCESS)
-        }
-        _ => run(&rt, &rt, words.as_slice()),
+        ["--help"] => print_line(&rt, HELP),
+        ["--version"] => print_line(&rt, "pump_program 0.1.0"),
+        words => run(&rt, &rt, words),
     }
+}
+
+fn print_line<R: Print>(rt: &R, line: &str) -> io::Result<ExitCode> {
+    println!(rt; "{line}")?;
+    Ok(ExitCode::SUCCESS)
 }
 
 // The words behind the program's own name.
@@ -68,23 +67,35 @@ fn run<H: Threads + Wait + Sync>(
     rt: &HostRuntime,
     words: &[&str],
 ) -> io::Result<ExitCode> {
-    let alloc = rt.alloc();
-    // One client has one end.
-    let mut ends = Vec::new(alloc);
-    ends.push(new_end(rt)?)?;
+    let end = new_end(rt)?;
     let mut list = StdSource::new(rt);
     let mut report = StdSink::new(rt.clone()?);
-    let mut spawner = MemSpawner::new(alloc, Vec::new(alloc));
-    let status = pump(
-        handles,
-        alloc,
-        words,
-        &mut list,
-        &mut ends,
-        &mut spawner,
-        &mut report,
-    );
+    let status = run_over(handles, rt.alloc(), words, end, &mut list, &mut report)?;
     Ok(ExitCode::from(status))
+}
+
+// Runs the words over one end, as one client has, and answers the status.
+fn run_over<
+    T: Tree + Drop,
+    W: Wire + Drop,
+    O: Outs + Drop,
+    S: Source,
+    K: Sink,
+    H: Threads + Wait + Sync,
+>(
+    handles: &H,
+    alloc: Global,
+    words: &[&str],
+    end: End<T, W, O>,
+    list: &mut S,
+    report: &mut K,
+) -> Result<u8, AllocError>
+    requires { IsFresh (seen_end T.told T.Tree.faults T.reads W.talk W.state W.Wire.faults O.kept O.Outs.faults end) }
+{
+    let mut ends = Vec::new(alloc);
+    ends.push(end)?;
+    let mut spawner = MemSpawner::new(alloc, Vec::new(alloc));
+    Ok(pump(handles, alloc, words, list, &mut ends, &mut spawner, report))
 }
 
 // An end that wasn't used yet: the host's files, whose nodes are remembered, a daemon in this process, and the folder of outputs.

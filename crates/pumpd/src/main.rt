@@ -27,25 +27,28 @@ fn main(rt: HostRuntime) -> ExitCode {
     }
 }
 
-// Does what the words ask for, and answers the status.
 fn answer(rt: &HostRuntime) -> io::Result<u8> {
     let alloc = rt.alloc();
     let arguments = env::args(rt)?.collect(alloc)?;
     let words = words_of(alloc, &arguments)?;
-    match words.as_slice() {
-        ["--help"] => {
-            println!(rt; "{HELP}")?;
-            Ok(0)
-        }
-        ["--version"] => {
-            println!(rt; "pumpd 0.1.0")?;
-            Ok(0)
-        }
+    obey(rt, words.as_slice())
+}
+
+// Does what the words ask for, and answers the status.
+fn obey(rt: &HostRuntime, words: &[&str]) -> io::Result<u8> {
+    match words {
+        ["--help"] => print_line(rt, HELP),
+        ["--version"] => print_line(rt, "pumpd 0.1.0"),
         words => match daemon_words(words) {
             None => Ok(2),
             Some(Serve::Inetd) => serve_one(rt),
         },
     }
+}
+
+fn print_line<R: Print>(rt: &R, line: &str) -> io::Result<u8> {
+    println!(rt; "{line}")?;
+    Ok(0)
 }
 
 // The words behind the program's own name.

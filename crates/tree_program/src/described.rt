@@ -6,7 +6,7 @@ ghost use Rattle.tree_model.specs.Entries.{entry_fits, is_link_text, links_fit};
 use anyhow::{Result, bail};
 use base_types::Bytes;
 use std::alloc::{AllocError, Global};
-use tree_model::{CanonPath, Entry, MemTree, Tree, TreeError, Unnamed, locate};
+use tree_model::{CanonPath, Entry, Located, MemTree, Tree, TreeError, Unnamed, locate};
 
 /// What stands at a path.
 #[derive(Clone, Copy, Drop)]
@@ -138,10 +138,26 @@ fn answer<T: Tree>(alloc: Global, tree: &mut T, dir: &[u8], text: &[u8]) -> Resu
     let Some(dir) = CanonPath::read(alloc, dir)? else {
         bail!("a directory's path isn't canonical");
     };
-    match locate(alloc, tree, &dir, text) {
-        Ok(Some(found)) => Ok(Bytes::copy_of(alloc, found.real.bytes())?),
-        Ok(None) => Ok(Bytes::copy_of(alloc, b"-")?),
+    answer_from(alloc, tree, &dir, text)
+}
+
+fn answer_from<T: Tree>(
+    alloc: Global,
+    tree: &mut T,
+    dir: &CanonPath,
+    text: &[u8],
+) -> Result<Bytes> {
+    match locate(alloc, tree, dir, text) {
+        Ok(found) => Ok(shown(alloc, found)?),
         Err(TreeError::Memory) => Err(AllocError.into()),
         Err(_) => bail!("the tree failed"),
+    }
+}
+
+// The real path of what was located, or `-`.
+fn shown(alloc: Global, found: Option<Located>) -> Result<Bytes, AllocError> {
+    match found {
+        Some(found) => Bytes::copy_of(alloc, found.real.bytes()),
+        None => Bytes::copy_of(alloc, b"-"),
     }
 }

@@ -6,12 +6,13 @@ mod described;
 mod repeated;
 
 use anyhow::{Context, Result};
+use base_types::Bytes;
 use described::{answers, tree_of};
 use repeated::{repeat_search, repeat_words};
 use std::alloc::{AllocError, Global};
 use std::process::ExitCode;
 use std::rt::Files;
-use std::{env, fs};
+use std::{env, fs, io};
 
 const HELP: &str = "usage: tree_program locate FILE
        tree_program search DIRECTORIES TIMES
@@ -31,26 +32,7 @@ status: 0, 1 where something fails, 2 wrong words";
 fn main(rt: HostRuntime) -> Result<ExitCode> {
     let arguments = env::args(&rt)?.collect(rt.alloc())?;
     let words = words_of(rt.alloc(), &arguments)?;
-    match words.as_slice() {
-        ["--help"] => println!(rt; "{HELP}")?,
-        ["--version"] => println!(rt; "tree_program 0.1.0")?,
-        ["locate", file] => locate_all(&rt, file)?,
-        ["search", directories, times] => {
-            let (directories, times) = (directories.parse()?, times.parse()?);
-            let found = repeat_search(rt.alloc(), directories, times)?;
-            println!(rt; "{found} found")?;
-        }
-        ["words", directories, times] => {
-            let (directories, times) = (directories.parse()?, times.parse()?);
-            let read = repeat_words(rt.alloc(), directories, times)?;
-            println!(rt; "{read} read")?;
-        }
-        _ => {
-            eprintln!(rt; "{HELP}")?;
-            return Ok(ExitCode::from(2));
-        }
-    }
-    Ok(ExitCode::SUCCESS)
+    obey(&rt, words.as_slice())
 }
 
 // The words behind the program's own name.
@@ -62,14 +44,65 @@ fn words_of<'a>(alloc: Global, arguments: &'a Vec<String>) -> Result<Vec<&'a str
         .collect(alloc)
 }
 
+// Does what the words ask for, and answers the status.
+fn obey(rt: &HostRuntime, words: &[&str]) -> Result<ExitCode> {
+    match words {
+        ["--help"] => print_line(rt, HELP),
+        ["--version"] => print_line(rt, "tree_program 0.1.0"),
+        ["locate", file] => locate_all(rt, file),
+        ["search", directories, times] => print_found(rt, directories, times),
+        ["words", directories, times] => print_read(rt, directories, times),
+        _ => refuse(rt),
+    }
+}
+
+fn print_line<R: Print>(rt: &R, line: &str) -> Result<ExitCode> {
+    println!(rt; "{line}")?;
+    Ok(ExitCode::SUCCESS)
+}
+
+// Shows the help, as the words are wrong.
+fn refuse<R: Eprint>(rt: &R) -> Result<ExitCode> {
+    eprintln!(rt; "{HELP}")?;
+    Ok(ExitCode::from(2))
+}
+
 // Answers the questions of a file over its tree.
-fn locate_all<R: Files + AllocGlobal + Print>(rt: &R, file: &str) -> Result<()> {
-    let alloc = rt.alloc();
+fn locate_all<R: Files + AllocGlobal + Print>(rt: &R, file: &str) -> Result<ExitCode> {
     let text = fs::read(rt, file)?;
-    let mut tree = tree_of(alloc, &text)?.context("the lines make no tree")?;
-    for answer in answers(alloc, &mut tree, &text)? {
-        let shown = answer.as_slice().escape_ascii();
-        println!(rt; "{shown}")?;
+    let answers = answers_in(rt.alloc(), &text)?;
+    print_answers(rt, answers.as_slice())?;
+    Ok(ExitCode::SUCCESS)
+}
+
+// The answers to a text's questions about the tree that it describes.
+fn answers_in(alloc: Global, text: &[u8]) -> Result<Vec<Bytes>> {
+    let mut tree = tree_of(alloc, text)?.context("the lines make no tree")?;
+    answers(alloc, &mut tree, text)
+}
+
+fn print_answers<R: Print>(rt: &R, answers: &[Bytes]) -> io::Result<()> {
+    for answer in answers {
+        print_answer(rt, answer.as_slice())?;
     }
     Ok(())
+}
+
+fn print_answer<R: Print>(rt: &R, answer: &[u8]) -> io::Result<()> {
+    let shown = answer.escape_ascii();
+    println!(rt; "{shown}")
+}
+
+// Searches so often in so many directories, and prints how often the header was found.
+fn print_found<R: AllocGlobal + Print>(rt: &R, directories: &str, times: &str) -> Result<ExitCode> {
+    let found = repeat_search(rt.alloc(), directories.parse()?, times.parse()?)?;
+    println!(rt; "{found} found")?;
+    Ok(ExitCode::SUCCESS)
+}
+
+// Reads so often the words of a job with so many directories, and prints how often they gave one.
+fn print_read<R: AllocGlobal + Print>(rt: &R, directories: &str, times: &str) -> Result<ExitCode> {
+    let read = repeat_words(rt.alloc(), directories.parse()?, times.parse()?)?;
+    println!(rt; "{read} read")?;
+    Ok(ExitCode::SUCCESS)
 }
