@@ -1,6 +1,6 @@
 -- What the name at the head of pending tokens does, from what the code found, whoever answers.
 use Rattle.std.proofs.Common.{◌≡◌, ℕ, zero, suc, arith, refl, ◌+◌, Vec, Global, get_or, drop, drop-cons, drop_of_length-le, append-nil, add-one, ◌<◌, ◌≤◌, Bool, true, false, List, [], ◌∷◌, ◌++◌, map, length, ap, sym, ◌∙◌, Ok, Err, Option, Some, None}
-use Rattle.std.proofs.lemmas.List.{map-append}
+use Rattle.std.proofs.lemmas.List.{map-append, length-append}
 use Rattle.macro_expand.specs.declared.outcome.Mode.{Mode}
 use Rattle.macro_expand.specs.declared.marked.Role.TheVariants.{Name}
 use Rattle.macro_defs.specs.declared.definition.Shape.TheVariants.{Object, Function}
@@ -113,67 +113,71 @@ get_or-any (x ∷ xs) zero a b h = refl
 get_or-any (x ∷ xs) (suc i) a b h = get_or-any xs i a b (omega (arith, h))
 
 -- what the code's list says of argument `i`
-pub stands_is : (alone : List Bool) (count i : ℕ) (parts : List Part) (b : Bool) → length alone ≡ count →
+stands_is : (alone : List Bool) (count i : ℕ) (parts : List Part) (b : Bool) → length alone ≡ count →
     ((k : ℕ) → k < count → get_or alone k false ≡ stands_alone k None parts) → i < count → b ≡ get_or alone i b → stands_alone i None parts ≡ b
 stands_is alone count i parts b long each below is =
     sym (each i below) ∙ get_or-any alone i false b (rw long below) ∙ sym is
 
--- Turns of the loop over arguments, over the code's lists: `a` is the argument at `i`, and `next` is `out` with one more.
+-- the same of the next argument, where so many were expanded
+pub stands_next : (alone : List Bool) (count n : ℕ) (out left rest : List (Vec Kept Global)) (a : Vec Kept Global) (parts : List Part) (b : Bool) →
+    length alone ≡ count → ((k : ℕ) → k < count → get_or alone k false ≡ stands_alone k None parts) →
+    length out + length left ≡ length alone → left ≡ a ∷ rest → n ≡ length out → b ≡ get_or alone n b → stands_alone (length out) None parts ≡ b
+stands_next alone count n out left rest a parts b long each all is at found =
+    stands_is alone count (length out) parts b long each (omega (arith, all, ap length is, long)) (found ∙ ap (λ k. get_or alone k b) at)
+
+-- Turns of the loop over arguments, over the code's lists: `a` is the next argument, and `next` is `out` with one more.
 module _ {S : Type 0} (w : Answerer S) (s : S) (mode : Mode) (depth : ℕ) (t : Token) (parts : List Part)
-    (whole : Answered ExpandedEach S) (out : List (Vec Kept Global)) (written : List (Vec Kept Global)) (i units : ℕ)
-    (a : Vec Kept Global) (below : i < length written) (is : a ≡ get_or written i a)
-    (keeps : whole ≡ before_all (lists_of out) (arguments_for w s mode depth t parts i units (lists_of (drop i written)))) where
+    (whole : Answered ExpandedEach S) (out now rest : List (Vec Kept Global)) (units : ℕ)
+    (a : Vec Kept Global) (is : now ≡ a ∷ rest)
+    (keeps : whole ≡ before_all (lists_of out) (arguments_for w s mode depth t parts (length out) units (lists_of now))) where
   Left : S → ℕ → ℕ → List (List Marked) → Answered ExpandedEach S
   Left u j left args = arguments_for w u mode depth t parts j left args
 
-  rest_of : List (List Marked)
-  rest_of = lists_of (drop (suc i) written)
-
-  at_argument : whole ≡ before_all (lists_of out) (Left s i units (map marked_of a.items ∷ rest_of))
-  unfolding Left rest_of
-  at_argument =
-      keeps ∙ ap (λ q. before_all (lists_of out) (arguments_for w s mode depth t parts i units (lists_of q)))
-      (drop-cons written i a below ∙ ap (λ b. b ∷ drop (suc i) written) (sym is))
+  at_argument : whole ≡ before_all (lists_of out) (Left s (length out) units (map marked_of a.items ∷ lists_of rest))
+  unfolding Left
+  at_argument = keeps ∙ ap (λ q. before_all (lists_of out) (arguments_for w s mode depth t parts (length out) units (lists_of q))) is
 
   at_next : (next : List (Vec Kept Global)) (v : Vec Kept Global) (u : S) (left : ℕ) → next ≡ out ++ v ∷ [] →
-      whole ≡ before_all (lists_of out) (before_all (map marked_of v.items ∷ []) (Left u (suc i) left rest_of)) →
-      whole ≡ before_all (lists_of next) (arguments_for w u mode depth t parts (i + 1) left (lists_of (drop (i + 1) written)))
-  unfolding Left rest_of
+      whole ≡ before_all (lists_of out) (before_all (map marked_of v.items ∷ []) (Left u (suc (length out)) left (lists_of rest))) →
+      whole ≡ before_all (lists_of next) (arguments_for w u mode depth t parts (length next) left (lists_of rest))
+  unfolding Left
   at_next next v u left made h =
-      rw add-one (h ∙ before_all-lists (lists_of out) (map marked_of v.items) _
-      ∙ ap (λ q. before_all q (arguments_for w u mode depth t parts (suc i) left (lists_of (drop (suc i) written))))
-      (sym (map-append (λ (v : Vec Kept Global). map marked_of v.items) out (v ∷ [])) ∙ ap lists_of (sym made)))
+      h ∙ before_all-lists (lists_of out) (map marked_of v.items) _
+      ∙ ap (λ q. before_all q (arguments_for w u mode depth t parts (suc (length out)) left (lists_of rest)))
+      (sym (map-append (λ (v : Vec Kept Global). map marked_of v.items) out (v ∷ [])) ∙ ap lists_of (sym made))
+      ∙ ap (λ n. before_all (lists_of next) (arguments_for w u mode depth t parts n left (lists_of rest)))
+      (sym (ap length made ∙ length-append out (v ∷ []) ∙ add-one (length out)))
 
   pub turn_skipped : (next : List (Vec Kept Global)) (v : Vec Kept Global) → next ≡ out ++ v ∷ [] → v.items ≡ [] →
-      stands_alone i None parts ≡ false →
-      whole ≡ before_all (lists_of next) (arguments_for w s mode depth t parts (i + 1) units (lists_of (drop (i + 1) written)))
+      stands_alone (length out) None parts ≡ false →
+      whole ≡ before_all (lists_of next) (arguments_for w s mode depth t parts (length next) units (lists_of rest))
   unfolding Left
   turn_skipped next v made empty alone =
       at_next next v s units made (at_argument
-      ∙ ap (before_all (lists_of out)) (arguments_for-skipped w s mode depth t parts i units (map marked_of a.items) rest_of alone
-      ∙ ap (λ q. before_all (map marked_of q ∷ []) (Left s (suc i) units rest_of)) (sym empty)))
+      ∙ ap (before_all (lists_of out)) (arguments_for-skipped w s mode depth t parts (length out) units (map marked_of a.items) (lists_of rest) alone
+      ∙ ap (λ q. before_all (map marked_of q ∷ []) (Left s (suc (length out)) units (lists_of rest))) (sym empty)))
 
-  pub turn_deep : stands_alone i None parts ≡ true → 400 ≤ depth → whole ≡ record { result = Err (ByFailure (Deep t.line)); state = s }
+  pub turn_deep : stands_alone (length out) None parts ≡ true → 400 ≤ depth → whole ≡ record { result = Err (ByFailure (Deep t.line)); state = s }
   unfolding Left before_all and_then after_result
   turn_deep alone deep =
       at_argument ∙ ap (before_all (lists_of out))
-      (arguments_for-deep w s mode depth t parts i units (map marked_of a.items) rest_of alone deep)
+      (arguments_for-deep w s mode depth t parts (length out) units (map marked_of a.items) (lists_of rest) alone deep)
 
-  module _ (given : List Kept) (same : given ≡ a.items) (alone : stands_alone i None parts ≡ true) (shallow : depth < 400) where
+  module _ (given : List Kept) (same : given ≡ a.items) (alone : stands_alone (length out) None parts ≡ true) (shallow : depth < 400) where
     Then_more : Expanded → S → Answered ExpandedEach S
-    Then_more e u = before_all (e.tokens ∷ []) (Left u (suc i) e.units rest_of)
+    Then_more e u = before_all (e.tokens ∷ []) (Left u (suc (length out)) e.units (lists_of rest))
 
     at_expanded : whole ≡ before_all (lists_of out) (and_then (expanded_for w s mode (depth + 1) units (map marked_of given)) Then_more)
     unfolding Left Then_more
     at_expanded =
         at_argument
-        ∙ ap (before_all (lists_of out)) (arguments_for-alone w s mode depth t parts i units (map marked_of a.items) rest_of alone shallow)
+        ∙ ap (before_all (lists_of out)) (arguments_for-alone w s mode depth t parts (length out) units (map marked_of a.items) (lists_of rest) alone shallow)
         ∙ ap (λ q. before_all (lists_of out) (and_then (expanded_for w s mode (suc depth) units (map marked_of q)) Then_more)) (sym same)
         ∙ ap (λ q. before_all (lists_of out) (and_then (expanded_for w s mode q units (map marked_of given)) Then_more)) (sym (add-one depth))
 
     pub turn_expanded : (next : List (Vec Kept Global)) (v : Vec Kept Global) (u : S) (left : ℕ) → next ≡ out ++ v ∷ [] →
         expanded_for w s mode (depth + 1) units (map marked_of given) ≡ record { result = Ok (record { tokens = map marked_of v.items; units = left }); state = u } →
-        whole ≡ before_all (lists_of next) (arguments_for w u mode depth t parts (i + 1) left (lists_of (drop (i + 1) written)))
+        whole ≡ before_all (lists_of next) (arguments_for w u mode depth t parts (length next) left (lists_of rest))
     unfolding Then_more and_then after_result
     turn_expanded next v u left made expanded =
         at_next next v u left made (at_expanded ∙ ap (λ r. before_all (lists_of out) (and_then r Then_more)) expanded)
@@ -183,15 +187,20 @@ module _ {S : Type 0} (w : Answerer S) (s : S) (mode : Mode) (depth : ℕ) (t : 
     turn_stops u e stops =
         Stops-same e u _ _ (λ f failed. at_expanded ∙ ap (λ r. before_all (lists_of out) (and_then r Then_more)) failed) stops
 
+-- an argument goes from those that are left to those that were expanded
+pub one_moved : (out next left rest : List (Vec Kept Global)) (v a : Vec Kept Global) (all : ℕ) → next ≡ out ++ v ∷ [] → left ≡ a ∷ rest →
+    length out + length left ≡ all → length next + length rest ≡ all
+one_moved out next left rest v a all made is whole =
+    omega (arith, ap length made ∙ length-append out (v ∷ []), ap length is, whole)
+
 -- where every argument was expanded
 pub arguments_end : {S : Type 0} (w : Answerer S) (s : S) (mode : Mode) (depth : ℕ) (t : Token) (parts : List Part)
-    (whole : Answered ExpandedEach S) (out : List (List Marked)) (written : List (Vec Kept Global)) (i units : ℕ) → length written ≤ i →
-    whole ≡ before_all out (arguments_for w s mode depth t parts i units (lists_of (drop i written))) →
+    (whole : Answered ExpandedEach S) (out : List (List Marked)) (now : List (Vec Kept Global)) (i units : ℕ) → now ≡ [] →
+    whole ≡ before_all out (arguments_for w s mode depth t parts i units (lists_of now)) →
     whole ≡ record { result = Ok (record { lists = out; units = units }); state = s }
 unfolding before_all and_then after_result
-arguments_end w s mode depth t parts whole out written i units past keeps =
+arguments_end w s mode depth t parts whole out now i units none keeps =
     keeps
-    ∙ ap (λ q. before_all out (arguments_for w s mode depth t parts i units (lists_of q)))
-    (drop_of_length-le written past)
+    ∙ ap (λ q. before_all out (arguments_for w s mode depth t parts i units (lists_of q))) none
     ∙ ap (before_all out) (arguments_for-nil w s mode depth t parts i units)
     ∙ ap (λ q. record { result = Ok (record { lists = q; units = units }); state = s }) (append-nil out)

@@ -1,5 +1,6 @@
 -- How a replacement's pieces are made, part by part, and joined.
-use Rattle.std.proofs.Common.{◌≡◌, ℕ, Vec, Global, IfOk, IfErr, ◌+◌, ◌<◌, ◌≤◌, List, [], ◌++◌, map, length, get_or, drop, ap, sym, ◌∙◌, subst, Option, Some, None, Result, Ok, Err, drop_of_length-le, ◌&&◌, ◌||◌, bytes_eq, false}
+use Rattle.std.proofs.Common.{◌≡◌, ℕ, Vec, Global, IfOk, IfErr, ◌+◌, ◌<◌, ◌≤◌, List, [], ◌∷◌, ◌++◌, map, length, get_or, drop, ap, sym, ◌∙◌, subst, Option, Some, None, Result, Ok, Err, drop_of_length-le, ◌&&◌, ◌||◌, bytes_eq, Bool, true, false, refl, if◌then◌else◌}
+use Rattle.std.specs.List.{list_any}
 use mathlib.Core.Path.{fun_ext}
 use Rattle.pp_tokens.specs.declared.Token.{Token}
 use Rattle.macro_expand.specs.declared.marked.Marked.{Marked as Kept}
@@ -7,10 +8,12 @@ use Rattle.macro_expand.specs.declared.replace.Part.{Part as KeptPart}
 use Rattle.macro_expand.specs.declared.outcome.RunError.{RunError}
 use Rattle.macro_expand.specs.declared.outcome.RunError.TheVariants.{Count as CountError, Unclosed as UnclosedError, Paste as PasteError, Deep as DeepError, Work as WorkError, Presumed as PresumedError, Memory}
 use Rattle.macro_expand.specs.Asking.{Failure, Paste}
-use Rattle.macro_expand.specs.Replacement.{Marked, Names, with_name, common_names, Part, Piece, Arguments, pieces_of_part, pieces_of, joined, put_in_for, replacement, object_parts}
+use Rattle.macro_expand.specs.Replacement.{Marked, Names, unmarked, with_space, argument_at, is_join, first_part, with_name, common_names, Part, Plain, Argument, Spelling, Join, Piece, Real, Arguments, pieces_of_part, pieces_of, joined, put_in_for, replacement, object_parts}
 use Rattle.macro_expand.specs.Expansion.{object_replacement, call_replacement}
 use Rattle.macro_expand.specs.Sets.{names_in}
-use Rattle.macro_expand.specs.Seen.{part_seen, parts_seen, marked_of, call_replaced_by, Reports, ReportsPaste}
+use Rattle.macro_expand.specs.Seen.{part_seen, parts_seen, marked_of, call_replaced_by, KeepsWritten, Reports, ReportsPaste}
+use Rattle.macro_expand.specs.Parts.{takes_written}
+use Rattle.macro_defs.specs.Marks.{is_comma}
 use Rattle.macro_expand.proofs.PartLemmas.{from_here}
 use Rattle.macro_expand.proofs.StringLemmas.{grows, nothing_left}
 
@@ -59,6 +62,62 @@ module _ (t : Token) (hidden : Names) (parts : List Part) (args : Arguments) (pi
   replacement-fails PresumedError r = absurd r
   replacement-fails Memory r = tt
 
+-- Where no part takes an argument as it is written, none is needed.
+
+no_truth : true ≡ false → ⊥
+no_truth e = subst is_true e tt
+  where
+    is_true : Bool → Type 0
+    is_true b = elim b [ true ↦ Unit {0} | false ↦ ⊥ ]
+
+no_join : (ps : List Part) → list_any takes_written ps ≡ false → is_join (first_part ps) ≡ false
+no_join [] none = refl
+no_join (Plain t ∷ ps) none = refl
+no_join (Argument i space ∷ ps) none = refl
+no_join (Spelling i space ∷ ps) none = absurd (no_truth none)
+no_join (Join ∷ ps) none = absurd (no_truth none)
+
+kept_comma : {A : Type 0} (comma join variable empty : Bool) (x y : A) → join ≡ false →
+    (if comma && join && variable && empty then x else y) ≡ y
+kept_comma false join variable empty x y apart = refl
+kept_comma true false variable empty x y apart = refl
+kept_comma true true variable empty x y apart = absurd (no_truth apart)
+
+expanded_alone : {A : Type 0} (left right : Bool) (x y : A) → left ≡ false → right ≡ false → (if left || right then x else y) ≡ y
+expanded_alone false false x y l r = refl
+expanded_alone true right x y l r = absurd (no_truth l)
+expanded_alone false true x y l r = absurd (no_truth r)
+
+pieces_of-unwritten : (written written' expanded : List (List Marked)) (variable : Option ℕ) (left : Option Part) (ps : List Part) →
+    is_join left ≡ false → list_any takes_written ps ≡ false →
+    pieces_of (record { written = written; expanded = expanded; variable = variable }) left ps
+    ≡ pieces_of (record { written = written'; expanded = expanded; variable = variable }) left ps
+unfolding pieces_of
+pieces_of-unwritten written written' expanded variable left [] apart none = refl
+pieces_of-unwritten written written' expanded variable left (Plain t ∷ ps) apart none =
+    ap (λ q. q ++ pieces_of (record { written = written; expanded = expanded; variable = variable }) (Some (Plain t)) ps)
+    (kept_comma (is_comma t) (is_join (first_part ps)) _ _ [] (Real (unmarked t) ∷ []) (no_join ps none)
+    ∙ sym (kept_comma (is_comma t) (is_join (first_part ps)) _ _ [] (Real (unmarked t) ∷ []) (no_join ps none)))
+    ∙ ap (λ q. pieces_of_part (record { written = written'; expanded = expanded; variable = variable }) left (Plain t) ps ++ q)
+    (pieces_of-unwritten written written' expanded variable (Some (Plain t)) ps refl none)
+pieces_of-unwritten written written' expanded variable left (Argument i space ∷ ps) apart none =
+    ap (λ q. q ++ pieces_of (record { written = written; expanded = expanded; variable = variable }) (Some (Argument i space)) ps)
+    (expanded_alone (is_join left) (is_join (first_part ps)) _ (map Real (with_space space (argument_at i expanded))) apart (no_join ps none)
+    ∙ sym (expanded_alone (is_join left) (is_join (first_part ps)) _ (map Real (with_space space (argument_at i expanded))) apart (no_join ps none)))
+    ∙ ap (λ q. pieces_of_part (record { written = written'; expanded = expanded; variable = variable }) left (Argument i space) ps ++ q)
+    (pieces_of-unwritten written written' expanded variable (Some (Argument i space)) ps refl none)
+pieces_of-unwritten written written' expanded variable left (Spelling i space ∷ ps) apart none = absurd (no_truth none)
+pieces_of-unwritten written written' expanded variable left (Join ∷ ps) apart none = absurd (no_truth none)
+
+pub keeps_none : (parts : List Part) (written : List (List Marked)) → list_any takes_written parts ≡ false → KeepsWritten parts written []
+unfolding call_replacement replacement
+keeps_none parts written none t variable close expanded =
+    ap (λ ps. put_in t.token (with_name t.token.text (common_names (names_in t.hidden) close.hidden)) (joined None false ps))
+    (pieces_of-unwritten [] written expanded variable None parts refl none)
+
+pub keeps_all : (parts : List Part) (written kept : List (List Marked)) → kept ≡ written → KeepsWritten parts written kept
+keeps_all parts written kept same t variable close expanded = ap (λ w. call_replaced_by t parts variable w close expanded) same
+
 -- what a name is replaced by, by a hide set that code keeps
 
 pub object-same : (t : Kept) (body : List Token) (hidden : List (List ℕ)) (parts : List Part) →
@@ -99,3 +158,10 @@ pub call-hides : {E : Type 0} (r : Result (List (List ℕ)) E) (name text : List
     IfOk r (λ h. (n : List ℕ) → names_in h n ≡ with_name text (common_names t close) n)
 call-hides (Ok h) name text t close both same common with = λ n. with n ∙ ap (λ w. bytes_eq n w || names_in both n) same ∙ ap (λ b. bytes_eq n text || b) (common n)
 call-hides (Err e) name text t close both same common with = with
+
+-- what is kept of the arguments as written gives what they give
+pub written_is : (t : Kept) (parts : List Part) (variable : Option ℕ) (written kept expanded : List (List Marked)) (close close' : Kept) →
+    KeepsWritten parts written kept → close' ≡ close →
+    call_replaced_by t parts variable kept (marked_of close') expanded ≡ call_replaced_by t parts variable written (marked_of close) expanded
+written_is t parts variable written kept expanded close close' keeps same =
+    ap (λ c. call_replaced_by t parts variable kept (marked_of c) expanded) same ∙ keeps t variable (marked_of close) expanded

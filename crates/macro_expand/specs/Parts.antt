@@ -1,5 +1,5 @@
 -- What one token of a replacement list stands for (6.10.3.1 to 6.10.3.3), as code reads it.
-use Rattle.std.specs.Prelude.{◌≡◌, ◌<◌, ℕ, Bool, false, ◌||◌, List, length, get_or, Option, Some, None, if◌then◌else◌}
+use Rattle.std.specs.Prelude.{◌≡◌, ◌<◌, ℕ, Bool, true, false, ◌||◌, List, length, get_or, Option, Some, None, if◌then◌else◌}
 use Rattle.pp_tokens.specs.declared.Token.{Token}
 use Rattle.macro_defs.specs.Marks.{Pasting, mark_of, is_hash}
 use Rattle.macro_expand.specs.Replacement.{Part, Plain, Argument, Spelling, Join, argument_named, is_alone}
@@ -30,3 +30,10 @@ Marks old new joined p right =
     (length new ≡ length old)
     × ((i : ℕ) → i < length old →
     get_or new i false ≡ (get_or old i false || is_alone i (if joined then Some Join else None) p right))
+
+-- whether a part takes an argument as it is written, or may do so to the part beside it (6.10.3.2, 6.10.3.3)
+abbrev pub takes_written : Part → Bool
+takes_written (Plain t) = false
+takes_written (Argument i space) = false
+takes_written (Spelling i space) = true
+takes_written Join = true

@@ -63,6 +63,12 @@ abbrev pub call_replaced_by : Kept → List Part → Option ℕ → List (List M
 call_replaced_by t parts variable written close expanded =
     call_replacement (marked_of t) parts variable (record { within = []; close = close; after = [] }) written expanded
 
+-- what is kept of arguments as written gives the same replacements as all of them
+abbrev pub KeepsWritten : List Part → List (List Marked) → List (List Marked) → Type 0
+KeepsWritten parts written kept =
+    (t : Kept) (variable : Option ℕ) (close : Marked) (expanded : List (List Marked)) →
+    call_replaced_by t parts variable kept close expanded ≡ call_replaced_by t parts variable written close expanded
+
 -- the parts that code keeps
 abbrev pub part_seen : KeptPart → Part
 part_seen (KeptPlain t) = Plain (without_line t.now)

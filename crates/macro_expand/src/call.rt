@@ -5,11 +5,14 @@ ghost use Rattle.macro_expand.specs.Replacement as spec;
 ghost use Rattle.macro_expand.specs.Replacement.{Marked as MarkedToken, after_open, arguments_of, call_in};
 ghost use Rattle.macro_expand.specs.Reading as reading;
 ghost use Rattle.macro_expand.specs.Reading.{call_read, arguments_seen, cut_from};
-ghost use Rattle.macro_expand.specs.Seen.{marked_of, lists_of, ReadsCall, RefusesCall};
+ghost use Rattle.std.specs.List.{list_any};
+ghost use Rattle.macro_expand.specs.Parts.{takes_written};
+ghost use Rattle.macro_expand.specs.Seen.{marked_of, lists_of, part_seen, parts_seen, ReadsCall, RefusesCall, KeepsWritten};
 
 use crate::marked::Marked;
 use crate::operand::is_mark;
 use crate::outcome::RunError;
+use crate::replace::Part;
 use base_types::Bytes;
 use pp_tokens::Token;
 use std::alloc::{AllocError, Global};
@@ -44,6 +47,71 @@ pub(crate) fn read_call(
         return Err(miscounted(alloc, t)?);
     };
     Ok(ReadCall { written, close })
+}
+
+// Whether a part takes an argument as it is written, or may do so to the part beside it (6.10.3.2, 6.10.3.3).
+fn takes_written(p: &Part) -> bool
+    ensures { result ≡ takes_written (part_seen p.now) }
+{
+    matches!(p, Part::Spelling(_, _) | Part::Join)
+}
+
+fn take_written(parts: &[Part]) -> bool
+    ensures { result ≡ list_any takes_written (parts_seen parts.now) }
+{
+    for p in parts {
+        if takes_written(p) {
+            return true;
+        }
+    }
+    false
+}
+
+// A copy of the tokens.
+fn copied(alloc: Global, ts: &[Marked]) -> Result<Vec<Marked>, AllocError>
+    ensures { IfOk result (λ copy. copy.items ≡ ts.now) }
+{
+    let mut copy = Vec::with_capacity(alloc, ts.len())?;
+    for t in ts {
+        copy.push(t.copy(alloc)?)?;
+    }
+    Ok(copy)
+}
+
+fn each_copied(alloc: Global, lists: &[Vec<Marked>]) -> Result<Vec<Vec<Marked>>, AllocError>
+    ensures { IfOk result (λ copies. lists_of copies.items ≡ lists_of lists.now) }
+{
+    let mut copies = Vec::new(alloc);
+    for list in lists {
+        copies.push(copied(alloc, list.as_slice())?)?;
+    }
+    Ok(copies)
+}
+
+// The arguments of a call, to be expanded, and the call with what its replacement needs of them as written: nothing where
+// there is no `#` and no `##`, so that they are moved.
+pub(crate) fn with_kept(
+    alloc: Global,
+    parts: &[Part],
+    call: ReadCall,
+) -> Result<(Vec<Vec<Marked>>, ReadCall), AllocError>
+    ensures written { IfOk result (λ r. lists_of r.0.items ≡ lists_of call.written.items) }
+    ensures close { IfOk result (λ r. r.1.close ≡ call.close) }
+    ensures kept { IfOk result (λ r. KeepsWritten (parts_seen parts.now) (lists_of call.written.items) (lists_of r.1.written.items)) }
+{
+    let ReadCall { written, close } = call;
+    let kept = if take_written(parts) {
+        each_copied(alloc, written.as_slice())?
+    } else {
+        Vec::new(alloc)
+    };
+    Ok((
+        written,
+        ReadCall {
+            written: kept,
+            close,
+        },
+    ))
 }
 
 fn unclosed(alloc: Global, t: &Marked) -> Result<RunError, AllocError>

@@ -10,7 +10,7 @@ ghost use Rattle.macro_expand.specs.Seen.{marked_of, parts_seen, lists_of, Gives
 
 use crate::answers::{Answers, Presumed, TablePlace};
 use crate::builtin::{expand_file_name, expand_line_number};
-use crate::call::{read_call, take_open};
+use crate::call::{read_call, take_open, with_kept};
 use crate::hide_set::HideSet;
 use crate::marked::{Marked, Role, copied_token};
 use crate::operand::{expand_defined, has_operand};
@@ -90,17 +90,6 @@ fn put_back(pending: &mut VecDeque<Marked>, mut made: Vec<Marked>) -> Result<(),
     Ok(())
 }
 
-// A copy of an argument.
-fn copied(alloc: Global, ts: &[Marked]) -> Result<VecDeque<Marked>, AllocError>
-    ensures { IfOk result (λ q. q.items ≡ ts.now) }
-{
-    let mut q = VecDeque::new(alloc);
-    for t in ts {
-        q.push_back(t.copy(alloc)?)?;
-    }
-    Ok(q)
-}
-
 // The arguments of a call of `t`, expanded by themselves where their parameters stand alone (6.10.3.1); for the others no tokens.
 #[cycle(expanding)]
 fn expand_arguments<S, A: Answers<S>>(
@@ -111,25 +100,26 @@ fn expand_arguments<S, A: Answers<S>>(
     depth: u32,
     t: &Marked,
     parts: &[Part],
-    written: &[Vec<Marked>],
+    written: Vec<Vec<Marked>>,
     work: &mut Work,
 ) -> Result<Vec<Vec<Marked>>, RunError>
     requires { depth ≤ 400 }
     ensures ok { IfOk result (λ out. arguments_for (A.answerer source.now) answers.old mode depth t.now.token
-        (parts_seen parts.now) 0 work.old.left (lists_of written.now)
+        (parts_seen parts.now) 0 work.old.left (lists_of written.items)
         ≡ record { result = Ok (record { lists = lists_of out.items; units = work.new.left }); state = answers.new }) }
     ensures spends { work.new.left ≤ work.old.left }
     ensures err { IfErr result (λ e. Stops e answers.new (arguments_for (A.answerer source.now) answers.old mode depth t.now.token
-        (parts_seen parts.now) 0 work.old.left (lists_of written.now))) }
+        (parts_seen parts.now) 0 work.old.left (lists_of written.items))) }
 {
     let alone = standing_alone(alloc, parts, written.len())?;
+    let mut left = VecDeque::from_vec(written);
     let mut out = Vec::new(alloc);
-    for (i, a) in written.iter().enumerate() {
-        if alone[i] {
+    while let Some(a) = left.pop_front() {
+        if alone[out.len()] {
             if depth >= DEEPEST {
                 return Err(RunError::Deep { line: t.token.line });
             }
-            let given = copied(alloc, a.as_slice())?;
+            let given = VecDeque::from_vec(a);
             let expanded = expand_list(alloc, source, answers, mode, depth + 1, given, work)?;
             put_list(&mut out, expanded)?;
         } else {
@@ -183,7 +173,7 @@ fn replace_name<S, A: Answers<S>>(
             let call = read_call(alloc, t, names, *variadic, pending)?;
             let list = read_parts(alloc, names, d.body())?;
             let parts = list.as_slice();
-            let written = call.written.as_slice();
+            let (written, call) = with_kept(alloc, parts, call)?;
             let expanded = expand_arguments(
                 alloc, source, answers, mode, depth, t, parts, written, work,
             )?;

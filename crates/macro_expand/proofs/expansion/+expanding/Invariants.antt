@@ -1,4 +1,4 @@
-use Rattle.std.proofs.Common.{◌≡◌, ◌+◌, ◌-◌, ◌*◌, ◌≤◌, map, drop, deque_len}
+use Rattle.std.proofs.Common.{◌≡◌, ◌+◌, ◌-◌, ◌*◌, ◌≤◌, map, length, deque_len}
 use Rattle.macro_expand.specs.Answered.{before, expanded_for, arguments_for}
 use Rattle.macro_expand.specs.Seen.{marked_of, lists_of, parts_seen}
 use Rattle.macro_expand.proofs.AnsweredLaws.{before_all}
@@ -21,12 +21,15 @@ abbrev pub decreases-expand_arguments : goal.decreases-expand_arguments
 decreases-expand_arguments g l = 5 * (400 - l.depth)
 
 -- the arguments expanded so far, before what the others become with the work that is left
-abbrev pub invariant-expand_arguments-loop-i : goal.invariant-expand_arguments-loop-i
-invariant-expand_arguments-loop-i g l =
-    (arguments_for (g.A.Answers.answerer l.source) l.initial.answers l.mode l.depth l.t.token (parts_seen l.parts) 0 l.initial.work.left (lists_of l.written)
+abbrev pub invariant-expand_arguments-loop-a : goal.invariant-expand_arguments-loop-a
+invariant-expand_arguments-loop-a g l =
+    (arguments_for (g.A.Answers.answerer l.source) l.initial.answers l.mode l.depth l.t.token (parts_seen l.parts) 0 l.initial.work.left (lists_of l.fn.written.items)
     ≡ before_all (lists_of l.out.items)
-    (arguments_for (g.A.Answers.answerer l.source) l.answers l.mode l.depth l.t.token (parts_seen l.parts) l.i l.work.left (lists_of (drop l.i l.written))))
-    × (l.work.left ≤ l.initial.work.left)
+    (arguments_for (g.A.Answers.answerer l.source) l.answers l.mode l.depth l.t.token (parts_seen l.parts) (length l.out.items) l.work.left (lists_of l.left.items)))
+    × ((length l.out.items + length l.left.items ≡ length l.alone.items) × (l.work.left ≤ l.initial.work.left))
+
+abbrev pub decreases-expand_arguments-loop-a : goal.decreases-expand_arguments-loop-a
+decreases-expand_arguments-loop-a g l = deque_len l.left
 
 -- the tokens put out so far, before what the pending tokens become with the work that is left
 abbrev pub invariant-expand_list-loop-t : goal.invariant-expand_list-loop-t
