@@ -1,13 +1,12 @@
 //! The program: counts the tokens of C files, or lexes each file again from its tokens.
 #![tactic(auto)]
 
-mod body;
 mod tokens;
 
 use anyhow::{Result, ensure};
-use body::{BODY_LIMIT, read_body};
+use command_line::{BODY_LIMIT, read_body, refuse, show, words_of};
 use pp_tokens::{Lexed, TokenRef, lex};
-use std::alloc::{AllocError, Global};
+use std::alloc::Global;
 use std::process::ExitCode;
 use std::rt::Files;
 use std::slice::EscapeAscii;
@@ -32,32 +31,12 @@ fn main(rt: HostRuntime) -> Result<ExitCode> {
 // Does what the words ask for, and answers the status.
 fn obey<R: Files + AllocGlobal + Print + Eprint>(rt: &R, words: &[&str]) -> Result<ExitCode> {
     match words {
-        ["--help"] => print_line(rt, HELP),
-        ["--version"] => print_line(rt, "lex_program 0.1.0"),
+        ["--help"] => Ok(show(rt, HELP)?),
+        ["--version"] => Ok(show(rt, "lex_program 0.1.0")?),
         ["count", first, files @ ..] => each(rt, Task::Count, first, files),
         ["again", first, files @ ..] => each(rt, Task::Again, first, files),
-        _ => refuse(rt),
+        _ => Ok(refuse(rt, HELP)?),
     }
-}
-
-fn print_line<R: Print>(rt: &R, line: &str) -> Result<ExitCode> {
-    println!(rt; "{line}")?;
-    Ok(ExitCode::SUCCESS)
-}
-
-// Shows the help, as the words are wrong.
-fn refuse<R: Eprint>(rt: &R) -> Result<ExitCode> {
-    eprintln!(rt; "{HELP}")?;
-    Ok(ExitCode::from(2))
-}
-
-// The words behind the program's own name.
-fn words_of<'a>(alloc: Global, arguments: &'a Vec<String>) -> Result<Vec<&'a str>, AllocError> {
-    arguments
-        .iter()
-        .skip(1)
-        .map(|word| word.as_str())
-        .collect(alloc)
 }
 
 // What is done with each file.

@@ -9,6 +9,7 @@ ghost use Rattle.std.specs.Prelude.{IfOk};
 ghost use Rattle.build_clients.specs.Outside.{seen_end};
 ghost use Rattle.pump_run.specs.Run.{IsFresh};
 
+use command_line::{show, words_of};
 use daemon_serve::{MemWire, ServePeer};
 use folder::Folder;
 use io_edges::{FolderOuts, MemSpawner, Outs, Sink, Source, StdSink, StdSource, Wire};
@@ -41,24 +42,10 @@ fn main(rt: HostRuntime) -> io::Result<ExitCode> {
     let arguments = env::args(&rt)?.collect(rt.alloc())?;
     let words = words_of(rt.alloc(), &arguments)?;
     match words.as_slice() {
-        ["--help"] => print_line(&rt, HELP),
-        ["--version"] => print_line(&rt, "pump_program 0.1.0"),
+        ["--help"] => show(&rt, HELP),
+        ["--version"] => show(&rt, "pump_program 0.1.0"),
         words => run(&rt, &rt, words),
     }
-}
-
-fn print_line<R: Print>(rt: &R, line: &str) -> io::Result<ExitCode> {
-    println!(rt; "{line}")?;
-    Ok(ExitCode::SUCCESS)
-}
-
-// The words behind the program's own name.
-fn words_of<'a>(alloc: Global, arguments: &'a Vec<String>) -> Result<Vec<&'a str>, AllocError> {
-    arguments
-        .iter()
-        .skip(1)
-        .map(|word| word.as_str())
-        .collect(alloc)
 }
 
 // Runs the words over the host's files, input and output.

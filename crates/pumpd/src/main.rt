@@ -1,9 +1,9 @@
 //! The daemon's program: one request on standard input, one reply on standard output.
 #![tactic(auto)]
 
+use command_line::{show, words_of};
 use daemon_serve::{Serve, daemon_words, inetd};
 use io_edges::{StdSink, StdSource};
-use std::alloc::{AllocError, Global};
 use std::io::ErrorKind;
 use std::process::ExitCode;
 use std::{env, io};
@@ -22,12 +22,12 @@ memory";
 
 fn main(rt: HostRuntime) -> ExitCode {
     match answer(&rt) {
-        Ok(status) => ExitCode::from(status),
+        Ok(status) => status,
         Err(error) => ExitCode::from(failure(&error)),
     }
 }
 
-fn answer(rt: &HostRuntime) -> io::Result<u8> {
+fn answer(rt: &HostRuntime) -> io::Result<ExitCode> {
     let alloc = rt.alloc();
     let arguments = env::args(rt)?.collect(alloc)?;
     let words = words_of(alloc, &arguments)?;
@@ -35,36 +35,22 @@ fn answer(rt: &HostRuntime) -> io::Result<u8> {
 }
 
 // Does what the words ask for, and answers the status.
-fn obey(rt: &HostRuntime, words: &[&str]) -> io::Result<u8> {
+fn obey(rt: &HostRuntime, words: &[&str]) -> io::Result<ExitCode> {
     match words {
-        ["--help"] => print_line(rt, HELP),
-        ["--version"] => print_line(rt, "pumpd 0.1.0"),
+        ["--help"] => show(rt, HELP),
+        ["--version"] => show(rt, "pumpd 0.1.0"),
         words => match daemon_words(words) {
-            None => Ok(2),
+            None => Ok(ExitCode::from(2)),
             Some(Serve::Inetd) => serve_one(rt),
         },
     }
 }
 
-fn print_line<R: Print>(rt: &R, line: &str) -> io::Result<u8> {
-    println!(rt; "{line}")?;
-    Ok(0)
-}
-
-// The words behind the program's own name.
-fn words_of<'a>(alloc: Global, arguments: &'a Vec<String>) -> Result<Vec<&'a str>, AllocError> {
-    arguments
-        .iter()
-        .skip(1)
-        .map(|word| word.as_str())
-        .collect(alloc)
-}
-
 // Serves one request from the host's input into its output.
-fn serve_one(rt: &HostRuntime) -> io::Result<u8> {
+fn serve_one(rt: &HostRuntime) -> io::Result<ExitCode> {
     let mut source = StdSource::new(rt);
     let mut sink = StdSink::new(rt.clone()?);
-    Ok(inetd(rt.alloc(), &mut source, &mut sink))
+    Ok(ExitCode::from(inetd(rt.alloc(), &mut source, &mut sink)))
 }
 
 // The status of an error of the host: a word that is no UTF-8 is a wrong word, and all but want of memory a failed write.

@@ -7,9 +7,10 @@ mod repeated;
 
 use anyhow::{Context, Result};
 use base_types::Bytes;
+use command_line::{refuse, show, words_of};
 use described::{answers, tree_of};
 use repeated::{repeat_search, repeat_words};
-use std::alloc::{AllocError, Global};
+use std::alloc::Global;
 use std::process::ExitCode;
 use std::rt::Files;
 use std::{env, fs, io};
@@ -35,36 +36,16 @@ fn main(rt: HostRuntime) -> Result<ExitCode> {
     obey(&rt, words.as_slice())
 }
 
-// The words behind the program's own name.
-fn words_of<'a>(alloc: Global, arguments: &'a Vec<String>) -> Result<Vec<&'a str>, AllocError> {
-    arguments
-        .iter()
-        .skip(1)
-        .map(|word| word.as_str())
-        .collect(alloc)
-}
-
 // Does what the words ask for, and answers the status.
 fn obey(rt: &HostRuntime, words: &[&str]) -> Result<ExitCode> {
     match words {
-        ["--help"] => print_line(rt, HELP),
-        ["--version"] => print_line(rt, "tree_program 0.1.0"),
+        ["--help"] => Ok(show(rt, HELP)?),
+        ["--version"] => Ok(show(rt, "tree_program 0.1.0")?),
         ["locate", file] => locate_all(rt, file),
         ["search", directories, times] => print_found(rt, directories, times),
         ["words", directories, times] => print_read(rt, directories, times),
-        _ => refuse(rt),
+        _ => Ok(refuse(rt, HELP)?),
     }
-}
-
-fn print_line<R: Print>(rt: &R, line: &str) -> Result<ExitCode> {
-    println!(rt; "{line}")?;
-    Ok(ExitCode::SUCCESS)
-}
-
-// Shows the help, as the words are wrong.
-fn refuse<R: Eprint>(rt: &R) -> Result<ExitCode> {
-    eprintln!(rt; "{HELP}")?;
-    Ok(ExitCode::from(2))
 }
 
 // Answers the questions of a file over its tree.
