@@ -26,110 +26,76 @@ fn reply_to(alloc: Global, bytes: &[u8], pieces: Vec<u32>) -> Result<Bytes, Allo
     Bytes::copy_of(alloc, sink.bytes())
 }
 
-// A first piece of `more` bytes and one, and all that is left.
-fn cut_behind(alloc: Global, more: u32) -> Result<Vec<u32>, AllocError>
-    requires { more < 1000 }
-    ensures { IfOk result (λ pieces. All (λ n. 0 < n) pieces.items) }
-{
-    let mut pieces = Vec::new(alloc);
-    pieces.push(more + 1)?;
-    pieces.push(1000)?;
-    Ok(pieces)
-}
-
 // Asserts what is replied to bytes that come in such pieces.
-fn replies(
-    rt: &impl Abort,
-    alloc: Global,
-    bytes: &[u8],
-    pieces: Vec<u32>,
-    reply: &str,
-) -> Result<(), AllocError>
+fn replies(rt: &impl Abort, alloc: Global, bytes: &[u8], pieces: Vec<u32>, reply: &str)
     requires { All (λ n. 0 < n) pieces.items }
 {
-    let got = reply_to(alloc, bytes, pieces)?;
-    assert_eq!(rt; got.as_slice(), reply.as_bytes());
-    Ok(())
+    let got = reply_to(alloc, bytes, pieces).expect(rt, "no memory");
+    check_reply(rt, got.as_slice(), reply);
+}
+
+fn check_reply(rt: &impl Abort, got: &[u8], reply: &str) {
+    let text = std::str::from_utf8(got).unwrap_or("?");
+    assert!(rt; text == reply, "{text} is replied in place of {reply}");
 }
 
 #[test]
-fn a_request_is_served_whole(rt: HostRuntime) -> Result<(), AllocError> {
-    let alloc = rt.alloc();
-    replies(&rt, alloc, REQUEST.as_bytes(), Vec::new(alloc), REPLY)
+fn a_request_is_served_whole(rt: HostRuntime) {
+    let pieces = Vec::new(rt.alloc());
+    replies(&rt, rt.alloc(), REQUEST.as_bytes(), pieces, REPLY);
 }
 
 #[test]
-fn a_request_is_served_byte_by_byte(rt: HostRuntime) -> Result<(), AllocError> {
-    let alloc = rt.alloc();
-    replies(&rt, alloc, REQUEST.as_bytes(), vec![in alloc; 1]?, REPLY)
+fn a_request_is_served_byte_by_byte(rt: HostRuntime) {
+    let pieces = vec![in rt.alloc(); 1].expect(&rt, "no memory");
+    replies(&rt, rt.alloc(), REQUEST.as_bytes(), pieces, REPLY);
 }
 
+// A first piece of `more` bytes and one, and then all that is left.
 #[test]
-fn a_request_is_served_cut_in_two_at_every_place(rt: HostRuntime) -> Result<(), AllocError> {
-    let alloc = rt.alloc();
+fn a_request_is_served_cut_in_two_at_every_place(rt: HostRuntime) {
     for more in 0..180u32 {
-        let pieces = cut_behind(alloc, more)?;
-        replies(&rt, alloc, REQUEST.as_bytes(), pieces, REPLY)?;
-    }
-    Ok(())
-}
-
-// A change of the request: bytes from a place up to another one, and what stands there instead.
-#[derive(Clone, Copy, Drop)]
-struct Change<'x> {
-    from: usize,
-    to: usize,
-    bytes: &'x str,
-}
-
-impl<'x> Change<'x> {
-    fn of(from: usize, to: usize, bytes: &'x str) -> Change<'x> {
-        Change { from, to, bytes }
+        let pieces = vec![in rt.alloc(); more + 1, 1000].expect(&rt, "no memory");
+        replies(&rt, rt.alloc(), REQUEST.as_bytes(), pieces, REPLY);
     }
 }
+
+// A change of the request: bytes from a place up to another one, what stands there instead, and what is replied.
+type Row<'x> = (usize, usize, &'x str, &'x str);
 
 // The request with a change.
-fn changed(alloc: Global, change: &Change<'_>) -> Result<Bytes, AllocError> {
-    let request = REQUEST.as_bytes();
-    let front = request.get(..change.from).unwrap_or(request);
-    let rest = request.get(change.to..).unwrap_or(request);
-    let mut bytes = Bytes::copy_of(alloc, front)?;
-    bytes.extend(change.bytes.as_bytes())?;
-    bytes.extend(rest)?;
-    Ok(bytes)
+fn changed(alloc: Global, from: usize, to: usize, bytes: &str) -> Result<String, AllocError> {
+    let front = REQUEST.get(..from).unwrap_or(REQUEST);
+    let rest = REQUEST.get(to..).unwrap_or(REQUEST);
+    format!(in alloc; "{front}{bytes}{rest}")
 }
 
-// A change, and what is replied to the request with it.
-type Row<'x> = (Change<'x>, &'x str);
-
-// Asserts what is replied to each changed request.
-fn refuses(rt: &impl Abort, alloc: Global, rows: &[Row<'_>]) -> Result<(), AllocError> {
-    for (change, reply) in rows {
-        let request = changed(alloc, change)?;
-        replies(rt, alloc, request.as_slice(), Vec::new(alloc), reply)?;
-    }
-    Ok(())
+// Asserts what is replied to a changed request.
+fn check_row(rt: &impl Abort, alloc: Global, row: &Row<'_>) {
+    let (from, to, bytes, reply) = *row;
+    let request = changed(alloc, from, to, bytes).expect(rt, "no memory");
+    replies(rt, alloc, request.as_bytes(), Vec::new(alloc), reply);
 }
 
 // The last two entries, the other way round.
 const EXCHANGED: &str = "NAME00000006/w/b.hFILE00000007int y;\n\
                          NAME00000006/w/a.cFILE00000016#include \"b.h\"\nint x;\n";
 
+const CHANGES: &[Row<'static>] = &[
+    (0, 12, "DIST00000003", "RFSE00000002"),
+    (0, 4, "DOST", "RFSE00000003"),
+    (12, 24, "CDIR0000000A", "RFSE00000004"),
+    (26, 38, "ARGC000003e9", "RFSE00000005"),
+    (91, 180, EXCHANGED, "RFSE00000006"),
+    (53, 91, "NFIL00000002", "RFSE00000007"),
+    (38, 53, "ARGV00000002-q", "RFSE00000008"),
+    (179, 180, "", "RFSE00000009"),
+    (180, 180, "more", REPLY),
+];
+
 #[test]
-fn what_is_wrong_is_refused_by_its_reason(rt: HostRuntime) -> Result<(), AllocError> {
-    refuses(
-        &rt,
-        rt.alloc(),
-        &[
-            (Change::of(0, 12, "DIST00000003"), "RFSE00000002"),
-            (Change::of(0, 4, "DOST"), "RFSE00000003"),
-            (Change::of(12, 24, "CDIR0000000A"), "RFSE00000004"),
-            (Change::of(26, 38, "ARGC000003e9"), "RFSE00000005"),
-            (Change::of(91, 180, EXCHANGED), "RFSE00000006"),
-            (Change::of(53, 91, "NFIL00000002"), "RFSE00000007"),
-            (Change::of(38, 53, "ARGV00000002-q"), "RFSE00000008"),
-            (Change::of(179, 180, ""), "RFSE00000009"),
-            (Change::of(180, 180, "more"), REPLY),
-        ],
-    )
+fn what_is_wrong_is_refused_by_its_reason(rt: HostRuntime) {
+    for row in CHANGES {
+        check_row(&rt, rt.alloc(), row);
+    }
 }

@@ -9,14 +9,16 @@ use pp_tokens::{Token, lex};
 use std::alloc::{AllocError, Global};
 use std::process::Abort;
 
-/// What a token is shown with: the space that stands before it, or its line.
+/// What is shown besides the tokens and the white space before them: nothing, each token's line, or behind them all the
+/// units of work that are left.
 #[derive(Clone, Copy, Drop)]
 pub enum Shows {
-    Space,
-    Line,
+    Spaces,
+    Lines,
+    Work,
 }
 
-/// How a text is expanded, and with what its tokens are shown.
+/// How a text is expanded, with how many units of work, and what is shown.
 #[derive(Clone, Copy, Drop)]
 pub struct Task {
     pub mode: Mode,
@@ -24,244 +26,201 @@ pub struct Task {
     pub shows: Shows,
 }
 
-/// The units of work that a whole text has.
-pub const UNITS: u64 = 20_000_000;
-
-/// Text with 20,000,000 units of work, its tokens with their spaces.
+/// Text with 20,000,000 units of work.
 pub const TEXT: Task = Task {
     mode: Mode::Text,
-    units: UNITS,
-    shows: Shows::Space,
+    units: 20_000_000,
+    shows: Shows::Spaces,
 };
 
-/// What a text became: the tokens of its runs up to the first error, that error, and the work left.
-#[derive(Drop)]
-pub struct Expanded {
-    pub text: Vec<u8>,
-    pub work: Work,
-}
-
-impl Expanded {
-    /// Whether this is the text, and so many units of work are left.
-    pub fn is(&self, text: &str, left: u64) -> bool {
-        self.work.left == left && self.text.as_slice() == text.as_bytes()
+/// Each case is what it says. A case is lines of C, and a line with `=> ` and what they become; a number before the `=> ` is
+/// the units of work, in place of the task's. Empty lines and lines that begin with `//` may stand before a case.
+pub fn check(rt: &impl Abort, alloc: Global, task: &Task, cases: &str) {
+    let mut body = String::new(alloc);
+    for line in cases.lines() {
+        read_line(rt, alloc, task, &mut body, line).expect(rt, "no memory");
+    }
+    if !body.is_empty() {
+        rt.panic("the last case has no result");
     }
 }
 
-/// The expansion of a text, whose `#define` and `#undef` lines are obeyed in order; those that define nothing are passed
-/// over.
-pub fn expansion(alloc: Global, body: &[u8], task: Task) -> Result<Expanded, AllocError>
+// A line of a case behind those that were read.
+fn read_line(
+    rt: &impl Abort,
+    alloc: Global,
+    task: &Task,
+    body: &mut String,
+    line: &str,
+) -> Result<(), AllocError> {
+    let Some((units, want)) = line.split_once("=> ") else {
+        return add_line(body, line);
+    };
+    gives(rt, alloc, &with_units(task, units), body.as_str(), want)?;
+    body.clear();
+    Ok(())
+}
+
+fn add_line(body: &mut String, line: &str) -> Result<(), AllocError> {
+    if body.is_empty() && (line.is_empty() || line.starts_with("//")) {
+        return Ok(());
+    }
+    writeln!(body, "{line}")
+}
+
+fn with_units(task: &Task, units: &str) -> Task {
+    match units.trim().parse() {
+        Ok(units) => Task { units, ..*task },
+        Err(_) => *task,
+    }
+}
+
+/// A text, done as the task says, is what is wanted.
+pub fn gives(
+    rt: &impl Abort,
+    alloc: Global,
+    task: &Task,
+    body: &str,
+    want: &str,
+) -> Result<(), AllocError> {
+    let mut expansion = Expansion::new(alloc, task)?;
+    expansion.gives(rt, alloc, body, want)
+}
+
+// A text in expansion: its macros, the work that is left, and what its runs became: the tokens of each, or its error.
+#[derive(Drop)]
+struct Expansion {
+    task: Task,
+    here: Presumed,
+    table: MacroTable,
+    work: Work,
+    text: String,
+}
+
+fn pieces_of(alloc: Global, body: &[u8]) -> Result<List<Piece>, AllocError>
     requires { length body.now ≤ 16777216 }
 {
-    let pieces = scan(alloc, &lex(alloc, body, false)?)?;
-    expand_pieces(alloc, pieces.as_slice(), task)
+    let lexed = lex(alloc, body, false)?;
+    scan(alloc, &lexed)
 }
 
-fn expand_pieces(alloc: Global, pieces: &[Piece], task: Task) -> Result<Expanded, AllocError> {
-    let mut table = MacroTable::initial(alloc)?;
-    let mut found = Expanded {
-        text: Vec::new(alloc),
-        work: Work { left: task.units },
-    };
-    for piece in pieces {
-        add_piece(alloc, &mut table, piece, task, &mut found)?;
+fn spelled(bytes: &Bytes) -> &str {
+    std::str::from_utf8(bytes.as_slice()).unwrap_or("?")
+}
+
+impl Expansion {
+    fn new(alloc: Global, task: &Task) -> Result<Expansion, AllocError> {
+        let name = Bytes::copy_of(alloc, b"/w/a.c")?;
+        Ok(Expansion {
+            task: *task,
+            here: Presumed { name, shift: 0 },
+            table: MacroTable::initial(alloc)?,
+            work: Work { left: task.units },
+            text: String::new(alloc),
+        })
     }
-    Ok(found)
-}
 
-// Adds what a run becomes, or obeys a line.
-fn add_piece(
-    alloc: Global,
-    table: &mut MacroTable,
-    piece: &Piece,
-    task: Task,
-    found: &mut Expanded,
-) -> Result<(), AllocError> {
-    match piece {
-        Piece::Run { tokens } => add_run(alloc, table, tokens, task, found),
-        Piece::Line { what, .. } => obey(alloc, table, what),
+    fn gives(
+        &mut self,
+        rt: &impl Abort,
+        alloc: Global,
+        body: &str,
+        want: &str,
+    ) -> Result<(), AllocError> {
+        assert!(rt; body.len() < 10_000);
+        self.add_body(alloc, body.as_bytes())?;
+        assert!(rt; self.text.as_str() == want, "{body}gives {}", self.text);
+        Ok(())
     }
-}
 
-fn obey(alloc: Global, table: &mut MacroTable, what: &Directive) -> Result<(), AllocError> {
-    match what {
-        Directive::Define(rest) => define(alloc, table, rest.as_slice()),
-        Directive::Undef(rest) => {
-            undefine(table, rest.as_slice());
-            Ok(())
+    // Adds what a text becomes, whose `#define` and `#undef` lines are obeyed in order; those that define nothing are passed
+    // over.
+    fn add_body(&mut self, alloc: Global, body: &[u8]) -> Result<(), AllocError>
+        requires { length body.now ≤ 16777216 }
+    {
+        let pieces = pieces_of(alloc, body)?;
+        self.add_pieces(alloc, pieces.as_slice())
+    }
+
+    fn add_pieces(&mut self, alloc: Global, pieces: &[Piece]) -> Result<(), AllocError> {
+        for piece in pieces {
+            self.add_piece(alloc, piece)?;
         }
-        _ => Ok(()),
-    }
-}
-
-fn define(alloc: Global, table: &mut MacroTable, rest: &[Token]) -> Result<(), AllocError> {
-    match read_define(alloc, rest) {
-        Ok((name, definition)) => table.define(name, definition),
-        Err(DefineError::Memory) => Err(AllocError),
-        Err(_) => Ok(()),
-    }
-}
-
-fn undefine(table: &mut MacroTable, rest: &[Token]) {
-    if let Some(name) = rest.first() {
-        if names_macro(name) {
-            table.undef(name.text.as_slice());
+        match self.task.shows {
+            Shows::Work => write!(self.text, ", {} left", self.work.left),
+            _ => Ok(()),
         }
     }
-}
 
-// Adds what a run becomes: its tokens, or its error.
-fn add_run(
-    alloc: Global,
-    table: &MacroTable,
-    run: &List<Token>,
-    task: Task,
-    found: &mut Expanded,
-) -> Result<(), AllocError> {
-    let here = Presumed {
-        name: Bytes::copy_of(alloc, b"/w/a.c")?,
-        shift: 0,
-    };
-    match expand(
-        alloc,
-        table,
-        run.as_slice(),
-        &here,
-        task.mode,
-        &mut found.work,
-    ) {
-        Ok(tokens) => add_tokens(alloc, &mut found.text, &tokens, task.shows),
-        Err(e) => add_error(alloc, &mut found.text, &e),
-    }
-}
-
-fn add_tokens(
-    alloc: Global,
-    text: &mut Vec<u8>,
-    tokens: &List<Token>,
-    shows: Shows,
-) -> Result<(), AllocError> {
-    for token in tokens.as_slice() {
-        match shows {
-            Shows::Space => add_spaced(text, token)?,
-            Shows::Line => add_lined(alloc, text, token)?,
+    // Adds what a run becomes, or obeys a line.
+    fn add_piece(&mut self, alloc: Global, piece: &Piece) -> Result<(), AllocError> {
+        match piece {
+            Piece::Run { tokens } => self.add_run(alloc, tokens.as_slice()),
+            Piece::Line { what, .. } => match what {
+                Directive::Define(rest) => self.define(alloc, rest.as_slice()),
+                Directive::Undef(rest) => Ok(self.undefine(rest.as_slice())),
+                _ => Ok(()),
+            },
         }
     }
-    Ok(())
-}
 
-// A token behind one space where its `space` is set, but for the first of all.
-fn add_spaced(text: &mut Vec<u8>, token: &Token) -> Result<(), AllocError> {
-    if token.space && !text.is_empty() {
-        text.push(b' ')?;
-    }
-    text.extend_from_slice(token.text.as_slice())
-}
-
-// A token's line and the token.
-fn add_lined(alloc: Global, text: &mut Vec<u8>, token: &Token) -> Result<(), AllocError> {
-    let line = token.line;
-    text.extend_from_slice(format!(in alloc; " {line}:")?.as_bytes())?;
-    text.extend_from_slice(token.text.as_slice())
-}
-
-// An error by its name and what it has.
-fn add_error(alloc: Global, text: &mut Vec<u8>, error: &ExpandError) -> Result<(), AllocError> {
-    match error {
-        ExpandError::Count { name, line } => add_named(alloc, text, b" Count ", name, *line),
-        ExpandError::Unclosed { name, line } => add_named(alloc, text, b" Unclosed ", name, *line),
-        ExpandError::Paste { left, right, line } => {
-            add_joined(text, left)?;
-            add_named(alloc, text, b" ", right, *line)
+    fn define(&mut self, alloc: Global, rest: &[Token]) -> Result<(), AllocError> {
+        match read_define(alloc, rest) {
+            Ok((name, definition)) => self.table.define(name, definition),
+            Err(DefineError::Memory) => Err(AllocError),
+            Err(_) => Ok(()),
         }
-        ExpandError::Deep { line } => {
-            text.extend_from_slice(b" Deep")?;
-            add_line(alloc, text, *line)
+    }
+
+    fn undefine(&mut self, rest: &[Token]) {
+        if let Some(name) = rest.first() {
+            if names_macro(name) {
+                self.table.undef(name.text.as_slice());
+            }
         }
-        ExpandError::Work => text.extend_from_slice(b" Work"),
-        ExpandError::Memory => Err(AllocError),
     }
-}
 
-fn add_joined(text: &mut Vec<u8>, left: &Bytes) -> Result<(), AllocError> {
-    text.extend_from_slice(b" Paste ")?;
-    text.extend_from_slice(left.as_slice())
-}
-
-fn add_named(
-    alloc: Global,
-    text: &mut Vec<u8>,
-    word: &[u8],
-    name: &Bytes,
-    line: u32,
-) -> Result<(), AllocError> {
-    text.extend_from_slice(word)?;
-    text.extend_from_slice(name.as_slice())?;
-    add_line(alloc, text, line)
-}
-
-fn add_line(alloc: Global, text: &mut Vec<u8>, line: u32) -> Result<(), AllocError> {
-    text.extend_from_slice(format!(in alloc; " {line}")?.as_bytes())
-}
-
-/// Each row's text, done as the task says, is what the row says.
-pub fn check(
-    rt: &impl Abort,
-    alloc: Global,
-    task: Task,
-    rows: &[(&str, &str)],
-) -> Result<(), AllocError> {
-    for (body, want) in rows {
-        gives(rt, alloc, task, body, want)?;
+    // Adds what a run becomes: its tokens, or its error.
+    fn add_run(&mut self, alloc: Global, run: &[Token]) -> Result<(), AllocError> {
+        let mode = self.task.mode;
+        match expand(alloc, &self.table, run, &self.here, mode, &mut self.work) {
+            Ok(tokens) => self.add_tokens(tokens.as_slice()),
+            Err(e) => self.add_error(&e),
+        }
     }
-    Ok(())
-}
 
-fn gives(
-    rt: &impl Abort,
-    alloc: Global,
-    task: Task,
-    body: &str,
-    want: &str,
-) -> Result<(), AllocError> {
-    assert!(rt; body.len() < 10_000);
-    let found = expansion(alloc, body.as_bytes(), task)?.text;
-    let is_right = found.as_slice() == want.as_bytes();
-    let text = String::from_utf8(found).unwrap_or(String::new(alloc));
-    assert!(rt; is_right, "{body} gives {text}");
-    Ok(())
-}
-
-/// Each row's text, with the units of work that the row says, is what the row says, with so many units left.
-pub fn check_work(
-    rt: &impl Abort,
-    alloc: Global,
-    rows: &[(&str, u64, &str, u64)],
-) -> Result<(), AllocError> {
-    for (body, units, want, left) in rows {
-        leaves(rt, alloc, body, *units, want, *left)?;
+    fn add_tokens(&mut self, tokens: &[Token]) -> Result<(), AllocError> {
+        for token in tokens {
+            self.add_token(token)?;
+        }
+        Ok(())
     }
-    Ok(())
-}
 
-fn leaves(
-    rt: &impl Abort,
-    alloc: Global,
-    body: &str,
-    units: u64,
-    want: &str,
-    left: u64,
-) -> Result<(), AllocError> {
-    assert!(rt; body.len() < 10_000);
-    let found = expansion(alloc, body.as_bytes(), Task { units, ..TEXT })?;
-    let is_right = found.is(want, left);
-    let shown = shown(alloc, found)?;
-    assert!(rt; is_right, "{body} with {units} units gives {shown}");
-    Ok(())
-}
+    // A token behind one space where its `space` is set, but for the first of all.
+    fn add_token(&mut self, token: &Token) -> Result<(), AllocError> {
+        let is_apart = token.space && !self.text.is_empty();
+        let space = if is_apart { " " } else { "" };
+        let spelling = spelled(&token.text);
+        match self.task.shows {
+            Shows::Lines => write!(self.text, "{space}{}:{spelling}", token.line),
+            _ => write!(self.text, "{space}{spelling}"),
+        }
+    }
 
-fn shown(alloc: Global, found: Expanded) -> Result<String, AllocError> {
-    let left = found.work.left;
-    let text = String::from_utf8(found.text).unwrap_or(String::new(alloc));
-    format!(in alloc; "{text} and leaves {left}")
+    // An error: `!`, its name and what it has.
+    fn add_error(&mut self, error: &ExpandError) -> Result<(), AllocError> {
+        let text = &mut self.text;
+        match error {
+            ExpandError::Count { name, line } => write!(text, "!Count {} {line}", spelled(name)),
+            ExpandError::Unclosed { name, line } => {
+                write!(text, "!Unclosed {} {line}", spelled(name))
+            }
+            ExpandError::Paste { left, right, line } => {
+                write!(text, "!Paste {} {} {line}", spelled(left), spelled(right))
+            }
+            ExpandError::Deep { line } => write!(text, "!Deep {line}"),
+            ExpandError::Work => text.push_str("!Work"),
+            ExpandError::Memory => Err(AllocError),
+        }
+    }
 }

@@ -1,83 +1,93 @@
 // Lists of entries.
-ghost use Rattle.std.specs.Prelude.{◌≤◌, length, IfOk, IsTrue};
-ghost use Rattle.tree_model.specs.Entries.{bodies_fit, is_link_text, links_fit};
+ghost use Rattle.std.specs.Prelude.{◌≤◌, length, IsTrue};
+ghost use Rattle.tree_model.specs.Entries.{bodies_fit, body_fits, entry_fits, is_link_text, links_fit};
 
 use base_types::Bytes;
-use std::alloc::Global;
-use std::test::Fail;
+use std::alloc::{AllocError, Global};
 use tree_model::{CanonPath, Entry};
 
+pub type Entries = Vec<(CanonPath, Entry)>;
+
 /// The path that a text spells, or the root where it spells none.
-pub fn path(alloc: Global, text: &str) -> Result<CanonPath, Fail> {
+pub fn path(alloc: Global, text: &str) -> Result<CanonPath, AllocError> {
     match CanonPath::read(alloc, text.as_bytes())? {
         Some(path) => Ok(path),
-        None => CanonPath::root(alloc).map_err(Fail::from),
+        None => CanonPath::root(alloc),
     }
 }
 
-/// An entry for each text: a text that ends with `/` is a directory's, and any other an empty file's.
-pub fn placed(alloc: Global, places: &[&str]) -> Result<Vec<(CanonPath, Entry)>, Fail>
-    ensures links { IfOk result (λ entries. IsTrue (links_fit entries.items)) }
-    ensures bodies { IfOk result (λ entries. IsTrue (bodies_fit entries.items)) }
+/// Adds an entry for each text: a text that ends with `/` is a directory's, and any other an empty file's.
+pub fn add_places(alloc: Global, entries: &mut Entries, places: &[&str]) -> Result<(), AllocError>
+    requires links { IsTrue (links_fit entries.old.items) }
+    requires bodies { IsTrue (bodies_fit entries.old.items) }
+    ensures links { IsTrue (links_fit entries.new.items) }
+    ensures bodies { IsTrue (bodies_fit entries.new.items) }
 {
-    let mut entries = Vec::new(alloc);
     for place in places {
-        let entry = match place.strip_suffix('/') {
-            Some(dir) => (path(alloc, dir)?, Entry::Dir),
-            None => (path(alloc, place)?, Entry::File(Bytes::new(alloc))),
-        };
-        entries.push(entry)?;
+        add_place(alloc, entries, place)?;
     }
-    Ok(entries)
+    Ok(())
 }
 
-/// The entries with a directory more at their end.
-pub fn with_dir(
-    alloc: Global,
-    mut entries: Vec<(CanonPath, Entry)>,
-    place: &str,
-) -> Result<Vec<(CanonPath, Entry)>, Fail>
-    requires links { IsTrue (links_fit entries.items) }
-    requires bodies { IsTrue (bodies_fit entries.items) }
-    ensures links { IfOk result (λ entries. IsTrue (links_fit entries.items)) }
-    ensures bodies { IfOk result (λ entries. IsTrue (bodies_fit entries.items)) }
+fn add_place(alloc: Global, entries: &mut Entries, place: &str) -> Result<(), AllocError>
+    requires links { IsTrue (links_fit entries.old.items) }
+    requires bodies { IsTrue (bodies_fit entries.old.items) }
+    ensures links { IsTrue (links_fit entries.new.items) }
+    ensures bodies { IsTrue (bodies_fit entries.new.items) }
 {
-    entries.push((path(alloc, place)?, Entry::Dir))?;
-    Ok(entries)
+    match place.strip_suffix('/') {
+        Some(dir) => add_entry(alloc, entries, dir, Entry::Dir),
+        None => add_entry(alloc, entries, place, Entry::File(Bytes::new(alloc))),
+    }
 }
 
-/// The entries with a link more at their end.
-pub fn with_link(
+/// Adds a link.
+pub fn add_link(
     alloc: Global,
-    mut entries: Vec<(CanonPath, Entry)>,
+    entries: &mut Entries,
     place: &str,
     text: &[u8],
-) -> Result<Vec<(CanonPath, Entry)>, Fail>
-    requires links { IsTrue (links_fit entries.items) }
-    requires bodies { IsTrue (bodies_fit entries.items) }
+) -> Result<(), AllocError>
     requires text { IsTrue (is_link_text text.now) }
-    ensures links { IfOk result (λ entries. IsTrue (links_fit entries.items)) }
-    ensures bodies { IfOk result (λ entries. IsTrue (bodies_fit entries.items)) }
+    requires links { IsTrue (links_fit entries.old.items) }
+    requires bodies { IsTrue (bodies_fit entries.old.items) }
+    ensures links { IsTrue (links_fit entries.new.items) }
+    ensures bodies { IsTrue (bodies_fit entries.new.items) }
 {
     let text = Bytes::copy_of(alloc, text)?;
-    entries.push((path(alloc, place)?, Entry::Link(text)))?;
-    Ok(entries)
+    add_entry(alloc, entries, place, Entry::Link(text))
 }
 
-/// The entries with a file more at their end.
-pub fn with_file(
+/// Adds a file.
+pub fn add_file(
     alloc: Global,
-    mut entries: Vec<(CanonPath, Entry)>,
+    entries: &mut Entries,
     place: &str,
     body: &[u8],
-) -> Result<Vec<(CanonPath, Entry)>, Fail>
-    requires links { IsTrue (links_fit entries.items) }
-    requires bodies { IsTrue (bodies_fit entries.items) }
+) -> Result<(), AllocError>
     requires small { length body.now ≤ 16777216 }
-    ensures links { IfOk result (λ entries. IsTrue (links_fit entries.items)) }
-    ensures bodies { IfOk result (λ entries. IsTrue (bodies_fit entries.items)) }
+    requires links { IsTrue (links_fit entries.old.items) }
+    requires bodies { IsTrue (bodies_fit entries.old.items) }
+    ensures links { IsTrue (links_fit entries.new.items) }
+    ensures bodies { IsTrue (bodies_fit entries.new.items) }
 {
     let body = Bytes::copy_of(alloc, body)?;
-    entries.push((path(alloc, place)?, Entry::File(body)))?;
-    Ok(entries)
+    add_entry(alloc, entries, place, Entry::File(body))
+}
+
+fn add_entry(
+    alloc: Global,
+    entries: &mut Entries,
+    place: &str,
+    entry: Entry,
+) -> Result<(), AllocError>
+    requires link { IsTrue (entry_fits entry) }
+    requires body { IsTrue (body_fits entry) }
+    requires links { IsTrue (links_fit entries.old.items) }
+    requires bodies { IsTrue (bodies_fit entries.old.items) }
+    ensures links { IsTrue (links_fit entries.new.items) }
+    ensures bodies { IsTrue (bodies_fit entries.new.items) }
+{
+    entries.push((path(alloc, place)?, entry))?;
+    Ok(())
 }

@@ -1,55 +1,40 @@
 // Calls of the tree that fail, and those that a search doesn't make.
-use crate::tree::{Row, chain, check, source};
-use search_path::Form;
+use crate::tree::{CHAIN, Places, Row, check};
+use search_path::Form::{Angle, Quote};
+use search_path::Found::Primary;
 use std::alloc::Global;
 use std::process::Abort;
-use std::test::Fail;
 
 // One search, with the tree's call of this number failing.
-fn check_failing(rt: &impl Abort, alloc: Global, fails: u64, row: Row<'_>) -> Result<(), Fail> {
-    let mut places = chain();
-    places.fails = fails;
-    check(rt, alloc, &places, &[row])
+fn check_failing(rt: &impl Abort, alloc: Global, fails: u64, row: Row<'_>) {
+    let places = Places { fails, ..*CHAIN };
+    check(rt, alloc, &places, &[row]);
 }
 
-// Each search, with the tree's call of its number failing.
-fn check_each(rt: &impl Abort, alloc: Global, rows: &[(u64, Row<'_>)]) -> Result<(), Fail> {
-    for (fails, row) in rows {
-        check_failing(rt, alloc, *fails, *row)?;
+const ROWS: &[(u64, Row<'static>)] = &[
+    // Faults are handed on. Beside the source one call finds that `b.h` isn't there. In the chain each directory takes a
+    // call for each of its components and one for the name: 3, 2 and 3.
+    (1, (Quote, Some(Primary), "b.h", "Fault")),
+    (3, (Quote, Some(Primary), "b.h", "Fault")),
+    (6, (Quote, Some(Primary), "b.h", "Fault")),
+    (9, (Quote, Some(Primary), "b.h", "Fault")),
+    (
+        10,
+        (Quote, Some(Primary), "b.h", "Chain(2) /w/b/b.h /w/b/b.h"),
+    ),
+    // A search stops at the first file.
+    (1, (Quote, Some(Primary), "x.h", "Fault")),
+    (2, (Quote, Some(Primary), "x.h", "Here /w/s/x.h /w/s/x.h")),
+    (3, (Angle, Some(Primary), "x.h", "Fault")),
+    (
+        4,
+        (Angle, Some(Primary), "x.h", "Chain(2) /w/b/x.h /w/b/x.h"),
+    ),
+];
+
+#[test]
+fn faults_are_handed_on_up_to_the_first_file(rt: HostRuntime) {
+    for (fails, row) in ROWS {
+        check_failing(&rt, rt.alloc(), *fails, *row);
     }
-    Ok(())
-}
-
-// Beside the source one call finds that `b.h` isn't there. In the chain each directory takes a call for each of its
-// components and one for the name: 3, 2 and 3.
-#[test]
-fn faults_of_the_tree_are_handed_on(rt: HostRuntime) -> Result<(), Fail> {
-    let found = "Chain(2) /w/b/b.h /w/b/b.h";
-    check_each(
-        &rt,
-        rt.alloc(),
-        &[
-            (1, (Form::Quote, source(), "b.h", "Fault")),
-            (3, (Form::Quote, source(), "b.h", "Fault")),
-            (6, (Form::Quote, source(), "b.h", "Fault")),
-            (9, (Form::Quote, source(), "b.h", "Fault")),
-            (10, (Form::Quote, source(), "b.h", found)),
-        ],
-    )
-}
-
-#[test]
-fn a_search_stops_at_the_first_file(rt: HostRuntime) -> Result<(), Fail> {
-    let here = "Here /w/s/x.h /w/s/x.h";
-    let chain = "Chain(2) /w/b/x.h /w/b/x.h";
-    check_each(
-        &rt,
-        rt.alloc(),
-        &[
-            (1, (Form::Quote, source(), "x.h", "Fault")),
-            (2, (Form::Quote, source(), "x.h", here)),
-            (3, (Form::Angle, source(), "x.h", "Fault")),
-            (4, (Form::Angle, source(), "x.h", chain)),
-        ],
-    )
 }

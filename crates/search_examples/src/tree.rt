@@ -1,233 +1,223 @@
 // A tree of files, and searches in it.
-ghost use Rattle.std.specs.Prelude.{IfOk, IfSome, IsTrue};
-ghost use Rattle.tree_model.specs.Entries.{is_link_text, links_fit};
+ghost use Rattle.std.specs.Prelude.{IsTrue};
+ghost use Rattle.tree_model.specs.Entries.{entry_fits, is_link_text, links_fit};
 ghost use Rattle.search_path.specs.Search.{NeedsFrom};
 
 use base_types::{Bytes, List};
 use search_path::{Ask, Form, Found, Setup, Visit, search};
-use std::alloc::Global;
+use std::alloc::{AllocError, Global};
 use std::process::Abort;
-use std::test::Fail;
-use tree_model::{CanonPath, Entry, MemTree, Tree, TreeError, Unnamed};
+use tree_model::{CanonPath, Entry, MemTree, Tree, Unnamed};
 
-/// The directories of a search in `/w`, and the number of the tree's call that fails; with 0 none does.
+/// The directories of a search in `/w`, the place of the file that asks, and the number of the tree's call that fails; with 0
+/// none does.
 #[derive(Clone, Copy, Drop)]
 pub struct Places<'a> {
     pub quote: &'a [&'a str],
     pub bracket: &'a [&'a str],
+    pub asker: &'a str,
     pub fails: u64,
 }
 
-/// The file that asks, by its place and how it was found.
-pub type Asker<'a> = Option<(&'a str, Found)>;
+/// A form, how the file that asks was found, a name, and what its search gives: how the file was found, its place and its
+/// real path, or nothing, or `Fault`.
+pub type Row<'a> = (Form, Option<Found>, &'a str, &'a str);
 
-/// A form, the file that asks, a name, and what its search gives: how the file was found, its place and its real
-/// path, or nothing, or `Fault`.
-pub type Row<'a> = (Form, Asker<'a>, &'a str, &'a str);
+/// The directories of quoted names that most tests search.
+pub const QUOTE: &[&str] = &["q", "/r"];
 
-/// The directories that most tests search.
-pub fn chain() -> Places<'static> {
-    Places {
-        quote: &["q", "/r"],
-        bracket: &["b", "c", "/a", "z"],
-        fails: 0,
-    }
-}
+/// The directories of all names that most tests search.
+pub const BRACKET: &[&str] = &["b", "c", "/a", "z"];
 
-/// The source in a directory of its own.
-pub fn source() -> Asker<'static> {
-    Some(("/w/s/s.c", Found::Primary))
-}
+/// A source in a directory of its own.
+pub const SOURCE: &str = "/w/s/s.c";
+
+/// What most tests search.
+pub const CHAIN: &Places<'static> = &Places {
+    quote: QUOTE,
+    bracket: BRACKET,
+    asker: SOURCE,
+    fails: 0,
+};
 
 /// Each search gives what its row says.
-pub fn check(
-    rt: &impl Abort,
-    alloc: Global,
-    places: &Places<'_>,
-    rows: &[Row<'_>],
-) -> Result<(), Fail> {
-    let setup = setup_of(rt, alloc, places)?;
+pub fn check(rt: &impl Abort, alloc: Global, places: &Places<'_>, rows: &[Row<'_>]) {
+    let setup = setup_of(rt, alloc, places);
     for row in rows {
-        check_row(rt, alloc, &setup, places.fails, row)?;
+        check_row(rt, alloc, places, &setup, row);
     }
-    Ok(())
 }
 
-fn setup_of(rt: &impl Abort, alloc: Global, places: &Places<'_>) -> Result<Setup, Fail> {
-    let quote = texts(alloc, places.quote)?;
-    let bracket = texts(alloc, places.bracket)?;
+fn setup_of(rt: &impl Abort, alloc: Global, places: &Places<'_>) -> Setup {
+    let cwd = Bytes::copy_of(alloc, b"/w").expect(rt, "no memory");
+    let quote = texts(rt, alloc, places.quote);
+    let bracket = texts(rt, alloc, places.bracket);
     assert!(rt; quote.len() < 100 && bracket.len() < 100);
-    let cwd = Bytes::copy_of(alloc, b"/w")?;
-    Ok(Setup::new(cwd, quote, bracket, false))
+    Setup::new(cwd, quote, bracket, false)
 }
 
-// The search of a row, with the tree's call of this number failing.
-fn check_row(
-    rt: &impl Abort,
-    alloc: Global,
-    setup: &Setup,
-    fails: u64,
-    row: &Row<'_>,
-) -> Result<(), Fail> {
-    match made(alloc, fails)? {
-        Some(mut tree) => check_search(rt, alloc, &mut tree, setup, row),
-        None => Ok(assert!(rt; false)),
-    }
-}
-
-fn check_search<T: Tree>(
-    rt: &impl Abort,
-    alloc: Global,
-    tree: &mut T,
-    setup: &Setup,
-    row: &Row<'_>,
-) -> Result<(), Fail> {
-    let Some(ask) = asked(alloc, row)? else {
-        return Ok(assert!(rt; false, "{:?} is asked for by no file", row.2));
-    };
-    let text = shown(alloc, tree, setup, &ask)?;
-    check_shown(rt, row, text.as_slice());
-    Ok(())
-}
-
-fn check_shown(rt: &impl Abort, row: &Row<'_>, text: &[u8]) {
-    let (form, from, name, want) = row;
-    assert!(rt; text == want.as_bytes(), "{form:?} {from:?} {name:?}");
-}
-
-fn texts(alloc: Global, texts: &[&str]) -> Result<List<Bytes>, Fail> {
+fn texts(rt: &impl Abort, alloc: Global, texts: &[&str]) -> List<Bytes> {
     let mut list = List::new(alloc);
     for text in texts {
-        list.push(Bytes::copy_of(alloc, text.as_bytes())?)?;
+        let text = Bytes::copy_of(alloc, text.as_bytes()).expect(rt, "no memory");
+        list.push(text).expect(rt, "no memory");
     }
-    Ok(list)
+    list
 }
 
-// The ask of a row; None where its form wants a file that asks, and there is none.
-fn asked(alloc: Global, row: &Row<'_>) -> Result<Option<Ask>, Fail>
-    ensures { IfOk result (λ ask. IfSome ask (λ ask. NeedsFrom ask.form ask.from)) }
+fn check_row(rt: &impl Abort, alloc: Global, places: &Places<'_>, setup: &Setup, row: &Row<'_>) {
+    let mut tree = tree_of(rt, alloc, places.fails);
+    let ask = asked(rt, alloc, places.asker, row);
+    let text = shown(alloc, &mut tree, setup, &ask).expect(rt, "no memory");
+    check_shown(rt, row, text.as_str());
+}
+
+fn check_shown(rt: &impl Abort, row: &Row<'_>, text: &str) {
+    let (form, from, name, want) = row;
+    assert!(rt; text == *want, "{form:?} {from:?} {name} gives {text}");
+}
+
+// The ask of a row.
+fn asked(rt: &impl Abort, alloc: Global, asker: &str, row: &Row<'_>) -> Ask
+    ensures { NeedsFrom result.form result.from }
 {
-    let (form, from, name, _) = *row;
-    let name = Bytes::copy_of(alloc, name.as_bytes())?;
-    match from {
-        Some((place, found)) => {
-            let place = path(alloc, place)?;
+    let (form, found, name, _) = *row;
+    let name = Bytes::copy_of(alloc, name.as_bytes()).expect(rt, "no memory");
+    match found {
+        Some(found) => {
+            let place = path(alloc, asker).expect(rt, "no memory");
             let from = Some(Visit { place, found });
-            Ok(Some(Ask { form, from, name }))
+            Ask { form, from, name }
         }
         None => match form {
-            Form::Source | Form::Forced => Ok(Some(Ask {
+            Form::Source | Form::Forced => Ask {
                 form,
                 from: None,
                 name,
-            })),
-            _ => Ok(None),
+            },
+            _ => rt.panic("no file asks"),
         },
     }
 }
 
 // What a search gives, as rows have it.
-fn shown<T: Tree>(alloc: Global, tree: &mut T, setup: &Setup, ask: &Ask) -> Result<Vec<u8>, Fail>
+fn shown<T: Tree>(
+    alloc: Global,
+    tree: &mut T,
+    setup: &Setup,
+    ask: &Ask,
+) -> Result<String, AllocError>
     requires { NeedsFrom ask.now.form ask.now.from }
 {
     match search(alloc, tree, setup, ask) {
         Ok(Some((visit, located))) => shown_place(alloc, &visit, &located.real),
-        Ok(None) => Ok(Vec::new(alloc)),
-        Err(error) => shown_error(alloc, error),
+        Ok(None) => Ok(String::new(alloc)),
+        Err(error) => format!(in alloc; "{error:?}"),
     }
 }
 
-fn shown_place(alloc: Global, visit: &Visit, real: &CanonPath) -> Result<Vec<u8>, Fail> {
+fn shown_place(alloc: Global, visit: &Visit, real: &CanonPath) -> Result<String, AllocError> {
     let found = visit.found;
-    let mut text = format!(in alloc; "{found:?} ")?.into_bytes();
-    text.extend_from_slice(visit.place.bytes())?;
-    text.push(b' ')?;
-    text.extend_from_slice(real.bytes())?;
-    Ok(text)
+    format!(in alloc; "{found:?} {} {}", spelled(&visit.place), spelled(real))
 }
 
-fn shown_error(alloc: Global, error: TreeError) -> Result<Vec<u8>, Fail> {
-    Ok(format!(in alloc; "{error:?}")?.into_bytes())
+fn spelled(path: &CanonPath) -> &str {
+    std::str::from_utf8(path.bytes()).unwrap_or("?")
 }
 
 // The path that a text spells, or the root where it spells none.
-fn path(alloc: Global, text: &str) -> Result<CanonPath, Fail> {
+fn path(alloc: Global, text: &str) -> Result<CanonPath, AllocError> {
     match CanonPath::read(alloc, text.as_bytes())? {
         Some(path) => Ok(path),
-        None => CanonPath::root(alloc).map_err(Fail::from),
+        None => CanonPath::root(alloc),
     }
 }
+
+// The entries of the tree but for its links: a text that ends with `/` is a directory's, and any other a file's.
+const PLACES: &[&str] = &[
+    "/a/",
+    "/a/abs.h",
+    "/a/x.h",
+    "/r/",
+    "/r/r.h",
+    "/r/x.h",
+    "/w/",
+    "/w/a.c",
+    "/w/b/",
+    "/w/b/b.h",
+    "/w/b/d.h/",
+    "/w/b/x.h",
+    "/w/c/",
+    "/w/c/d.h",
+    "/w/c/x.h",
+    "/w/cwd.h",
+    "/w/force.h",
+    "/w/q/",
+    "/w/q/force.h",
+    "/w/q/q.h",
+    "/w/q/x.h",
+    "/w/s/",
+    "/w/s/beside.h",
+    "/w/s/s.c",
+    "/w/s/x.h",
+    "/w/z/",
+];
+
+type Entries = Vec<(CanonPath, Entry)>;
 
 // The tree, with its call of this number failing.
-fn made(alloc: Global, fails: u64) -> Result<Option<MemTree<Unnamed>>, Fail> {
-    let fails = vec![in alloc; fails]?;
-    Ok(MemTree::new(alloc, entries(alloc)?, fails).ok())
-}
-
-// The entries of the tree: a text that ends with `/` is a directory's, and any other a file's; then two links.
-fn entries(alloc: Global) -> Result<Vec<(CanonPath, Entry)>, Fail>
-    ensures { IfOk result (λ entries. IsTrue (links_fit entries.items)) }
-{
-    let entries = placed(
-        alloc,
-        &[
-            "/a/",
-            "/a/abs.h",
-            "/a/x.h",
-            "/r/",
-            "/r/r.h",
-            "/r/x.h",
-            "/w/",
-            "/w/a.c",
-            "/w/b/",
-            "/w/b/b.h",
-            "/w/b/d.h/",
-            "/w/b/x.h",
-            "/w/c/",
-            "/w/c/d.h",
-            "/w/c/x.h",
-            "/w/cwd.h",
-            "/w/force.h",
-            "/w/q/",
-            "/w/q/force.h",
-            "/w/q/q.h",
-            "/w/q/x.h",
-            "/w/s/",
-            "/w/s/beside.h",
-            "/w/s/s.c",
-            "/w/s/x.h",
-            "/w/z/",
-        ],
-    )?;
-    let entries = with_link(alloc, entries, "/w/z/link.h", b"../b/b.h")?;
-    with_link(alloc, entries, "/w/zz", b"c")
-}
-
-fn placed(alloc: Global, places: &[&str]) -> Result<Vec<(CanonPath, Entry)>, Fail>
-    ensures { IfOk result (λ entries. IsTrue (links_fit entries.items)) }
-{
+fn tree_of(rt: &impl Abort, alloc: Global, fails: u64) -> MemTree<Unnamed> {
     let mut entries = Vec::new(alloc);
-    for place in places {
-        let entry = match place.strip_suffix('/') {
-            Some(dir) => (path(alloc, dir)?, Entry::Dir),
-            None => (path(alloc, place)?, Entry::File(Bytes::new(alloc))),
-        };
-        entries.push(entry)?;
-    }
-    Ok(entries)
+    add_entries(alloc, &mut entries).expect(rt, "no memory");
+    let fails = vec![in alloc; fails].expect(rt, "no memory");
+    MemTree::new(alloc, entries, fails).expect(rt, "the entries make no tree")
 }
 
-fn with_link(
+fn add_entries(alloc: Global, entries: &mut Entries) -> Result<(), AllocError>
+    requires { IsTrue (links_fit entries.old.items) }
+    ensures { IsTrue (links_fit entries.new.items) }
+{
+    for place in PLACES {
+        add_place(alloc, entries, place)?;
+    }
+    add_link(alloc, entries, "/w/z/link.h", b"../b/b.h")?;
+    add_link(alloc, entries, "/w/zz", b"c")
+}
+
+fn add_place(alloc: Global, entries: &mut Entries, place: &str) -> Result<(), AllocError>
+    requires { IsTrue (links_fit entries.old.items) }
+    ensures { IsTrue (links_fit entries.new.items) }
+{
+    match place.strip_suffix('/') {
+        Some(dir) => add_entry(alloc, entries, dir, Entry::Dir),
+        None => add_entry(alloc, entries, place, Entry::File(Bytes::new(alloc))),
+    }
+}
+
+fn add_link(
     alloc: Global,
-    mut entries: Vec<(CanonPath, Entry)>,
+    entries: &mut Entries,
     place: &str,
     text: &[u8],
-) -> Result<Vec<(CanonPath, Entry)>, Fail>
-    requires links { IsTrue (links_fit entries.items) }
+) -> Result<(), AllocError>
     requires text { IsTrue (is_link_text text.now) }
-    ensures { IfOk result (λ entries. IsTrue (links_fit entries.items)) }
+    requires links { IsTrue (links_fit entries.old.items) }
+    ensures { IsTrue (links_fit entries.new.items) }
 {
     let text = Bytes::copy_of(alloc, text)?;
-    entries.push((path(alloc, place)?, Entry::Link(text)))?;
-    Ok(entries)
+    add_entry(alloc, entries, place, Entry::Link(text))
+}
+
+fn add_entry(
+    alloc: Global,
+    entries: &mut Entries,
+    place: &str,
+    entry: Entry,
+) -> Result<(), AllocError>
+    requires entry { IsTrue (entry_fits entry) }
+    requires links { IsTrue (links_fit entries.old.items) }
+    ensures { IsTrue (links_fit entries.new.items) }
+{
+    entries.push((path(alloc, place)?, entry))?;
+    Ok(())
 }
