@@ -1,7 +1,7 @@
-// A good request, and hostile ones that are made from it.
-use crate::feeding::{Verdict, check_request};
-use job_frames::{Fed, FrameError};
-use std::alloc::{AllocError, Global};
+// A good request, and hostile frames that are made from it and from good replies.
+use crate::feeding::{GOING, Reader, Verdict, check_parts};
+use job_frames::{Fed, FrameError, RequestReader};
+use std::alloc::Global;
 use std::process::Abort;
 
 /// Where the tokens of the good request begin.
@@ -48,26 +48,18 @@ pub fn behind(text: &[u8], n: usize) -> &[u8] {
     rest
 }
 
-// Appends the good request up to a place, and then these bytes.
-fn push_edit(out: &mut Vec<u8>, place: usize, put: &[u8]) -> Result<(), AllocError> {
-    out.extend_from_slice(front(good(), place))?;
-    out.extend_from_slice(put)
-}
-
-/// The good request with these bytes in the place of as many at a place comes to a verdict with the last of them.
-pub fn check_edit<A: Abort>(
-    rt: &A,
+/// A frame with these bytes in the place of as many at a place comes to a verdict with the last of them.
+pub fn check_edit<R: Reader>(
+    rt: &impl Abort,
     alloc: Global,
+    frame: &[u8],
     place: usize,
     put: &[u8],
     fed: Fed,
-) -> Result<(), AllocError> {
-    let mut request = Vec::new(alloc);
-    push_edit(&mut request, place, put)?;
-    let at = request.len();
-    request.extend_from_slice(behind(good(), at))?;
-    check_request(rt, alloc, request.as_slice(), Verdict { fed, at });
-    Ok(())
+) {
+    let at = place.saturating_add(put.len());
+    let parts = [front(frame, place), put, behind(frame, at)];
+    check_parts::<R>(rt, alloc, parts.as_slice(), Verdict { fed, at });
 }
 
 /// A place of the good request, the bytes that are put there over as many of its own, and why it is then refused, with
@@ -75,39 +67,49 @@ pub fn check_edit<A: Abort>(
 pub type Wrong<'x> = (usize, &'x [u8], FrameError);
 
 /// Each row is refused.
-pub fn check_wrong<A: Abort>(rt: &A, alloc: Global, rows: &[Wrong<'_>]) -> Result<(), AllocError> {
+pub fn check_wrong(rt: &impl Abort, alloc: Global, rows: &[Wrong<'_>]) {
     for (place, put, why) in rows {
-        check_edit(rt, alloc, *place, put, Fed::Refused(*why))?;
+        check_edit::<RequestReader>(rt, alloc, good(), *place, put, Fed::Refused(*why));
     }
-    Ok(())
 }
 
 /// The good request up to each place, and then these bytes: nothing is wrong, and it isn't whole.
-pub fn check_going<A: Abort>(
-    rt: &A,
-    alloc: Global,
-    rows: &[(usize, &[u8])],
-) -> Result<(), AllocError> {
+pub fn check_going(rt: &impl Abort, alloc: Global, rows: &[(usize, &[u8])]) {
     for (place, put) in rows {
-        let mut request = Vec::new(alloc);
-        push_edit(&mut request, *place, put)?;
-        let at = request.len().saturating_add(1);
-        let fed = Fed::More;
-        check_request(rt, alloc, request.as_slice(), Verdict { fed, at });
+        check_begun(rt, alloc, front(good(), *place), put);
     }
-    Ok(())
 }
 
-/// A byte in each place of some is refused there.
-pub fn check_byte<A: Abort>(
-    rt: &A,
+fn check_begun(rt: &impl Abort, alloc: Global, front: &[u8], put: &[u8]) {
+    check_parts::<RequestReader>(rt, alloc, &[front, put], GOING);
+}
+
+// A byte in each place of some of a frame is refused there.
+fn check_byte<R: Reader>(
+    rt: &impl Abort,
     alloc: Global,
+    frame: &[u8],
     places: (usize, usize),
     byte: u8,
     why: FrameError,
-) -> Result<(), AllocError> {
+) {
     for place in places.0..places.1 {
-        check_edit(rt, alloc, place, [byte].as_slice(), Fed::Refused(why))?;
+        check_edit::<R>(rt, alloc, frame, place, &[byte], Fed::Refused(why));
     }
-    Ok(())
+}
+
+// A wrong byte in the token of a frame at a place, at each letter and at each digit.
+fn check_token<R: Reader>(rt: &impl Abort, alloc: Global, frame: &[u8], place: usize) {
+    let digits = place.saturating_add(4);
+    let end = place.saturating_add(12);
+    check_byte::<R>(rt, alloc, frame, (place, digits), b'Z', FrameError::Token);
+    check_byte::<R>(rt, alloc, frame, (digits, end), b'g', FrameError::Digits);
+    check_byte::<R>(rt, alloc, frame, (digits, end), b'A', FrameError::Digits);
+}
+
+/// A wrong byte in each token of a frame is refused, by the places where the tokens begin.
+pub fn check_tokens<R: Reader>(rt: &impl Abort, alloc: Global, frame: &[u8], tokens: &[usize]) {
+    for place in tokens {
+        check_token::<R>(rt, alloc, frame, *place);
+    }
 }

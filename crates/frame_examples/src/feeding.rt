@@ -1,7 +1,12 @@
 // Frames fed to a reader in one piece, byte by byte, and in two pieces cut at each place.
-use job_frames::{Fed, FrameError, ReplyReader, RequestReader};
+use crate::edits::{behind, front};
+use crate::shown::{check_text, readable, shown_answer, shown_request};
+use base_types::List;
+use job_frames::{Answer, Fed, FrameError, ReplyReader, RequestReader};
+use job_words::Job;
 use std::alloc::Global;
 use std::process::Abort;
+use tree_model::{CanonPath, Entry};
 
 /// The verdict that a frame comes to: `More` with fewer bytes than `at`, and `fed` with so many.
 #[derive(Clone, Copy, Drop)]
@@ -10,8 +15,20 @@ pub struct Verdict {
     pub at: usize,
 }
 
+/// The verdict on a frame that isn't whole, and in which nothing is wrong.
+pub const GOING: Verdict = Verdict {
+    fed: Fed::More,
+    at: 0,
+};
+
 /// A reader that is fed in pieces.
-trait Reader: Drop {
+pub trait Reader: Drop {
+    /// What a whole frame says.
+    type Given: Drop;
+
+    /// The verdict on a whole frame and bytes behind it.
+    const BEHIND: Fed;
+
     /// A reader to which nothing has come.
     fn begin(alloc: Global) -> Self;
 
@@ -21,14 +38,18 @@ trait Reader: Drop {
     /// The verdict where no byte follows.
     fn stop(&mut self) -> Fed;
 
-    /// Whether the reader gives what a whole frame says.
-    fn gives(self) -> bool;
+    /// What was read, of a whole frame.
+    fn give(self) -> Option<Self::Given>;
 
-    /// The verdict on a whole frame and bytes behind it.
-    fn behind() -> Fed;
+    /// What a whole frame says, as text.
+    fn show(rt: &impl Abort, alloc: Global, given: &Self::Given) -> Vec<u8>;
 }
 
 impl Reader for RequestReader {
+    type Given = (Job, List<(CanonPath, Entry)>);
+
+    const BEHIND: Fed = Fed::Done;
+
     fn begin(alloc: Global) -> Self {
         RequestReader::new(alloc)
     }
@@ -41,16 +62,20 @@ impl Reader for RequestReader {
         self.end()
     }
 
-    fn gives(self) -> bool {
-        self.finish().is_some()
+    fn give(self) -> Option<Self::Given> {
+        self.finish()
     }
 
-    fn behind() -> Fed {
-        Fed::Done
+    fn show(rt: &impl Abort, alloc: Global, given: &Self::Given) -> Vec<u8> {
+        shown_request(rt, alloc, &given.0, given.1.as_slice())
     }
 }
 
 impl Reader for ReplyReader {
+    type Given = Answer;
+
+    const BEHIND: Fed = Fed::Refused(FrameError::Order);
+
     fn begin(alloc: Global) -> Self {
         ReplyReader::new(alloc)
     }
@@ -63,19 +88,19 @@ impl Reader for ReplyReader {
         self.end()
     }
 
-    fn gives(self) -> bool {
-        self.finish().is_some()
+    fn give(self) -> Option<Self::Given> {
+        self.finish()
     }
 
-    fn behind() -> Fed {
-        Fed::Refused(FrameError::Order)
+    fn show(rt: &impl Abort, alloc: Global, given: &Self::Given) -> Vec<u8> {
+        shown_answer(rt, alloc, given)
     }
 }
 
 // The verdict where more bytes follow.
 fn followed<R: Reader>(fed: Fed) -> Fed {
     match fed {
-        Fed::Done => R::behind(),
+        Fed::Done => R::BEHIND,
         other => other,
     }
 }
@@ -99,100 +124,114 @@ fn expected<R: Reader>(verdict: Verdict, n: usize) -> Fed {
     followed::<R>(verdict.fed)
 }
 
-// A reader comes to this verdict with a piece more.
-fn check_take<R: Reader, A: Abort>(rt: &A, reader: &mut R, piece: &[u8], fed: Fed) {
-    assert_eq!(rt; reader.take(piece), fed);
+/// The verdict on these bytes is the one that is wanted.
+pub fn check_fed(rt: &impl Abort, bytes: &[u8], fed: Fed, want: Fed) {
+    assert!(rt;
+        fed == want,
+        "{fed:?} in place of {want:?} on {:?}",
+        readable(bytes)
+    );
 }
 
-// A reader comes to this verdict where no byte follows.
-fn check_stop<R: Reader, A: Abort>(rt: &A, reader: &mut R, fed: Fed) {
-    assert_eq!(rt; reader.stop(), fed);
-}
-
-// A reader gives what was read exactly where its verdict is `Done`.
-fn check_gives<R: Reader, A: Abort>(rt: &A, reader: R, fed: Fed) {
-    assert_eq!(rt; reader.gives(), fed == Fed::Done);
-}
-
-// A reader that came to this verdict keeps it: it ends with it, and gives what was read exactly where it is `Done`.
-fn check_end<R: Reader, A: Abort>(rt: &A, mut reader: R, fed: Fed) {
-    let last = ended(fed);
-    check_take(rt, &mut reader, b"", fed);
-    check_stop(rt, &mut reader, last);
-    check_take(rt, &mut reader, b"", last);
-    check_stop(rt, &mut reader, last);
-    check_gives(rt, reader, fed);
-}
-
-// Bytes behind a verdict other than `More` don't change it, but behind a whole frame.
-fn check_behind<R: Reader, A: Abort>(rt: &A, mut reader: R, fed: Fed) {
-    if fed == Fed::More {
-        reader.stop();
-    }
-    let last = followed::<R>(ended(fed));
-    check_take(rt, &mut reader, b"DIST00000103", last);
-    check_take(rt, &mut reader, b"R", last);
-    check_stop(rt, &mut reader, last);
-    check_gives(rt, reader, last);
+/// A reader to which these bytes came gives what was read exactly where its verdict is `Done`.
+pub fn check_gives<R: Reader>(rt: &impl Abort, bytes: &[u8], reader: R, fed: Fed) {
+    assert!(rt;
+        reader.give().is_some() == (fed == Fed::Done),
+        "{fed:?} on {:?}",
+        readable(bytes)
+    );
 }
 
 // A reader that comes to this verdict with its first piece.
-fn begun<R: Reader, A: Abort>(rt: &A, alloc: Global, piece: &[u8], fed: Fed) -> R {
+fn begun<R: Reader>(rt: &impl Abort, alloc: Global, piece: &[u8], fed: Fed) -> R {
     let mut reader = R::begin(alloc);
-    check_take(rt, &mut reader, piece, fed);
+    check_fed(rt, piece, reader.take(piece), fed);
     reader
 }
 
-// The verdicts where a frame comes in one piece.
-fn check_whole<R: Reader, A: Abort>(rt: &A, alloc: Global, frame: &[u8], verdict: Verdict) {
-    let last = expected::<R>(verdict, frame.len());
-    check_end(rt, begun::<R, A>(rt, alloc, frame, last), last);
-    check_behind(rt, begun::<R, A>(rt, alloc, frame, last), last);
+// A reader that came to this verdict keeps it: it ends with it, and gives what was read exactly where it is `Done`.
+fn check_end<R: Reader>(rt: &impl Abort, bytes: &[u8], mut reader: R, fed: Fed) {
+    let last = ended(fed);
+    check_fed(rt, bytes, reader.take(b""), fed);
+    check_fed(rt, bytes, reader.stop(), last);
+    check_fed(rt, bytes, reader.take(b""), last);
+    check_fed(rt, bytes, reader.stop(), last);
+    check_gives(rt, bytes, reader, fed);
 }
 
-// The verdict with the byte of this number.
-fn check_byte<R: Reader, A: Abort>(rt: &A, reader: &mut R, i: usize, byte: u8, fed: Fed) {
-    assert_eq!(rt; reader.take([byte].as_slice()), fed, "byte {i}");
+/// Bytes behind a first piece that came to a verdict, or was cut, don't change it, but behind a whole frame.
+pub fn check_behind<R: Reader>(
+    rt: &impl Abort,
+    alloc: Global,
+    piece: &[u8],
+    fed: Fed,
+    more: &[u8],
+) {
+    let mut reader = begun::<R>(rt, alloc, piece, fed);
+    let last = followed::<R>(ended(fed));
+    if fed == Fed::More {
+        check_fed(rt, piece, reader.stop(), last);
+    }
+    check_fed(rt, piece, reader.take(more), last);
+    check_fed(rt, piece, reader.take(b"R"), last);
+    check_fed(rt, piece, reader.stop(), last);
+    check_gives(rt, piece, reader, last);
 }
 
 // The verdicts where a frame comes byte by byte.
-fn check_bytes<R: Reader, A: Abort>(rt: &A, alloc: Global, frame: &[u8], verdict: Verdict) {
+fn check_bytes<R: Reader>(rt: &impl Abort, alloc: Global, frame: &[u8], verdict: Verdict) {
     let mut reader = R::begin(alloc);
     for (i, byte) in frame.iter().enumerate() {
-        check_byte(rt, &mut reader, i, *byte, expected::<R>(verdict, i + 1));
+        let fed = reader.take([*byte].as_slice());
+        check_fed(rt, front(frame, i + 1), fed, expected::<R>(verdict, i + 1));
     }
-    check_end(rt, reader, expected::<R>(verdict, frame.len()));
+    check_end(rt, frame, reader, expected::<R>(verdict, frame.len()));
 }
 
-// The verdicts where a frame comes in two pieces.
-fn check_cut<R: Reader, A: Abort>(rt: &A, alloc: Global, pieces: (&[u8], &[u8]), verdict: Verdict) {
-    let (front, rest) = pieces;
-    let first = expected::<R>(verdict, front.len());
-    let last = expected::<R>(verdict, front.len().saturating_add(rest.len()));
-    let mut reader = begun::<R, A>(rt, alloc, front, first);
-    check_take(rt, &mut reader, rest, last);
-    check_end(rt, reader, last);
+// The verdicts where a frame comes in two pieces, the first of n bytes.
+fn check_cut<R: Reader>(rt: &impl Abort, alloc: Global, frame: &[u8], n: usize, verdict: Verdict) {
+    let last = expected::<R>(verdict, frame.len());
+    let mut reader = begun::<R>(rt, alloc, front(frame, n), expected::<R>(verdict, n));
+    check_fed(rt, frame, reader.take(behind(frame, n)), last);
+    check_end(rt, frame, reader, last);
 }
 
-// The verdicts where a frame is cut in two at each place.
-fn check_cuts<R: Reader, A: Abort>(rt: &A, alloc: Global, frame: &[u8], verdict: Verdict) {
-    for i in 0..frame.len() {
-        check_cut::<R, A>(rt, alloc, frame.split_at(i), verdict);
+/// A frame comes to this verdict, in whatever pieces.
+pub fn check<R: Reader>(rt: &impl Abort, alloc: Global, frame: &[u8], verdict: Verdict) {
+    let last = expected::<R>(verdict, frame.len());
+    check_end(rt, frame, begun::<R>(rt, alloc, frame, last), last);
+    check_behind::<R>(rt, alloc, frame, last, b"DIST00000103");
+    check_bytes::<R>(rt, alloc, frame, verdict);
+    for n in 0..frame.len() {
+        check_cut::<R>(rt, alloc, frame, n, verdict);
     }
 }
 
-fn check<R: Reader, A: Abort>(rt: &A, alloc: Global, frame: &[u8], verdict: Verdict) {
-    check_whole::<R, A>(rt, alloc, frame, verdict);
-    check_bytes::<R, A>(rt, alloc, frame, verdict);
-    check_cuts::<R, A>(rt, alloc, frame, verdict);
+/// The frame of these parts comes to this verdict, in whatever pieces.
+pub fn check_parts<R: Reader>(rt: &impl Abort, alloc: Global, parts: &[&[u8]], verdict: Verdict) {
+    let frame = parts.concat(alloc).expect(rt, "memory for a frame");
+    check::<R>(rt, alloc, frame.as_slice(), verdict);
 }
 
-/// A request comes to this verdict, in whatever pieces.
-pub fn check_request<A: Abort>(rt: &A, alloc: Global, request: &[u8], verdict: Verdict) {
-    check::<RequestReader, A>(rt, alloc, request, verdict)
+// A reader to which a whole frame came byte by byte.
+fn filled<R: Reader>(rt: &impl Abort, alloc: Global, frame: &[u8]) -> R {
+    let mut reader = R::begin(alloc);
+    for byte in frame {
+        reader.take([*byte].as_slice());
+    }
+    check_fed(rt, frame, reader.stop(), Fed::Done);
+    reader
 }
 
-/// A reply comes to this verdict, in whatever pieces.
-pub fn check_reply<A: Abort>(rt: &A, alloc: Global, reply: &[u8], verdict: Verdict) {
-    check::<ReplyReader, A>(rt, alloc, reply, verdict)
+// A reader gives this.
+fn check_given<R: Reader>(rt: &impl Abort, alloc: Global, reader: R, text: &[u8]) {
+    let given = reader.give().expect(rt, "what a whole frame says");
+    let shown = R::show(rt, alloc, &given);
+    check_text(rt, shown.as_slice(), text);
+}
+
+/// A whole frame says this, in one piece and byte by byte.
+pub fn check_says<R: Reader>(rt: &impl Abort, alloc: Global, frame: &[u8], text: &[u8]) {
+    check_given(rt, alloc, begun::<R>(rt, alloc, frame, Fed::Done), text);
+    check_given(rt, alloc, filled::<R>(rt, alloc, frame), text);
 }

@@ -22,4 +22,6 @@ mod replies;
 #[cfg(test)]
 mod requests;
 #[cfg(test)]
+mod shown;
+#[cfg(test)]
 mod tokens;

@@ -1,7 +1,6 @@
 // Plain bodies and simple names, and tokens by their places.
-use crate::notation::check;
-use pp_tokens::{Kind, Token, is_plain, is_simple_name, lex};
-use std::alloc::AllocError;
+use crate::notation::{check, check_text, lexed};
+use pp_tokens::{Kind, Lexed, Token, is_plain, is_simple_name};
 use std::process::Abort;
 
 #[test]
@@ -49,61 +48,48 @@ fn tells_simple_names(rt: HostRuntime) {
     assert!(rt; !is_simple_name([b'a'; 256].as_slice()));
 }
 
+// A line has so many tokens, each at its place, and none behind them.
+fn check_line(rt: &impl Abort, lexed: &Lexed, line: usize, count: usize) {
+    assert!(rt; lexed.token_count(line) == count && lexed.token(line, count).is_none());
+    assert!(rt; count == 0 || lexed.token(line, count - 1).is_some());
+}
+
 #[test]
-fn counts_lines_and_tokens(rt: HostRuntime) -> Result<(), AllocError> {
-    let lexed = lex(rt.alloc(), b"a b\n\nc", false)?;
+fn counts_lines_and_tokens(rt: HostRuntime) {
+    let lexed = lexed(&rt, rt.alloc(), b"a b\n\nc", false);
     assert!(rt; lexed.line_count() == 3);
-    assert!(rt; lexed.token_count(0) == 2);
-    assert!(rt; lexed.token_count(1) == 0);
-    assert!(rt; lexed.token_count(3) == 0);
-    Ok(())
+    check_line(&rt, &lexed, 0, 2);
+    check_line(&rt, &lexed, 1, 0);
+    check_line(&rt, &lexed, 3, 0);
 }
 
 #[test]
-fn has_no_tokens_past_the_end(rt: HostRuntime) -> Result<(), AllocError> {
-    let lexed = lex(rt.alloc(), b"a b\n\nc", false)?;
-    assert!(rt; lexed.token(0, 1).is_some());
-    assert!(rt; lexed.token(0, 2).is_none());
-    assert!(rt; lexed.token(1, 0).is_none());
-    assert!(rt; lexed.token(3, 0).is_none());
-    Ok(())
-}
-
-#[test]
-fn has_no_lines_without_bytes(rt: HostRuntime) -> Result<(), AllocError> {
-    let none = lex(rt.alloc(), b"", false)?;
+fn has_no_lines_without_bytes(rt: HostRuntime) {
+    let none = lexed(&rt, rt.alloc(), b"", false);
     assert!(rt; none.line_count() == 0);
-    assert!(rt; none.token(0, 0).is_none());
-    Ok(())
+    check_line(&rt, &none, 0, 0);
+}
+
+// A plain body, where trigraphs are read.
+const PLAIN: &[(&str, &str)] = &[(
+    "#include \"a-b.h\"\n\n  int x1[08e], _y;\nint z;\n",
+    " p1(#)i1(include) h1(\"a-b.h\")\n\n i3(int) i3(x1)p3([)n3(08e)p3(])p3(,) i3(_y)p3(;)\n i4(int) i4(z)p4(;)\n",
+)];
+
+#[test]
+fn reads_a_plain_body(rt: HostRuntime) {
+    check(&rt, rt.alloc(), true, PLAIN);
 }
 
 #[test]
-fn reads_a_plain_body(rt: HostRuntime) -> Result<(), AllocError> {
-    check(
-        &rt,
-        rt.alloc(),
-        true,
-        &[(
-            "#include \"a-b.h\"\n\n  int x1[08e], _y;\nint z;\n",
-            " p1(#)i1(include) h1(\"a-b.h\")\n\n i3(int) i3(x1)p3([)n3(08e)p3(])p3(,) i3(_y)p3(;)\n i4(int) i4(z)p4(;)\n",
-        )],
-    )
-}
-
-#[test]
-fn copies_tokens(rt: HostRuntime) -> Result<(), AllocError> {
-    let alloc = rt.alloc();
-    let lexed = lex(alloc, b"\n( 08e", false)?;
-    let Some(token) = lexed.token(1, 1) else {
-        return Ok(assert!(rt; false));
-    };
-    check_number(&rt, &token.to_token(alloc)?);
-    Ok(())
+fn copies_tokens(rt: HostRuntime) {
+    let lexed = lexed(&rt, rt.alloc(), b"\n( 08e", false);
+    let token = lexed.token(1, 1).expect(&rt, "the second token");
+    let copy = token.to_token(rt.alloc()).expect(&rt, "memory for a token");
+    check_number(&rt, &copy);
 }
 
 fn check_number(rt: &impl Abort, token: &Token) {
-    assert!(rt; token.kind == Kind::Number);
-    assert!(rt; token.text.as_slice() == b"08e".as_slice());
-    assert!(rt; token.line == 2);
-    assert!(rt; token.space);
+    assert!(rt; token.kind == Kind::Number && token.line == 2 && token.space);
+    check_text(rt, "( 08e", token.text.as_slice(), "08e");
 }

@@ -1,25 +1,26 @@
 // The greatest lengths and counts.
-use crate::notation::{check, check_line, words_of};
+use crate::notation::{add, add_word, check_line, check_text, given, words_of};
 use base_types::{Bytes, List};
-use std::alloc::{AllocError, Global};
+use std::alloc::Global;
 use std::process::Abort;
 
 // A text of a byte, and another so many times.
-fn repeated(alloc: Global, first: u8, byte: u8, times: usize) -> Result<Bytes, AllocError> {
-    let mut text = Bytes::copy_of(alloc, &[first])?;
+fn repeated(rt: &impl Abort, alloc: Global, first: u8, byte: u8, times: usize) -> Vec<u8> {
+    let mut text = Vec::new(alloc);
+    add(rt, &mut text, &[first]);
     for _ in 0..times {
-        text.extend(&[byte])?;
+        add(rt, &mut text, &[byte]);
     }
-    Ok(text)
+    text
 }
 
 // A source's name behind a word, so many times.
-fn many_words(alloc: Global, word: &[u8], times: usize) -> Result<List<Bytes>, AllocError> {
-    let mut words = words_of(alloc, "a.c")?;
+fn many_words(rt: &impl Abort, alloc: Global, word: &str, times: usize) -> List<Bytes> {
+    let mut words = words_of(rt, alloc, "a.c");
     for _ in 0..times {
-        words.push(Bytes::copy_of(alloc, word)?)?;
+        add_word(rt, alloc, &mut words, word);
     }
-    Ok(words)
+    words
 }
 
 // So many words behind a source's name give this job.
@@ -27,94 +28,105 @@ fn check_many(
     rt: &impl Abort,
     alloc: Global,
     cwd: &[u8],
-    word: &[u8],
+    word: &str,
     times: usize,
     expected: &[u8],
-) -> Result<(), AllocError> {
-    let words = many_words(alloc, word, times)?;
-    check(rt, alloc, cwd, words.as_slice(), expected)
+) {
+    let words = many_words(rt, alloc, word, times);
+    let text = given(rt, alloc, cwd, words.as_slice());
+    check_text(rt, word, text.as_slice(), expected);
 }
 
 #[test]
-fn takes_a_thousand_words(rt: HostRuntime) -> Result<(), AllocError> {
-    let alloc = rt.alloc();
-    check_many(&rt, alloc, b"/w", b"-c", 999, b"a.c to a.i")?;
-    check_many(&rt, alloc, b"/w", b"-c", 1000, b"Limit")?;
-    check_many(&rt, alloc, b"/w", b"-q", 1000, b"Limit")?;
-    check_many(&rt, alloc, b"w", b"-q", 1000, b"Cwd")
+fn takes_a_thousand_words(rt: HostRuntime) {
+    check_many(&rt, rt.alloc(), b"/w", "-c", 999, b"a.c to a.i");
+    check_many(&rt, rt.alloc(), b"/w", "-c", 1000, b"Limit");
+    check_many(&rt, rt.alloc(), b"/w", "-q", 1000, b"Limit");
+    check_many(&rt, rt.alloc(), b"w", "-q", 1000, b"Cwd");
 }
 
 // A source's name of 4,096 bytes.
-fn long_word(alloc: Global) -> Result<List<Bytes>, AllocError> {
+fn long_word(rt: &impl Abort, alloc: Global) -> List<Bytes> {
     let mut words = List::new(alloc);
-    words.push(repeated(alloc, b'b', b'/', 4095)?)?;
-    Ok(words)
+    add_repeated(rt, alloc, &mut words, b'b', b'/', 4095);
+    words
+}
+
+fn add_repeated(
+    rt: &impl Abort,
+    alloc: Global,
+    words: &mut List<Bytes>,
+    first: u8,
+    byte: u8,
+    times: usize,
+) {
+    let word = Bytes::of(repeated(rt, alloc, first, byte, times));
+    words.push(word).expect(rt, "memory for words");
 }
 
 #[test]
-fn takes_long_words(rt: HostRuntime) -> Result<(), AllocError> {
-    let alloc = rt.alloc();
-    let words = long_word(alloc)?;
-    let mut expected = repeated(alloc, b'b', b'/', 4095)?;
-    expected.extend(b" to .i")?;
-    check(&rt, alloc, b"/w", words.as_slice(), expected.as_slice())
+fn takes_long_words(rt: HostRuntime) {
+    let words = long_word(&rt, rt.alloc());
+    let mut expected = repeated(&rt, rt.alloc(), b'b', b'/', 4095);
+    add(&rt, &mut expected, b" to .i");
+    let text = given(&rt, rt.alloc(), b"/w", words.as_slice());
+    check_text(&rt, "a long word", &text, &expected);
 }
 
 #[test]
-fn refuses_longer_words(rt: HostRuntime) -> Result<(), AllocError> {
-    let alloc = rt.alloc();
-    let mut words = long_word(alloc)?;
-    words.push(repeated(alloc, b'-', b'q', 4096)?)?;
-    check(&rt, alloc, b"/w", words.as_slice(), b"Limit")
+fn refuses_longer_words(rt: HostRuntime) {
+    let mut words = long_word(&rt, rt.alloc());
+    add_repeated(&rt, rt.alloc(), &mut words, b'-', b'q', 4096);
+    let text = given(&rt, rt.alloc(), b"/w", words.as_slice());
+    check_text(&rt, "a longer word", &text, b"Limit");
 }
 
 // In a working directory of one byte more than these, the words give this job.
-fn check_long_cwd(
-    rt: &impl Abort,
-    alloc: Global,
-    times: usize,
-    expected: &[u8],
-) -> Result<(), AllocError> {
-    let cwd = repeated(alloc, b'/', b'w', times)?;
-    check_line(rt, alloc, cwd.as_slice(), "a.c", expected)
+fn check_long_cwd(rt: &impl Abort, alloc: Global, times: usize, expected: &str) {
+    let cwd = repeated(rt, alloc, b'/', b'w', times);
+    check_line(rt, alloc, &cwd, "a.c", expected);
 }
 
 #[test]
-fn takes_long_working_directories(rt: HostRuntime) -> Result<(), AllocError> {
-    check_long_cwd(&rt, rt.alloc(), 4095, b"a.c to a.i")?;
-    check_long_cwd(&rt, rt.alloc(), 4096, b"Cwd")
+fn takes_long_working_directories(rt: HostRuntime) {
+    check_long_cwd(&rt, rt.alloc(), 4095, "a.c to a.i");
+    check_long_cwd(&rt, rt.alloc(), 4096, "Cwd");
 }
 
 // A source's name, and behind it each of so many directories twice.
-fn many_options(alloc: Global, dirs: u32) -> Result<List<Bytes>, AllocError> {
-    let mut words = words_of(alloc, "a.c")?;
+fn many_options(rt: &impl Abort, alloc: Global, dirs: u32) -> List<Bytes> {
+    let mut words = words_of(rt, alloc, "a.c");
     for n in 0..dirs {
-        let word = format!(in alloc; "-Idir{n}")?;
-        add_twice(alloc, &mut words, word.as_bytes())?;
+        add_twice(rt, alloc, &mut words, n);
     }
-    Ok(words)
+    words
 }
 
-fn add_twice(alloc: Global, words: &mut List<Bytes>, word: &[u8]) -> Result<(), AllocError> {
-    words.push(Bytes::copy_of(alloc, word)?)?;
-    words.push(Bytes::copy_of(alloc, word)?)?;
-    Ok(())
+fn add_twice(rt: &impl Abort, alloc: Global, words: &mut List<Bytes>, n: u32) {
+    let word = format!(in alloc; "-Idir{n}").expect(rt, "memory for a word");
+    add_word(rt, alloc, words, word.as_str());
+    add_word(rt, alloc, words, word.as_str());
 }
 
 // The job with so many directories.
-fn many_dirs(alloc: Global, dirs: u32) -> Result<Bytes, AllocError> {
-    let mut expected = Bytes::copy_of(alloc, b"a.c to a.i, bracket")?;
+fn many_dirs(rt: &impl Abort, alloc: Global, dirs: u32) -> Vec<u8> {
+    let mut expected = Vec::new(alloc);
+    add(rt, &mut expected, b"a.c to a.i, bracket");
     for n in 0..dirs {
-        let dir = format!(in alloc; " dir{n}")?;
-        expected.extend(dir.as_bytes())?;
+        add_dir(rt, alloc, &mut expected, n);
     }
-    Ok(expected)
+    expected
+}
+
+fn add_dir(rt: &impl Abort, alloc: Global, expected: &mut Vec<u8>, n: u32) {
+    let dir = format!(in alloc; " dir{n}").expect(rt, "memory for a name");
+    add(rt, expected, dir.as_bytes());
 }
 
 #[test]
-fn keeps_many_directories(rt: HostRuntime) -> Result<(), AllocError> {
-    let alloc = rt.alloc();
-    let words = many_options(alloc, 499)?;
-    let expected = many_dirs(alloc, 499)?;
-    check(&rt, alloc, b"/w", words.as_slice(), expected.as_slice())
+fn keeps_many_directories(rt: HostRuntime) {
+    let words = many_options(&rt, rt.alloc(), 499);
+    let expected = many_dirs(&rt, rt.alloc(), 499);
+    let text = given(&rt, rt.alloc(), b"/w", words.as_slice());
+    check_text(&rt, "many directories", &text, &expected);
 }
