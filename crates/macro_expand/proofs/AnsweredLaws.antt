@@ -1,5 +1,5 @@
 -- How an expansion goes on, token by token, whoever answers.
-use Rattle.std.proofs.Common.{◌≡◌, ℕ, suc, ◌+◌, ◌-◌, ◌<◌, ◌≤◌, Bool, true, false, List, [], ◌∷◌, ◌++◌, length, refl, ap, sym, ◌∙◌, append_assoc, Result, Ok, Err, Option, Some, None, arith, nat_lt}
+use Rattle.std.proofs.Common.{◌≡◌, ℕ, suc, add-one, ◌+◌, ◌-◌, ◌<◌, ◌≤◌, Bool, true, false, List, [], ◌∷◌, ◌++◌, length, refl, ap, sym, ◌∙◌, append_assoc, Result, Ok, Err, Option, Some, None, arith, nat_lt}
 use mathlib.Core.Path.{fun_ext}
 use Rattle.std.proofs.lemmas.Bool.{le-ltb, lt-ltb}
 use Rattle.macro_expand.specs.declared.outcome.Mode.{Mode}
@@ -12,7 +12,7 @@ use Rattle.macro_defs.specs.MacroDefinition.{MacroDefinition}
 use Rattle.macro_expand.specs.Asking.{Failure, Count, Unclosed, Deep, Work, Asking, give, fail, ask_definition, ask_file, ask_line, then_with}
 use Rattle.macro_expand.specs.Replacement.{Marked, Part, Call, call_in, after_open, arguments_of, parts_of, stands_alone}
 use Rattle.macro_expand.specs.Expansion.{DEEPEST, ExpandedEach, argument_expanded, arguments_expanded, counted, called, function_replaced, call_replacement, variable_of, Expanded, expansion, expansion_step, role_of, role_expanded, name_replaced, macro_replaced, charged, go_on, put_out, object_replacement, operand_of_defined, replaced_token, built_in, Table, Place, by_table}
-use Rattle.macro_expand.specs.Answered.{Answerer, Stop, ByFailure, ByPresumed, Answered, with_text, answered, after_result, and_then, before, expanded_for, charged_for, arguments_for, table_answerer}
+use Rattle.macro_expand.specs.Answered.{Answerer, Stop, ByFailure, ByPresumed, Answered, with_text, answered, after_result, and_then, before, expanded_for, charged_for, argument_for, arguments_for, table_answerer}
 use Rattle.macro_expand.proofs.StepLaws.{expansion-unfolds}
 
 -- the first part, and then what follows its result
@@ -271,13 +271,9 @@ module _ {S : Type 0} (w : Answerer S) (s : S) (mode : Mode) (depth : ℕ) (t : 
   unfolding arguments_for arguments_expanded answered
   arguments_for-nil i units = refl
 
-  -- what one argument becomes
-  argument_for : Bool → Bool → ℕ → List Marked → Answered Expanded S
-  argument_for alone shallow units a = answered w s (argument_expanded (expansion mode) depth alone shallow t units a)
-
   arguments_for-cons : (i units : ℕ) (a : List Marked) (rest : List (List Marked)) →
       arguments_for w s mode depth t parts i units (a ∷ rest)
-      ≡ and_then (argument_for (stands_alone i None parts) (nat_lt depth DEEPEST) units a)
+      ≡ and_then (argument_for w s mode depth t (stands_alone i None parts) units a)
       (λ e v. before_all (e.tokens ∷ []) (arguments_for w v mode depth t parts (suc i) e.units rest))
   unfolding arguments_for arguments_expanded answered argument_for before_all
   arguments_for-cons i units a rest =
@@ -285,33 +281,28 @@ module _ {S : Type 0} (w : Answerer S) (s : S) (mode : Mode) (depth : ℕ) (t : 
       ∙ ap (and_then (answered w s (argument_expanded (expansion mode) depth (stands_alone i None parts) (nat_lt depth DEEPEST) t units a)))
       (fun_ext (λ e. fun_ext (λ v. answered-then_with w v (arguments_expanded (expansion mode) depth t parts (suc i) e.units rest) _)))
 
-  module _ (i units : ℕ) (a : List Marked) (rest : List (List Marked)) where
-    After : Expanded → S → Answered ExpandedEach S
-    After e v = before_all (e.tokens ∷ []) (arguments_for w v mode depth t parts (suc i) e.units rest)
+  pub arguments_for-next : (i units : ℕ) (a : List Marked) (rest : List (List Marked)) (alone : Bool) → stands_alone i None parts ≡ alone →
+      arguments_for w s mode depth t parts i units (a ∷ rest)
+      ≡ and_then (argument_for w s mode depth t alone units a)
+      (λ e v. before_all (e.tokens ∷ []) (arguments_for w v mode depth t parts (suc i) e.units rest))
+  arguments_for-next i units a rest alone is =
+      arguments_for-cons i units a rest
+      ∙ ap (λ b. and_then (argument_for w s mode depth t b units a) (λ e v. before_all (e.tokens ∷ []) (arguments_for w v mode depth t parts (suc i) e.units rest))) is
 
-    pub arguments_for-skipped : stands_alone i None parts ≡ false →
-        arguments_for w s mode depth t parts i units (a ∷ rest) ≡ before_all ([] ∷ []) (arguments_for w s mode depth t parts (suc i) units rest)
-    unfolding argument_for argument_expanded answered and_then after_result After
-    arguments_for-skipped e =
-        arguments_for-cons i units a rest ∙ ap (λ b. and_then (argument_for b (nat_lt depth DEEPEST) units a) After) e
+module _ {S : Type 0} (w : Answerer S) (s : S) (mode : Mode) (depth : ℕ) (t : Token) (units : ℕ) (a : List Marked) where
+  pub argument_for-skipped : argument_for w s mode depth t false units a ≡ record { result = Ok (record { tokens = []; units = units }); state = s }
+  unfolding argument_for argument_expanded answered
+  argument_for-skipped = refl
 
-    pub arguments_for-deep : stands_alone i None parts ≡ true → DEEPEST ≤ depth →
-        arguments_for w s mode depth t parts i units (a ∷ rest) ≡ record { result = Err (ByFailure (Deep t.line)); state = s }
-    unfolding argument_for argument_expanded answered and_then after_result After
-    arguments_for-deep e deep =
-        arguments_for-cons i units a rest
-        ∙ ap (λ b. and_then (argument_for b (nat_lt depth DEEPEST) units a) After) e
-        ∙ ap (λ b. and_then (argument_for true b units a) After) (le-ltb depth DEEPEST deep)
+  pub argument_for-deep : DEEPEST ≤ depth → argument_for w s mode depth t true units a ≡ record { result = Err (ByFailure (Deep t.line)); state = s }
+  unfolding argument_for argument_expanded answered
+  argument_for-deep deep = ap (λ b. answered w s (argument_expanded (expansion mode) depth true b t units a)) (le-ltb depth DEEPEST deep)
 
-    pub arguments_for-alone : stands_alone i None parts ≡ true → depth < DEEPEST →
-        arguments_for w s mode depth t parts i units (a ∷ rest)
-        ≡ and_then (expanded_for w s mode (suc depth) units a)
-        (λ e v. before_all (e.tokens ∷ []) (arguments_for w v mode depth t parts (suc i) e.units rest))
-    unfolding argument_for argument_expanded expanded_for After
-    arguments_for-alone e shallow =
-        arguments_for-cons i units a rest
-        ∙ ap (λ b. and_then (argument_for b (nat_lt depth DEEPEST) units a) After) e
-        ∙ ap (λ b. and_then (argument_for true b units a) After) (lt-ltb depth DEEPEST shallow)
+  pub argument_for-alone : depth < DEEPEST → argument_for w s mode depth t true units a ≡ expanded_for w s mode (depth + 1) units a
+  unfolding argument_for argument_expanded expanded_for
+  argument_for-alone shallow =
+      ap (λ b. answered w s (argument_expanded (expansion mode) depth true b t units a)) (lt-ltb depth DEEPEST shallow)
+      ∙ ap (λ n. answered w s (expansion mode n units a)) (sym (add-one depth))
 
 -- A table is an answerer that keeps its state.
 abbrev pub lifted : {A : Type 0} → Result A Failure → Result A Stop

@@ -293,16 +293,18 @@ lists_of-last (p ∷ pieces) v = ap (λ (l : List (List Marked)). map marked_of 
 
 module _ (pieces : List (Vec Kept Global)) (piece : List Kept) (c n : ℕ) (t : Kept) where
   pub cut_turn : is_cut c n t.token ≡ true → (pieces' : List (Vec Kept Global)) (v : Vec Kept Global) → pieces' ≡ pieces ++ v ∷ [] → v.items ≡ piece →
-      (piece' : List Kept) → piece' ≡ [] → (ts : List Marked) →
+      (piece' : List Kept) → piece' ≡ [] → (c' n' : ℕ) → c' ≡ c - 1 → n' ≡ n → (ts : List Marked) →
       lists_of pieces ++ arguments_with (map marked_of piece) (cut_at_commas c n (marked_of t ∷ ts))
-      ≡ lists_of pieces' ++ arguments_with (map marked_of piece') (cut_at_commas (c - 1) n ts)
-  cut_turn cut pieces' v pushed same piece' empty ts =
+      ≡ lists_of pieces' ++ arguments_with (map marked_of piece') (cut_at_commas c' n' ts)
+  cut_turn cut pieces' v pushed same piece' empty c' n' less level ts =
       ap (λ (l : List (List Marked)). lists_of pieces ++ arguments_with (map marked_of piece) l) (cut-made c n (marked_of t) ts cut)
       ∙ ap (λ (l : List (List Marked)). lists_of pieces ++ l) (whole_piece (map marked_of piece) (cut_at_commas (c - 1) n ts))
       ∙ sym (append_assoc (lists_of pieces) (map marked_of piece ∷ []) (cut_at_commas (c - 1) n ts))
       ∙ ap (λ (l : List Kept). (lists_of pieces ++ map marked_of l ∷ []) ++ cut_at_commas (c - 1) n ts) (sym same)
       ∙ ap (λ (l : List (List Marked)). l ++ cut_at_commas (c - 1) n ts) (sym (ap lists_of pushed ∙ lists_of-last pieces v))
       ∙ ap (λ (l : List Kept). lists_of pieces' ++ arguments_with (map marked_of l) (cut_at_commas (c - 1) n ts)) (sym empty)
+      ∙ ap (λ k. lists_of pieces' ++ arguments_with (map marked_of piece') (cut_at_commas k n ts)) (sym less)
+      ∙ ap (λ k. lists_of pieces' ++ arguments_with (map marked_of piece') (cut_at_commas c' k ts)) (sym level)
 
   pub grow_turn : is_cut c n t.token ≡ false → (piece' : List Kept) → piece' ≡ piece ++ t ∷ [] → (n' : ℕ) → n' ≡ nesting_after n t.token → (ts : List Marked) →
       lists_of pieces ++ arguments_with (map marked_of piece) (cut_at_commas c n (marked_of t ∷ ts))

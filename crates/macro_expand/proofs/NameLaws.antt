@@ -1,6 +1,6 @@
 -- What the name at the head of pending tokens does, from what the code found, whoever answers.
-use Rattle.std.proofs.Common.{◌≡◌, ℕ, zero, suc, arith, refl, ◌+◌, Vec, Global, get_or, drop, drop-cons, drop_of_length-le, append-nil, add-one, ◌<◌, ◌≤◌, Bool, true, false, List, [], ◌∷◌, ◌++◌, map, length, ap, sym, ◌∙◌, Ok, Err, Option, Some, None}
-use Rattle.std.proofs.lemmas.List.{map-append, length-append}
+use Rattle.std.proofs.Common.{◌≡◌, ◌≤◌, true, subst, ℕ, zero, suc, arith, refl, ◌+◌, Vec, Global, get_or, append-nil, add-one, ◌<◌, Bool, false, List, [], ◌∷◌, ◌++◌, map, length, ap, sym, ◌∙◌, Result, Ok, Err, IfOk, IfErr, Option, Some, None}
+use Rattle.std.proofs.lemmas.List.{map-append, length-append, length-map}
 use Rattle.macro_expand.specs.declared.outcome.Mode.{Mode}
 use Rattle.macro_expand.specs.declared.marked.Role.TheVariants.{Name}
 use Rattle.macro_defs.specs.declared.definition.Shape.TheVariants.{Object, Function}
@@ -9,13 +9,17 @@ use Rattle.macro_expand.specs.declared.marked.Marked.{Marked as Kept}
 use Rattle.macro_expand.specs.declared.outcome.RunError.{RunError}
 use Rattle.macro_expand.specs.declared.outcome.RunError.TheVariants.{Count as CountError, Unclosed as UnclosedError, Paste as PasteError, Deep as DeepError, Work as WorkError, Presumed as PresumedError, Memory}
 use Rattle.macro_defs.specs.MacroDefinition.{MacroDefinition}
-use Rattle.macro_expand.specs.Asking.{Count, Unclosed, Deep}
+use mathlib.Core.Path.{fun_ext}
+use Rattle.macro_expand.specs.declared.name.MacroCall.{MacroCall}
+use Rattle.macro_expand.specs.Asking.{Failure, Count, Unclosed, Deep}
 use Rattle.macro_expand.specs.Replacement.{Marked, after_open, Part, parts_of, stands_alone}
 use Rattle.macro_expand.specs.Expansion.{Expanded, ExpandedEach, role_of, object_replacement, variable_of, call_replacement}
-use Rattle.macro_expand.specs.Answered.{Answerer, ByFailure, Answered, after_result, and_then, before, expanded_for, charged_for, arguments_for}
-use Rattle.macro_expand.specs.Seen.{marked_of, lists_of, Reports, Stops, ReadsCall, RefusesCall, call_replaced_by}
-use Rattle.macro_expand.proofs.AnsweredLaws.{expanded_for-undefined, expanded_for-object, expanded_for-not_called, expanded_for-unclosed, expanded_for-count, expanded_for-called, charged_for-error, before_all, before_all-lists, arguments_for-skipped, arguments_for-deep, arguments_for-alone, arguments_for-nil}
-use Rattle.macro_expand.proofs.LoopLaws.{Stops-same, Stops-reports}
+use Rattle.macro_expand.specs.Answered.{Answerer, ByFailure, Answered, after_result, and_then, before, expanded_for, charged_for, argument_for, arguments_for}
+use Rattle.macro_expand.specs.Seen.{marked_of, lists_of, parts_seen, Reports, Stops, ReadsCall, RefusesCall, KeepsWritten, call_replaced_by}
+use Rattle.macro_expand.specs.Naming.{StandAlone, called_for}
+use Rattle.macro_expand.proofs.AnsweredLaws.{argument_for-skipped, argument_for-deep, argument_for-alone, expanded_for-undefined, expanded_for-object, expanded_for-not_called, expanded_for-unclosed, expanded_for-count, expanded_for-called, charged_for-error, before_all, before_all-lists, arguments_for-next, arguments_for-nil}
+use Rattle.macro_expand.proofs.PieceLemmas.{written_is}
+use Rattle.macro_expand.proofs.LoopLaws.{Stops-is, Stops-same, Stops-reports}
 
 module _ {S : Type 0} (w : Answerer S) (s u : S) (mode : Mode) (depth units : ℕ) (t : Kept) (rest : List Kept)
     (role : role_of mode (marked_of t) (map marked_of rest) ≡ Name) (state : u ≡ (w.definition s t.token.text).state) where
@@ -65,46 +69,108 @@ module _ {S : Type 0} (w : Answerer S) (s u : S) (mode : Mode) (depth units : �
         head_refused PresumedError h = absurd h
         head_refused Memory h = tt
 
-        module _ (written : List (List Marked)) (close : Marked) (after : List Marked)
-            (reads : ReadsCall (length params) variadic within written close after)
-            (parts : List Part) (seen : parts ≡ parts_of params d.body) (variable : Option ℕ) (which : variable ≡ variable_of params variadic) where
-          Given : Answered ExpandedEach S
-          Given = arguments_for w u mode depth t.token parts 0 units written
+        -- the call that was read, with what is kept of its arguments as written
+        pub head_called : (written : List (List Marked)) (close : Kept) (after : List Marked) →
+            ReadsCall (length params) variadic within written (marked_of close) after →
+            (call : MacroCall) (given : List (List Marked)) → given ≡ written → parts_seen call.parts.items ≡ parts_of params d.body →
+            call.variable ≡ variable_of params variadic → call.read.close ≡ close →
+            KeepsWritten (parts_seen call.parts.items) written (lists_of call.read.written.items) →
+            Head ≡ called_for w u mode depth units t call given after
+        unfolding call_replacement called_for
+        head_called written close after reads call given same seen which closes keeps =
+            expanded_for-called w s u mode depth units (marked_of t) (map marked_of rest) role (sym state) d (sym some) params variadic shape
+            within opened (record { within = reads.within; close = marked_of close; after = after }) reads.read written reads.counted
+            ∙ ap (λ (ps : List Part). and_then (arguments_for w u mode depth t.token ps 0 units written) (λ e v.
+            charged_for w v mode depth e.units (call_replaced_by t ps (variable_of params variadic) written (marked_of close) e.lists) after)) (sym seen)
+            ∙ ap (λ (o : Option ℕ). and_then (arguments_for w u mode depth t.token (parts_seen call.parts.items) 0 units written) (λ e v.
+            charged_for w v mode depth e.units (call_replaced_by t (parts_seen call.parts.items) o written (marked_of close) e.lists) after)) (sym which)
+            ∙ ap (and_then (arguments_for w u mode depth t.token (parts_seen call.parts.items) 0 units written))
+            (fun_ext (λ e. fun_ext (λ v. ap (λ r. charged_for w v mode depth e.units r after)
+            (sym (written_is t (parts_seen call.parts.items) call.variable written (lists_of call.read.written.items) e.lists close call.read.close keeps closes)))))
+            ∙ ap (λ (q : List (List Marked)). called_for w u mode depth units t call q after) (sym same)
 
-          Then : ExpandedEach → S → Answered Expanded S
-          Then e v = charged_for w v mode depth e.units (call_replaced_by t parts variable written close e.lists) after
+-- the same lists of tokens are as many
+pub stand_alone-same : (alone : List Bool) (a b : List (Vec Kept Global)) (parts : List Part) → lists_of b ≡ lists_of a →
+    StandAlone alone (length a) parts → StandAlone alone (length b) parts
+stand_alone-same alone a b parts same stand =
+    let f : Vec Kept Global → List Marked = λ v. map marked_of v.items in
+    subst (λ n. StandAlone alone n parts) (sym (length-map a f) ∙ sym (ap length same) ∙ length-map b f) stand
 
-          called_is : Head ≡ and_then Given Then
-          unfolding call_replacement Given Then
-          called_is =
-              expanded_for-called w s u mode depth units (marked_of t) (map marked_of rest) role (sym state) d (sym some) params variadic shape
-              within opened (record { within = reads.within; close = close; after = after }) reads.read written reads.counted
-              ∙ ap (λ (ps : List Part). and_then (arguments_for w u mode depth t.token ps 0 units written) (λ e v.
-              charged_for w v mode depth e.units (call_replaced_by t ps (variable_of params variadic) written close e.lists) after)) (sym seen)
-              ∙ ap (λ (o : Option ℕ). and_then (arguments_for w u mode depth t.token parts 0 units written) (λ e v.
-              charged_for w v mode depth e.units (call_replaced_by t parts o written close e.lists) after)) (sym which)
+-- A call whose arguments are expanded.
+module _ {S : Type 0} (w : Answerer S) (s v : S) (mode : Mode) (depth units : ℕ) (t : Kept) (call : MacroCall) (given : List (List Marked)) where
+  module _ (rest : List Marked) where
+    pub argument_stops : (e : RunError) → Stops e v (arguments_for w s mode depth t.token (parts_seen call.parts.items) 0 units given) →
+        Stops e v (called_for w s mode depth units t call given rest)
+    unfolding called_for and_then after_result
+    argument_stops e stops =
+        Stops-same e v _ _ (λ f failed. ap (λ r. and_then r (λ e u. charged_for w u mode depth e.units (call_replaced_by t (parts_seen call.parts.items)
+        call.variable (lists_of call.read.written.items) (marked_of call.read.close) e.lists) rest)) failed) stops
 
-          pub head_argument_error : (e : RunError) (v : S) →
-              Stops e v (arguments_for w u mode depth t.token parts 0 units written) → Stops e v Head
-          unfolding Given and_then after_result
-          head_argument_error e v stops = Stops-same e v _ _ (λ f failed. called_is ∙ ap (λ r. and_then r Then) failed) stops
+    module _ (lists : List (List Marked)) (left : ℕ)
+        (expanded : arguments_for w s mode depth t.token (parts_seen call.parts.items) 0 units given
+        ≡ record { result = Ok (record { lists = lists; units = left }); state = v }) where
+      Replaced : Result (List Marked) Failure
+      Replaced = call_replaced_by t (parts_seen call.parts.items) call.variable (lists_of call.read.written.items) (marked_of call.read.close) lists
 
-          module _ (lists : List (List Marked)) (left : ℕ) (v : S)
-              (expanded : arguments_for w u mode depth t.token parts 0 units written
-              ≡ record { result = Ok (record { lists = lists; units = left }); state = v }) where
-            replaced_is : Head ≡ charged_for w v mode depth left (call_replaced_by t parts variable written close lists) after
-            unfolding Given Then and_then after_result
-            replaced_is = called_is ∙ ap (λ r. and_then r Then) expanded
+      called_is : called_for w s mode depth units t call given rest ≡ charged_for w v mode depth left Replaced rest
+      unfolding called_for and_then after_result Replaced
+      called_is =
+          ap (λ r. and_then r (λ e u. charged_for w u mode depth e.units (call_replaced_by t (parts_seen call.parts.items)
+          call.variable (lists_of call.read.written.items) (marked_of call.read.close) e.lists) rest)) expanded
 
-            pub head_called : (ts : List Marked) → call_replaced_by t parts variable written close lists ≡ Ok ts →
-                Head ≡ charged_for w v mode depth left (Ok ts) after
-            head_called ts made = replaced_is ∙ ap (λ r. charged_for w v mode depth left r after) made
+      pub call_replaced : (made : List Kept) →
+          call_replaced_by t (parts_seen call.parts.items) call.variable (lists_of call.read.written.items) (marked_of call.read.close) lists ≡ Ok (map marked_of made) →
+          called_for w s mode depth units t call given rest ≡ charged_for w v mode depth left (Ok (map marked_of made)) rest
+      unfolding Replaced
+      call_replaced made is = called_is ∙ ap (λ r. charged_for w v mode depth left r rest) is
 
-            pub head_paste_error : (e : RunError) → Reports e (call_replaced_by t parts variable written close lists) → Stops e v Head
-            head_paste_error e reports =
-                Stops-reports e v _ _ (λ f failed.
-                replaced_is ∙ ap (λ r. charged_for w v mode depth left r after) failed
-                ∙ charged_for-error w v mode depth left f after) reports
+      pub paste_stops : (e : RunError) →
+          Reports e (call_replaced_by t (parts_seen call.parts.items) call.variable (lists_of call.read.written.items) (marked_of call.read.close) lists) →
+          Stops e v (called_for w s mode depth units t call given rest)
+      unfolding Replaced
+      paste_stops e reports =
+          Stops-reports e v _ _ (λ f failed.
+          called_is ∙ ap (λ r. charged_for w v mode depth left r rest) failed ∙ charged_for-error w v mode depth left f rest) reports
+
+-- One argument.
+module _ {S : Type 0} (w : Answerer S) (s : S) (mode : Mode) (depth units : ℕ) (t : Token) (alone : Bool) (a : List Kept) where
+  Argument : Answered Expanded S
+  Argument = argument_for w s mode depth t alone units (map marked_of a)
+
+  pub argument_skipped : (out : List Kept) → alone ≡ false → out ≡ [] →
+      argument_for w s mode depth t alone units (map marked_of a) ≡ record { result = Ok (record { tokens = map marked_of out; units = units }); state = s }
+  argument_skipped out beside none =
+      ap (λ b. argument_for w s mode depth t b units (map marked_of a)) beside
+      ∙ argument_for-skipped w s mode depth t units (map marked_of a)
+      ∙ ap (λ ts. record { result = Ok (record { tokens = map marked_of ts; units = units }); state = s }) (sym none)
+
+  module _ (stands : alone ≡ true) where
+    pub argument_deep : 400 ≤ depth → argument_for w s mode depth t alone units (map marked_of a) ≡ record { result = Err (ByFailure (Deep t.line)); state = s }
+    argument_deep deep =
+        ap (λ b. argument_for w s mode depth t b units (map marked_of a)) stands ∙ argument_for-deep w s mode depth t units (map marked_of a) deep
+
+    module _ (shallow : depth < 400) (given : List Kept) (same : given ≡ a) (u : S) (left : ℕ) where
+      argument_is : Argument ≡ expanded_for w s mode (depth + 1) units (map marked_of given)
+      unfolding Argument
+      argument_is =
+          ap (λ b. argument_for w s mode depth t b units (map marked_of a)) stands ∙ argument_for-alone w s mode depth t units (map marked_of a) shallow
+          ∙ ap (λ ts. expanded_for w s mode (depth + 1) units (map marked_of ts)) (sym same)
+
+      pub argument_made : (r : Result (Vec Kept Global) RunError) →
+          IfOk r (λ out. expanded_for w s mode (depth + 1) units (map marked_of given)
+          ≡ record { result = Ok (record { tokens = map marked_of out.items; units = left }); state = u }) →
+          IfOk r (λ out. argument_for w s mode depth t alone units (map marked_of a)
+          ≡ record { result = Ok (record { tokens = map marked_of out.items; units = left }); state = u })
+      unfolding Argument
+      argument_made (Ok out) made = argument_is ∙ made
+      argument_made (Err e) made = made
+
+      pub argument_fails : (r : Result (Vec Kept Global) RunError) →
+          IfErr r (λ e. Stops e u (expanded_for w s mode (depth + 1) units (map marked_of given))) →
+          IfErr r (λ e. Stops e u (argument_for w s mode depth t alone units (map marked_of a)))
+      unfolding Argument
+      argument_fails (Ok out) stops = stops
+      argument_fails (Err e) stops = Stops-is e u _ _ argument_is stops
 
 -- below the list's end the value for none doesn't matter
 get_or-any : {A : Type 0} (xs : List A) (i : ℕ) (a b : A) → i < length xs → get_or xs i a ≡ get_or xs i b
@@ -148,41 +214,24 @@ module _ {S : Type 0} (w : Answerer S) (s : S) (mode : Mode) (depth : ℕ) (t : 
       ∙ ap (λ n. before_all (lists_of next) (arguments_for w u mode depth t parts n left (lists_of rest)))
       (sym (ap length made ∙ length-append out (v ∷ []) ∙ add-one (length out)))
 
-  pub turn_skipped : (next : List (Vec Kept Global)) (v : Vec Kept Global) → next ≡ out ++ v ∷ [] → v.items ≡ [] →
-      stands_alone (length out) None parts ≡ false →
-      whole ≡ before_all (lists_of next) (arguments_for w s mode depth t parts (length next) units (lists_of rest))
-  unfolding Left
-  turn_skipped next v made empty alone =
-      at_next next v s units made (at_argument
-      ∙ ap (before_all (lists_of out)) (arguments_for-skipped w s mode depth t parts (length out) units (map marked_of a.items) (lists_of rest) alone
-      ∙ ap (λ q. before_all (map marked_of q ∷ []) (Left s (suc (length out)) units (lists_of rest))) (sym empty)))
-
-  pub turn_deep : stands_alone (length out) None parts ≡ true → 400 ≤ depth → whole ≡ record { result = Err (ByFailure (Deep t.line)); state = s }
-  unfolding Left before_all and_then after_result
-  turn_deep alone deep =
-      at_argument ∙ ap (before_all (lists_of out))
-      (arguments_for-deep w s mode depth t parts (length out) units (map marked_of a.items) (lists_of rest) alone deep)
-
-  module _ (given : List Kept) (same : given ≡ a.items) (alone : stands_alone (length out) None parts ≡ true) (shallow : depth < 400) where
+  module _ (alone : Bool) (stands : stands_alone (length out) None parts ≡ alone) where
     Then_more : Expanded → S → Answered ExpandedEach S
     Then_more e u = before_all (e.tokens ∷ []) (Left u (suc (length out)) e.units (lists_of rest))
 
-    at_expanded : whole ≡ before_all (lists_of out) (and_then (expanded_for w s mode (depth + 1) units (map marked_of given)) Then_more)
+    at_expanded : whole ≡ before_all (lists_of out) (and_then (argument_for w s mode depth t alone units (map marked_of a.items)) Then_more)
     unfolding Left Then_more
     at_expanded =
         at_argument
-        ∙ ap (before_all (lists_of out)) (arguments_for-alone w s mode depth t parts (length out) units (map marked_of a.items) (lists_of rest) alone shallow)
-        ∙ ap (λ q. before_all (lists_of out) (and_then (expanded_for w s mode (suc depth) units (map marked_of q)) Then_more)) (sym same)
-        ∙ ap (λ q. before_all (lists_of out) (and_then (expanded_for w s mode q units (map marked_of given)) Then_more)) (sym (add-one depth))
+        ∙ ap (before_all (lists_of out)) (arguments_for-next w s mode depth t parts (length out) units (map marked_of a.items) (lists_of rest) alone stands)
 
     pub turn_expanded : (next : List (Vec Kept Global)) (v : Vec Kept Global) (u : S) (left : ℕ) → next ≡ out ++ v ∷ [] →
-        expanded_for w s mode (depth + 1) units (map marked_of given) ≡ record { result = Ok (record { tokens = map marked_of v.items; units = left }); state = u } →
+        argument_for w s mode depth t alone units (map marked_of a.items) ≡ record { result = Ok (record { tokens = map marked_of v.items; units = left }); state = u } →
         whole ≡ before_all (lists_of next) (arguments_for w u mode depth t parts (length next) left (lists_of rest))
     unfolding Then_more and_then after_result
     turn_expanded next v u left made expanded =
         at_next next v u left made (at_expanded ∙ ap (λ r. before_all (lists_of out) (and_then r Then_more)) expanded)
 
-    pub turn_stops : (u : S) (e : RunError) → Stops e u (expanded_for w s mode (depth + 1) units (map marked_of given)) → Stops e u whole
+    pub turn_stops : (u : S) (e : RunError) → Stops e u (argument_for w s mode depth t alone units (map marked_of a.items)) → Stops e u whole
     unfolding Then_more and_then after_result before_all
     turn_stops u e stops =
         Stops-same e u _ _ (λ f failed. at_expanded ∙ ap (λ r. before_all (lists_of out) (and_then r Then_more)) failed) stops

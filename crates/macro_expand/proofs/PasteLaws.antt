@@ -1,6 +1,6 @@
 -- How two tokens are pasted, and pieces joined one by one.
 use mathlib.Core.Path.{fun_ext}
-use Rattle.std.proofs.Common.{◌≡◌, ℕ, Bool, true, false, List, [], ◌∷◌, ◌++◌, ◌&&◌, map, refl, ap, sym, ◌∙◌, append_assoc, Result, Ok, Err, Option, Some, None}
+use Rattle.std.proofs.Common.{◌≡◌, ℕ, Bool, true, false, List, [], ◌∷◌, ◌++◌, ◌&&◌, map, refl, ap, sym, ◌∙◌, append_assoc, subst, Result, Ok, Err, Option, Some, None}
 use Rattle.macro_expand.specs.declared.marked.Marked.{Marked as Kept}
 use Rattle.macro_expand.specs.declared.outcome.RunError.{RunError}
 use Rattle.macro_expand.specs.declared.outcome.RunError.TheVariants.{Count as CountError, Unclosed as UnclosedError, Paste as PasteError, Deep as DeepError, Work as WorkError, Presumed as PresumedError, Memory}
@@ -8,9 +8,9 @@ use Rattle.pp_tokens.specs.declared.Kind.{Kind}
 use Rattle.pp_tokens.specs.Grammar.{kind_of}
 use Rattle.macro_expand.specs.Sets.{names_in}
 use Rattle.macro_expand.specs.Replacement.{Marked, Operand, operand_tokens, common_names, Piece, Real, Placemarker, Joining, pasted, before_joined, joined}
-use Rattle.macro_expand.specs.declared.marked.Piece.{Piece as KeptPiece}
-use Rattle.macro_expand.specs.declared.marked.Piece.TheVariants.{Real as KeptReal, Placemarker as KeptPlacemarker, Joining as KeptJoining}
-use Rattle.macro_expand.specs.Seen.{ReportsPaste, marked_of, piece_of, operand_of}
+use Rattle.macro_expand.specs.declared.paste.Joining.{Joining as Joiner}
+use Rattle.macro_expand.specs.Seen.{ReportsPaste, marked_of, operand_of, pasted_as}
+use Rattle.macro_expand.specs.Pasting.{tokens_before, joined_from}
 
 -- Two tokens pasted (6.10.3.3).
 abbrev pub Paste_of : Kept → Kept → List ℕ → Option Kind → Result Operand (List ℕ × List ℕ)
@@ -36,25 +36,21 @@ paste_is a b text o is kind = go (kind_of (a.token.text ++ b.token.text))
     go None = refl
     go (Some k) = refl
 
-pub paste_bad : (a b : Kept) (text : List ℕ) (o : Option Kind) → text ≡ a.token.text ++ b.token.text → o ≡ kind_of text → o ≡ None →
-    pasted (Some (marked_of a)) (Some (marked_of b)) ≡ Err (a.token.text, b.token.text)
-paste_bad a b text o is kind none = paste_is a b text o is kind ∙ ap (Paste_of a b text) none
+pub made_none : (a b : Kept) (text : List ℕ) (o : Option Kind) → text ≡ a.token.text ++ b.token.text → o ≡ kind_of text → o ≡ None →
+    pasted (Some (marked_of a)) (Some (marked_of b)) ≡ pasted_as a b None
+made_none a b text o is kind none = paste_is a b text o is kind ∙ ap (Paste_of a b text) none
 
-pub paste_good : (a b : Kept) (text : List ℕ) (o : Option Kind) (k : Kind) (hidden : List (List ℕ)) → text ≡ a.token.text ++ b.token.text →
+pub made_some : (a b : Kept) (text : List ℕ) (o : Option Kind) (k : Kind) (hidden : List (List ℕ)) → text ≡ a.token.text ++ b.token.text →
     o ≡ kind_of text → o ≡ Some k → ((n : List ℕ) → names_in hidden n ≡ (names_in a.hidden n && names_in b.hidden n)) →
     pasted (Some (marked_of a)) (Some (marked_of b))
-    ≡ Ok (Some (record { token = record { kind = k; text = text; line = a.token.line; space = a.token.space }; hidden = names_in hidden }))
-paste_good a b text o k hidden is kind some both =
+    ≡ pasted_as a b (Some (record { token = record { kind = k; text = text; line = a.token.line; space = a.token.space }; hidden = hidden }))
+made_some a b text o k hidden is kind some both =
     paste_is a b text o is kind ∙ ap (Paste_of a b text) some
     ∙ ap (λ h. Ok (Some (record { token = record { kind = k; text = text; line = a.token.line; space = a.token.space }; hidden = h })))
     (sym (fun_ext both))
 
 abbrev pub Joined : Type 0
 Joined = Result (List Marked) (List ℕ × List ℕ)
-
-unfoldable pub tokens_before : List Marked → Joined → Joined
-tokens_before ts (Ok us) = Ok (ts ++ us)
-tokens_before ts (Err e) = Err e
 
 pub tokens_before-nothing : (r : Joined) → tokens_before [] r ≡ r
 unfolding tokens_before
@@ -113,47 +109,55 @@ unfolding joined tokens_before
 keeps_last whole out next left true made h = h ∙ ap Ok (sym made)
 keeps_last whole out next left false made h = h ∙ ap Ok (sym made)
 
--- The same over the code's lists: `p` is the first of `pieces`, and `taken` is the operand on the left.
-module _ (whole : Joined) (out : List Kept) (left taken : Option Kept) (same : taken ≡ left) (b : Bool) (pieces rest : List KeptPiece)
-    (p : KeptPiece) (is : pieces ≡ p ∷ rest)
-    (keeps : whole ≡ tokens_before (map marked_of out) (joined (operand_of left) b (map piece_of pieces))) where
-  at_piece : (q : KeptPiece) (c : Bool) → p ≡ q → b ≡ c →
-      whole ≡ tokens_before (map marked_of out) (joined (operand_of taken) c (piece_of q ∷ map piece_of rest))
-  at_piece q c e f =
-      keeps
-      ∙ ap (λ w. tokens_before (map marked_of out) (joined (operand_of left) b (map piece_of w))) (is ∙ ap (λ x. x ∷ rest) e)
-      ∙ ap (λ w. tokens_before (map marked_of out) (joined (operand_of left) w (piece_of q ∷ map piece_of rest))) f
-      ∙ ap (λ w. tokens_before (map marked_of out) (joined (operand_of w) c (piece_of q ∷ map piece_of rest))) (sym same)
+-- The same over what code has joined.
+module _ (j : Joiner) (ps : List Piece) where
+  From : List Kept → Option Kept → Bool → List Piece → Joined
+  From out left b qs = tokens_before (map marked_of out) (joined (operand_of left) b qs)
 
-  pub turn_joining : p ≡ KeptJoining → whole ≡ tokens_before (map marked_of out) (joined (operand_of taken) true (map piece_of rest))
-  turn_joining e = keeps_joining whole (map marked_of out) (operand_of taken) (map piece_of rest) b (at_piece KeptJoining b e refl)
+  now_at : (left : Option Kept) (b : Bool) (qs : List Piece) → left ≡ j.left → j.joining ≡ b → joined_from j qs ≡ From j.out.items left b qs
+  unfolding From
+  now_at left b qs same is =
+      ap (λ o. tokens_before (map marked_of j.out.items) (joined (operand_of o) j.joining qs)) (sym same)
+      ∙ ap (λ c. tokens_before (map marked_of j.out.items) (joined (operand_of left) c qs)) is
 
-  pub turn_joined_placemarker : p ≡ KeptPlacemarker → b ≡ true →
-      whole ≡ tokens_before (map marked_of out) (joined (operand_of taken) false (map piece_of rest))
-  turn_joined_placemarker e f =
-      keeps_joined_placemarker whole (map marked_of out) (operand_of taken) (map piece_of rest) (at_piece KeptPlacemarker true e f)
+  pub turn_joining : joined_from j (Joining ∷ ps) ≡ joined_from (record j { joining = true }) ps
+  turn_joining = keeps_joining _ (map marked_of j.out.items) (operand_of j.left) ps j.joining refl
 
-  pub turn_placemarker : (next : List Kept) (after : Option Kept) → p ≡ KeptPlacemarker → b ≡ false → after ≡ None →
-      map marked_of next ≡ map marked_of out ++ operand_tokens (operand_of taken) →
-      whole ≡ tokens_before (map marked_of next) (joined (operand_of after) b (map piece_of rest))
-  turn_placemarker next after e f none made =
-      keeps_placemarker whole (map marked_of out) (operand_of taken) (map piece_of rest) (map marked_of next) made (at_piece KeptPlacemarker false e f)
-      ∙ ap (λ w. tokens_before (map marked_of next) (joined (operand_of w) false (map piece_of rest))) (sym none)
-      ∙ ap (λ w. tokens_before (map marked_of next) (joined (operand_of after) w (map piece_of rest))) (sym f)
+  pub turn_joined_placemarker : j.joining ≡ true → joined_from j (Placemarker ∷ ps) ≡ joined_from (record j { joining = false }) ps
+  unfolding From
+  turn_joined_placemarker is = keeps_joined_placemarker _ (map marked_of j.out.items) (operand_of j.left) ps (now_at j.left true (Placemarker ∷ ps) refl is)
 
-  pub turn_real : (next : List Kept) (m : Kept) → p ≡ KeptReal m → b ≡ false →
-      map marked_of next ≡ map marked_of out ++ operand_tokens (operand_of taken) →
-      whole ≡ tokens_before (map marked_of next) (joined (Some (marked_of m)) b (map piece_of rest))
-  turn_real next m e f made =
-      keeps_real whole (map marked_of out) (operand_of taken) (map piece_of rest) (map marked_of next) (marked_of m) made (at_piece (KeptReal m) false e f)
-      ∙ ap (λ w. tokens_before (map marked_of next) (joined (Some (marked_of m)) w (map piece_of rest))) (sym f)
+  pub turn_placemarker : (next : List Kept) (taken after : Option Kept) → j.joining ≡ false → taken ≡ j.left → after ≡ None →
+      map marked_of next ≡ map marked_of j.out.items ++ operand_tokens (operand_of taken) →
+      joined_from j (Placemarker ∷ ps) ≡ tokens_before (map marked_of next) (joined (operand_of after) j.joining ps)
+  unfolding From
+  turn_placemarker next taken after is same none made =
+      keeps_placemarker _ (map marked_of j.out.items) (operand_of taken) ps (map marked_of next) made (now_at taken false (Placemarker ∷ ps) same is)
+      ∙ ap (λ o. tokens_before (map marked_of next) (joined (operand_of o) false ps)) (sym none)
+      ∙ ap (λ b. tokens_before (map marked_of next) (joined (operand_of after) b ps)) (sym is)
 
-  pub turn_pasted : (m made : Kept) → p ≡ KeptReal m → b ≡ true → pasted (operand_of taken) (Some (marked_of m)) ≡ Ok (Some (marked_of made)) →
-      whole ≡ tokens_before (map marked_of out) (joined (Some (marked_of made)) false (map piece_of rest))
-  turn_pasted m made e f h =
-      keeps_pasted whole (map marked_of out) (operand_of taken) (map piece_of rest) (marked_of m) (Some (marked_of made)) h (at_piece (KeptReal m) true e f)
+  pub turn_real : (next : List Kept) (taken after : Option Kept) (m : Kept) → j.joining ≡ false → taken ≡ j.left → after ≡ Some m →
+      map marked_of next ≡ map marked_of j.out.items ++ operand_tokens (operand_of taken) →
+      joined_from j (Real (marked_of m) ∷ ps) ≡ tokens_before (map marked_of next) (joined (operand_of after) j.joining ps)
+  unfolding From
+  turn_real next taken after m is same some made =
+      keeps_real _ (map marked_of j.out.items) (operand_of taken) ps (map marked_of next) (marked_of m) made (now_at taken false (Real (marked_of m) ∷ ps) same is)
+      ∙ ap (λ o. tokens_before (map marked_of next) (joined (operand_of o) false ps)) (sym some)
+      ∙ ap (λ b. tokens_before (map marked_of next) (joined (operand_of after) b ps)) (sym is)
 
-  pub turn_fails : (m : Kept) (e : RunError) (line : ℕ) → p ≡ KeptReal m → b ≡ true →
-      ReportsPaste e line (pasted (operand_of taken) (Some (marked_of m))) → ReportsPaste e line whole
-  turn_fails m e line h f r =
-      paste_fails whole (map marked_of out) (operand_of taken) (map piece_of rest) (marked_of m) e line r (at_piece (KeptReal m) true h f)
+  pub turn_pasted : (taken : Option Kept) (m made : Kept) → j.joining ≡ true → taken ≡ j.left →
+      pasted (operand_of taken) (Some (marked_of m)) ≡ Ok (Some (marked_of made)) →
+      joined_from j (Real (marked_of m) ∷ ps) ≡ tokens_before (map marked_of j.out.items) (joined (Some (marked_of made)) false ps)
+  unfolding From
+  turn_pasted taken m made is same h =
+      keeps_pasted _ (map marked_of j.out.items) (operand_of taken) ps (marked_of m) (Some (marked_of made)) h (now_at taken true (Real (marked_of m) ∷ ps) same is)
+
+  pub turn_fails : (taken : Option Kept) (m : Kept) (e : RunError) (line : ℕ) → j.joining ≡ true → taken ≡ j.left →
+      ReportsPaste e line (pasted (operand_of taken) (Some (marked_of m))) → ReportsPaste e line (joined_from j (Real (marked_of m) ∷ ps))
+  unfolding From
+  turn_fails taken m e line is same r =
+      paste_fails _ (map marked_of j.out.items) (operand_of taken) ps (marked_of m) e line r (now_at taken true (Real (marked_of m) ∷ ps) same is)
+
+-- an error of what is left is one of the whole
+pub Reports_whole : (e : RunError) (line : ℕ) (a b : Joined) → b ≡ a → ReportsPaste e line a → ReportsPaste e line b
+Reports_whole e line a b is r = subst (λ q. ReportsPaste e line q) (sym is) r

@@ -1,12 +1,12 @@
 -- Expansion where an answerer with a state answers (6.10.3).
-use Rattle.std.specs.Prelude.{ℕ, List, ◌++◌, Option, Some, None, Result, Ok, Err, pos, ◌+ℤ◌}
+use Rattle.std.specs.Prelude.{ℕ, Bool, nat_lt, List, ◌++◌, Option, Some, None, Result, Ok, Err, pos, ◌+ℤ◌}
 use Rattle.std.specs.Fmt.{signed_decimal}
 use Rattle.macro_expand.specs.declared.outcome.Mode.{Mode}
 use Rattle.pp_tokens.specs.declared.Token.{Token}
 use Rattle.macro_defs.specs.MacroDefinition.{MacroDefinition}
 use Rattle.macro_expand.specs.Asking.{Failure, Asking, give, fail, ask_definition, ask_file, ask_line}
 use Rattle.macro_expand.specs.Replacement.{Marked, Part}
-use Rattle.macro_expand.specs.Expansion.{Expanded, ExpandedEach, expansion, charged, arguments_expanded, Table, Place}
+use Rattle.macro_expand.specs.Expansion.{Expanded, ExpandedEach, DEEPEST, expansion, charged, argument_expanded, arguments_expanded, Table, Place}
 
 -- an answer, and the state after the question
 pub record Reply (A S : Type 0) : Type 0 where
@@ -61,6 +61,10 @@ expanded_for w s mode depth units ts = answered w s (expansion mode depth units 
 -- what becomes of a replacement and the tokens after it
 unfoldable pub charged_for : {S : Type 0} → Answerer S → S → Mode → ℕ → ℕ → Result (List Marked) Failure → List Marked → Answered Expanded S
 charged_for w s mode depth units r rest = answered w s (charged (expansion mode) depth units r rest)
+
+-- one argument of a call, expanded by itself where its parameter stands alone
+unfoldable pub argument_for : {S : Type 0} → Answerer S → S → Mode → ℕ → Token → Bool → ℕ → List Marked → Answered Expanded S
+argument_for w s mode depth t alone units a = answered w s (argument_expanded (expansion mode) depth alone (nat_lt depth DEEPEST) t units a)
 
 -- the arguments of a call, expanded by themselves
 unfoldable pub arguments_for : {S : Type 0} → Answerer S → S → Mode → ℕ → Token → List Part → ℕ → ℕ → List (List Marked) → Answered ExpandedEach S

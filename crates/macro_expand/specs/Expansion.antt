@@ -57,6 +57,10 @@ object_replacement t body =
 abbrev pub replaced_token : Marked → Kind → List ℕ → Marked
 replaced_token t kind text = record t { token = record t.token { kind = kind; text = text } }
 
+-- a text between quotes
+abbrev pub in_quotes : List ℕ → List ℕ
+in_quotes text = 34 ∷ text ++ 34 ∷ []
+
 -- What becomes of a token, over a way to expand what comes of it.
 module _ (self : Expander) (depth : ℕ) where
   -- to go on, where the work could be paid
@@ -152,7 +156,7 @@ role_expanded self depth units t rest Ordinary = put_out (t ∷ []) (self depth 
 role_expanded self depth units t rest Defined =
     put_out (t ∷ (operand_of_defined rest).0) (self depth units (operand_of_defined rest).1)
 role_expanded self depth units t rest FileName =
-    ask_file (λ name. built_in self depth units t Str (34 ∷ name ++ 34 ∷ []) rest)
+    ask_file (λ name. built_in self depth units t Str (in_quotes name) rest)
 role_expanded self depth units t rest LineNumber =
     ask_line t.token.line (λ number. built_in self depth units t Number number rest)
 role_expanded self depth units t rest Name =

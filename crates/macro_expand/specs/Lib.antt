@@ -10,8 +10,10 @@
 --     Enumeration     those runs one after the other, by lists of numbers
 --     Sets            sets of names that code keeps as lists
 --     Tries           hide sets as tries over the bits of their names' hashes
+--     Pasting         how code joins pieces one by one
 --     Reading         how code reads the operand of `defined` and a call, token by token
 --     Seen            what code's values mean
+--     Naming          what code reads of a name
 --     Laws            the laws of expansion and of runs
 pub mod Asking
 pub mod Replacement
@@ -24,6 +26,8 @@ pub mod Choice
 pub mod Enumeration
 pub mod Sets
 pub mod Tries
+pub mod Pasting
 pub mod Reading
 pub mod Seen
+pub mod Naming
 pub mod Laws

@@ -18,7 +18,7 @@ use Rattle.macro_expand.specs.declared.outcome.Mode.{Mode}
 use Rattle.pp_tokens.specs.declared.Token.{Token}
 use Rattle.macro_expand.specs.Replacement.{Operand, Piece, Real, Placemarker, Joining, Marked, Call, call_in, arguments_of, Part, Plain, Argument, Spelling, Join}
 use Rattle.macro_expand.specs.Expansion.{Expanded, Place, call_replacement}
-use Rattle.macro_expand.specs.Answered.{Answerer, Answered, ByFailure, ByPresumed, before, expanded_for, charged_for}
+use Rattle.macro_expand.specs.Answered.{Answerer, Answered, ByFailure, ByPresumed, before, expanded_for}
 
 abbrev pub place_of : Presumed → Place
 place_of p = record { name = p.name; shift = p.shift }
@@ -89,15 +89,6 @@ Stops WorkError s a = a ≡ record { result = Err (ByFailure Work); state = s }
 Stops PresumedError s a = a ≡ record { result = Err ByPresumed; state = s }
 Stops Memory s a = Unit {0}
 
--- what a name does: it is put out, or it is replaced and the replacement's work is still to be charged
-abbrev pub NameReplaced : {S : Type 0} → Answerer S → S → Mode → ℕ → Kept → ℕ → List Kept → Option (Vec Kept Global) → S → ℕ → List Kept → Type 0
-NameReplaced w s mode depth t units pending None u left rest =
-    expanded_for w s mode depth units (marked_of t ∷ map marked_of pending)
-    ≡ before (marked_of t ∷ []) (expanded_for w u mode depth left (map marked_of rest))
-NameReplaced w s mode depth t units pending (Some made) u left rest =
-    expanded_for w s mode depth units (marked_of t ∷ map marked_of pending)
-    ≡ charged_for w u mode depth left (Ok (map marked_of made.items)) (map marked_of rest)
-
 -- what was put out, before what the head and the pending tokens become, is the same after a step
 abbrev pub GoesOn : {S : Type 0} → Answerer S → Mode → ℕ → S → ℕ → List Kept → Kept → List Kept → S → ℕ → List Kept → List Kept → Type 0
 GoesOn w mode depth s units out t pending u left out' pending' =
@@ -113,6 +104,11 @@ piece_of KeptJoining = Joining
 abbrev pub operand_of : Option Kept → Operand
 operand_of None = None
 operand_of (Some m) = Some (marked_of m)
+
+-- what two tokens are pasted to, where their spellings make this one token or none
+abbrev pub pasted_as : Kept → Kept → Option Kept → Result Operand (List ℕ × List ℕ)
+pasted_as left right None = Err (left.token.text, right.token.text)
+pasted_as left right (Some m) = Ok (Some (marked_of m))
 
 -- an error that two spellings can't be pasted, at this line
 abbrev pub ReportsPaste : {A : Type 0} → RunError → ℕ → Result A (List ℕ × List ℕ) → Type 0

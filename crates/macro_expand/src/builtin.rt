@@ -1,8 +1,9 @@
 // `__FILE__` and `__LINE__` (ISO C 6.10.8.1).
-ghost use Rattle.std.specs.Prelude.{◌≡◌, ◌+◌, ◌≤◌, ◌++◌, ◌∷◌, [], map, length, IfOk, IfErr, OnOk};
+ghost use Rattle.std.specs.Prelude.{◌≡◌, ◌⊎◌, ◌+◌, ◌≤◌, ◌++◌, ◌∷◌, [], map, length, Some, None, IfOk, IfErr, OnOk};
+ghost use Rattle.std.specs.Option.{option_map};
 ghost use Rattle.std.specs.VecDeque.{deque_len};
 ghost use Rattle.macro_expand.specs.declared.marked.Role.TheVariants.{FileName, LineNumber};
-ghost use Rattle.macro_expand.specs.Expansion.{role_of, replaced_token};
+ghost use Rattle.macro_expand.specs.Expansion.{role_of, replaced_token, in_quotes};
 ghost use Rattle.macro_expand.specs.Answered.{expanded_for};
 ghost use Rattle.macro_expand.specs.Seen.{marked_of, GoesOn, Stops};
 
@@ -36,12 +37,8 @@ pub(crate) fn expand_file_name<S, A: Answers<S>>(
     ensures err { IfErr result (λ e. Stops e answers.new (expanded_for (A.answerer source.now) answers.old mode depth work.old.left
         (marked_of t ∷ map marked_of pending.old.items))) }
 {
-    let Some(name) = answers.file(alloc, source)? else {
-        return Err(RunError::Presumed);
-    };
-    let text = quoted(alloc, &name)?;
-    charge(work, 1)?;
-    put(out, in_place_of(t, Kind::Str, text))
+    let text = file_name_text(alloc, source, answers)?;
+    put_in_place(out, work, t, Kind::Str, text)
 }
 
 // One step: `__LINE__`, replaced by the presumed line (6.10.8.1).
@@ -65,11 +62,61 @@ pub(crate) fn expand_line_number<S, A: Answers<S>>(
     ensures err { IfErr result (λ e. Stops e answers.new (expanded_for (A.answerer source.now) answers.old mode depth work.old.left
         (marked_of t ∷ map marked_of pending.old.items))) }
 {
-    let Some(text) = answers.line(alloc, source, t.token.line)? else {
-        return Err(RunError::Presumed);
-    };
+    let text = line_number_text(alloc, source, answers, t.token.line)?;
+    put_in_place(out, work, t, Kind::Number, text)
+}
+
+// What `__FILE__` stands for: the presumed name between quotes.
+fn file_name_text<S, A: Answers<S>>(
+    alloc: Global,
+    source: &S,
+    answers: &mut A,
+) -> Result<Bytes, RunError>
+    ensures ok { IfOk result (λ text. option_map in_quotes ((A.answerer source.now).file answers.old).answer ≡ Some text) }
+    ensures state { IfOk result (λ text. answers.new ≡ ((A.answerer source.now).file answers.old).state) }
+    ensures err { IfErr result (λ e. (e ≡ RunError.Memory) ⊎ ((e ≡ RunError.Presumed)
+        × ((((A.answerer source.now).file answers.old).answer ≡ None) × (answers.new ≡ ((A.answerer source.now).file answers.old).state)))) }
+{
+    match answers.file(alloc, source)? {
+        Some(name) => Ok(quoted(alloc, &name)?),
+        None => Err(RunError::Presumed),
+    }
+}
+
+// What `__LINE__` on this line stands for: the presumed number.
+fn line_number_text<S, A: Answers<S>>(
+    alloc: Global,
+    source: &S,
+    answers: &mut A,
+    line: u32,
+) -> Result<Bytes, RunError>
+    ensures ok { IfOk result (λ text. ((A.answerer source.now).line answers.old line).answer ≡ Some text) }
+    ensures state { IfOk result (λ text. answers.new ≡ ((A.answerer source.now).line answers.old line).state) }
+    ensures err { IfErr result (λ e. (e ≡ RunError.Memory) ⊎ ((e ≡ RunError.Presumed)
+        × ((((A.answerer source.now).line answers.old line).answer ≡ None) × (answers.new ≡ ((A.answerer source.now).line answers.old line).state)))) }
+{
+    match answers.line(alloc, source, line)? {
+        Some(text) => Ok(text),
+        None => Err(RunError::Presumed),
+    }
+}
+
+// Puts out a token with this text in the place of another, where the work for it can be paid.
+fn put_in_place(
+    out: &mut Vec<Marked>,
+    work: &mut Work,
+    t: Marked,
+    kind: Kind,
+    text: Bytes,
+) -> Result<(), RunError>
+    ensures ok { OnOk result (map marked_of out.new.items ≡ map marked_of out.old.items ++ replaced_token (marked_of t) kind text ∷ []) }
+    ensures paid { OnOk result (work.new.left + 2 ≡ work.old.left) }
+    ensures spends { work.new.left ≤ work.old.left }
+    ensures longer { OnOk result (length out.new.items ≡ length out.old.items + 1) }
+    ensures err { IfErr result (λ e. (e ≡ RunError.Memory) ⊎ ((e ≡ RunError.Work) × (work.old.left ≤ 1))) }
+{
     charge(work, 1)?;
-    put(out, in_place_of(t, Kind::Number, text))
+    put(out, in_place_of(t, kind, text))
 }
 
 // A token in the place of another: its line, its space and its hide set.
@@ -83,7 +130,7 @@ fn in_place_of(mut t: Marked, kind: Kind, text: Bytes) -> Marked
 
 // The text between quotes.
 fn quoted(alloc: Global, name: &Bytes) -> Result<Bytes, AllocError>
-    ensures { IfOk result (λ t. t ≡ 34 ∷ name.now ++ 34 ∷ []) }
+    ensures { IfOk result (λ t. t ≡ in_quotes name.now) }
 {
     let mut text = Vec::new(alloc);
     text.push(34u8)?;

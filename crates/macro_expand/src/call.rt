@@ -1,5 +1,5 @@
 // Calls of function-like macros (ISO C 6.10.3 paragraphs 10 and 11).
-ghost use Rattle.std.specs.Prelude.{◌≡◌, ◌+◌, ◌^◌, ◌<◌, ◌≤◌, ◌∷◌, List, true, false, Some, None, map, length, IfOk, IfErr, OnOk, IsTrue, IsFalse};
+ghost use Rattle.std.specs.Prelude.{◌≡◌, ◌⊎◌, ◌+◌, ◌-◌, ◌^◌, ◌<◌, ◌≤◌, ◌++◌, ◌∷◌, [], List, true, false, Some, None, map, length, IfOk, IfErr, OnOk, IsTrue, IsFalse};
 ghost use Rattle.std.specs.VecDeque.{deque_len};
 ghost use Rattle.macro_expand.specs.Replacement as spec;
 ghost use Rattle.macro_expand.specs.Replacement.{Marked as MarkedToken, after_open, arguments_of, call_in};
@@ -39,14 +39,30 @@ pub(crate) fn read_call(
     ensures shorter { deque_len pending.new ≤ deque_len pending.old }
     ensures err { IfErr result (λ e. RefusesCall e t.now (length params.now) variadic (map marked_of pending.old.items)) }
 {
-    let Some(within) = read_within(alloc, pending)? else {
-        return Err(unclosed(alloc, t)?);
-    };
+    match read_within(alloc, pending)? {
+        Some(within) => with_arguments(alloc, t, params.len(), variadic, within),
+        None => Err(unclosed(alloc, t)),
+    }
+}
+
+// A call of a macro with `count` parameters, cut into its arguments.
+fn with_arguments(
+    alloc: Global,
+    t: &Marked,
+    count: usize,
+    variadic: bool,
+    within: Within,
+) -> Result<ReadCall, RunError>
+    ensures ok { IfOk result (λ r. arguments_of count variadic (map marked_of within.tokens.items) ≡ Some (lists_of r.written.items)) }
+    ensures close { IfOk result (λ r. r.close ≡ within.close) }
+    ensures err { IfErr result (λ e. (e ≡ RunError.Memory) ⊎ ((e ≡ RunError.Count t.now.token.text t.now.token.line)
+        × (arguments_of count variadic (map marked_of within.tokens.items) ≡ None))) }
+{
     let Within { tokens, close } = within;
-    let Some(written) = arguments(alloc, params.len(), variadic, tokens)? else {
-        return Err(miscounted(alloc, t)?);
-    };
-    Ok(ReadCall { written, close })
+    match arguments(alloc, count, variadic, tokens)? {
+        Some(written) => Ok(ReadCall { written, close }),
+        None => Err(miscounted(alloc, t)),
+    }
 }
 
 // Whether a part takes an argument as it is written, or may do so to the part beside it (6.10.3.2, 6.10.3.3).
@@ -114,22 +130,28 @@ pub(crate) fn with_kept(
     ))
 }
 
-fn unclosed(alloc: Global, t: &Marked) -> Result<RunError, AllocError>
-    ensures { IfOk result (λ e. e ≡ RunError.Unclosed t.now.token.text t.now.token.line) }
+fn unclosed(alloc: Global, t: &Marked) -> RunError
+    ensures { (result ≡ RunError.Memory) ⊎ (result ≡ RunError.Unclosed t.now.token.text t.now.token.line) }
 {
-    Ok(RunError::Unclosed {
-        name: Bytes::copy_of(alloc, t.token.text.as_slice())?,
-        line: t.token.line,
-    })
+    match Bytes::copy_of(alloc, t.token.text.as_slice()) {
+        Ok(name) => RunError::Unclosed {
+            name,
+            line: t.token.line,
+        },
+        Err(_) => RunError::Memory,
+    }
 }
 
-fn miscounted(alloc: Global, t: &Marked) -> Result<RunError, AllocError>
-    ensures { IfOk result (λ e. e ≡ RunError.Count t.now.token.text t.now.token.line) }
+fn miscounted(alloc: Global, t: &Marked) -> RunError
+    ensures { (result ≡ RunError.Memory) ⊎ (result ≡ RunError.Count t.now.token.text t.now.token.line) }
 {
-    Ok(RunError::Count {
-        name: Bytes::copy_of(alloc, t.token.text.as_slice())?,
-        line: t.token.line,
-    })
+    match Bytes::copy_of(alloc, t.token.text.as_slice()) {
+        Ok(name) => RunError::Count {
+            name,
+            line: t.token.line,
+        },
+        Err(_) => RunError::Memory,
+    }
 }
 
 // What stands between the parentheses of a call, and its `)`.
@@ -263,13 +285,24 @@ impl Cutting {
         ensures deep { self.new.nesting ≤ self.old.nesting + 1 }
     {
         if is_cut(self.cuts, self.nesting, &t.token) {
-            let piece = replace(&mut self.piece, Vec::new(alloc));
-            self.pieces.push(piece)?;
-            self.cuts -= 1;
-            return Ok(());
+            return self.cut(alloc);
         }
         self.nesting = nesting_after(self.nesting, &t.token);
         self.piece.push(t)?;
+        Ok(())
+    }
+
+    // Ends the piece.
+    fn cut(&mut self, alloc: Global) -> Result<(), AllocError>
+        requires { 0 < self.old.cuts }
+        ensures pieces { OnOk result (self.new.pieces.items ≡ self.old.pieces.items ++ self.old.piece ∷ []) }
+        ensures piece { OnOk result (self.new.piece.items ≡ []) }
+        ensures cuts { OnOk result (self.new.cuts ≡ self.old.cuts - 1) }
+        ensures same { self.new.nesting ≡ self.old.nesting }
+    {
+        let piece = replace(&mut self.piece, Vec::new(alloc));
+        self.pieces.push(piece)?;
+        self.cuts -= 1;
         Ok(())
     }
 }

@@ -1,25 +1,24 @@
 // Expansion of a list of tokens (ISO C 6.10.3).
-ghost use Rattle.std.specs.Prelude.{◌≡◌, ◌+◌, ◌<◌, ◌≤◌, ◌++◌, ◌∷◌, [], map, length, Ok, None, Some, IfOk, IfErr, OnOk};
+ghost use Rattle.std.specs.Prelude.{◌≡◌, ◌⊎◌, ◌+◌, ◌<◌, ◌≤◌, ◌++◌, ◌∷◌, [], map, length, Ok, IfOk, IfErr, OnOk};
 ghost use Rattle.std.specs.VecDeque.{deque_len};
 ghost use Rattle.macro_defs.specs.Table.{lookup};
 ghost use Rattle.macro_expand.specs.declared.marked.Role.TheVariants.{Name};
 ghost use Rattle.macro_expand.specs.Replacement.{unmarked};
 ghost use Rattle.macro_expand.specs.Expansion.{role_of, expanded_by};
-ghost use Rattle.macro_expand.specs.Answered.{arguments_for, expanded_for};
-ghost use Rattle.macro_expand.specs.Seen.{marked_of, parts_seen, lists_of, Gives, NameReplaced, GoesOn, Stops, place_of, ReportsResult, public_of, HasTokens};
+ghost use Rattle.macro_expand.specs.Answered.{argument_for, arguments_for, expanded_for};
+ghost use Rattle.macro_expand.specs.Naming.{StandAlone, called_for};
+ghost use Rattle.macro_expand.specs.Seen.{marked_of, parts_seen, lists_of, Gives, GoesOn, Stops, place_of, ReportsResult, public_of, HasTokens};
 
 use crate::answers::{Answers, Presumed, TablePlace};
 use crate::builtin::{expand_file_name, expand_line_number};
-use crate::call::{read_call, take_open, with_kept};
 use crate::hide_set::HideSet;
 use crate::marked::{Marked, Role, copied_token};
+use crate::name::{MacroCall, ReadName, read_name};
 use crate::operand::{expand_defined, has_operand};
 use crate::outcome::{ExpandError, Mode, RunError, Work};
-use crate::replace::{
-    Part, call_tokens, object_tokens, read_parts, standing_alone, variable_number,
-};
+use crate::replace::call_tokens;
 use base_types::List;
-use macro_defs::{MacroTable, Shape};
+use macro_defs::MacroTable;
 use pp_tokens::{Kind, Token};
 use std::alloc::{AllocError, Global};
 use std::collections::VecDeque;
@@ -90,7 +89,37 @@ fn put_back(pending: &mut VecDeque<Marked>, mut made: Vec<Marked>) -> Result<(),
     Ok(())
 }
 
-// The arguments of a call of `t`, expanded by themselves where their parameters stand alone (6.10.3.1); for the others no tokens.
+// The tokens of a call's argument: expanded by itself where its parameter stands `alone` (6.10.3.1), else none.
+#[cycle(expanding)]
+fn expand_argument<S, A: Answers<S>>(
+    alloc: Global,
+    source: &S,
+    answers: &mut A,
+    mode: Mode,
+    depth: u32,
+    t: &Marked,
+    alone: bool,
+    argument: Vec<Marked>,
+    work: &mut Work,
+) -> Result<Vec<Marked>, RunError>
+    requires { depth ≤ 400 }
+    ensures ok { IfOk result (λ out. argument_for (A.answerer source.now) answers.old mode depth t.now.token alone work.old.left (map marked_of argument.items)
+        ≡ record { result = Ok (record { tokens = map marked_of out.items; units = work.new.left }); state = answers.new }) }
+    ensures spends { work.new.left ≤ work.old.left }
+    ensures err { IfErr result (λ e. Stops e answers.new
+        (argument_for (A.answerer source.now) answers.old mode depth t.now.token alone work.old.left (map marked_of argument.items))) }
+{
+    if !alone {
+        return Ok(Vec::new(alloc));
+    }
+    if depth >= DEEPEST {
+        return Err(RunError::Deep { line: t.token.line });
+    }
+    let given = VecDeque::from_vec(argument);
+    expand_list(alloc, source, answers, mode, depth + 1, given, work)
+}
+
+// The arguments of a call of `t`, expanded by themselves where their parameters stand alone; for the others no tokens.
 #[cycle(expanding)]
 fn expand_arguments<S, A: Answers<S>>(
     alloc: Global,
@@ -99,32 +128,27 @@ fn expand_arguments<S, A: Answers<S>>(
     mode: Mode,
     depth: u32,
     t: &Marked,
-    parts: &[Part],
+    call: &MacroCall,
     written: Vec<Vec<Marked>>,
     work: &mut Work,
 ) -> Result<Vec<Vec<Marked>>, RunError>
-    requires { depth ≤ 400 }
+    requires shallow { depth ≤ 400 }
+    requires alone { StandAlone call.now.alone.items (length written.items) (parts_seen call.now.parts.items) }
     ensures ok { IfOk result (λ out. arguments_for (A.answerer source.now) answers.old mode depth t.now.token
-        (parts_seen parts.now) 0 work.old.left (lists_of written.items)
+        (parts_seen call.now.parts.items) 0 work.old.left (lists_of written.items)
         ≡ record { result = Ok (record { lists = lists_of out.items; units = work.new.left }); state = answers.new }) }
     ensures spends { work.new.left ≤ work.old.left }
     ensures err { IfErr result (λ e. Stops e answers.new (arguments_for (A.answerer source.now) answers.old mode depth t.now.token
-        (parts_seen parts.now) 0 work.old.left (lists_of written.items))) }
+        (parts_seen call.now.parts.items) 0 work.old.left (lists_of written.items))) }
 {
-    let alone = standing_alone(alloc, parts, written.len())?;
     let mut left = VecDeque::from_vec(written);
     let mut out = Vec::new(alloc);
-    while let Some(a) = left.pop_front() {
-        if alone[out.len()] {
-            if depth >= DEEPEST {
-                return Err(RunError::Deep { line: t.token.line });
-            }
-            let given = VecDeque::from_vec(a);
-            let expanded = expand_list(alloc, source, answers, mode, depth + 1, given, work)?;
-            put_list(&mut out, expanded)?;
-        } else {
-            put_list(&mut out, Vec::new(alloc))?;
-        }
+    while let Some(argument) = left.pop_front() {
+        let alone = call.alone[out.len()];
+        let expanded = expand_argument(
+            alloc, source, answers, mode, depth, t, alone, argument, work,
+        )?;
+        put_list(&mut out, expanded)?;
     }
     Ok(out)
 }
@@ -139,48 +163,56 @@ fn put_list(out: &mut Vec<Vec<Marked>>, ts: Vec<Marked>) -> Result<(), RunError>
     }
 }
 
-// What the name at the head is replaced by, before its own work is charged; none where it is put out as it is.
+// Puts in what a name is replaced by, before the tokens that are pending, where the work for it can be paid.
+fn put_in(
+    pending: &mut VecDeque<Marked>,
+    work: &mut Work,
+    made: Vec<Marked>,
+) -> Result<(), RunError>
+    ensures ok { OnOk result (pending.new.items ≡ made.items ++ pending.old.items) }
+    ensures paid { OnOk result (work.new.left + length made.items + 1 ≡ work.old.left) }
+    ensures spends { work.new.left ≤ work.old.left }
+    ensures shorter { OnOk result (work.new.left + deque_len pending.new ≤ work.old.left + deque_len pending.old) }
+    ensures err { IfErr result (λ e. (e ≡ RunError.Memory) ⊎ ((e ≡ RunError.Work) × (work.old.left ≤ length made.items))) }
+{
+    charge(work, made.len())?;
+    put_back(pending, made)
+}
+
+// A call of `t`, replaced by what its arguments make.
 #[cycle(expanding)]
-fn replace_name<S, A: Answers<S>>(
+fn expand_call<S, A: Answers<S>>(
     alloc: Global,
     source: &S,
     answers: &mut A,
     mode: Mode,
     depth: u32,
     t: &Marked,
+    call: &MacroCall,
+    written: Vec<Vec<Marked>>,
     pending: &mut VecDeque<Marked>,
     work: &mut Work,
-) -> Result<Option<Vec<Marked>>, RunError>
+) -> Result<(), RunError>
     requires shallow { depth ≤ 400 }
-    requires role { role_of mode (marked_of t.now) (map marked_of pending.old.items) ≡ Name }
-    ensures ok { IfOk result (λ made. NameReplaced (A.answerer source.now) answers.old mode depth t.now work.old.left pending.old.items made
-        answers.new work.new.left pending.new.items) }
+    requires alone { StandAlone call.now.alone.items (length written.items) (parts_seen call.now.parts.items) }
+    ensures ok { OnOk result (called_for (A.answerer source.now) answers.old mode depth work.old.left t.now call.now (lists_of written.items) (map marked_of pending.old.items)
+        ≡ expanded_for (A.answerer source.now) answers.new mode depth work.new.left (map marked_of pending.new.items)) }
     ensures spends { work.new.left ≤ work.old.left }
-    ensures shorter { deque_len pending.new ≤ deque_len pending.old }
-    ensures err { IfErr result (λ e. Stops e answers.new (expanded_for (A.answerer source.now) answers.old mode depth work.old.left
-        (marked_of t.now ∷ map marked_of pending.old.items))) }
+    ensures shorter { OnOk result (work.new.left + deque_len pending.new ≤ work.old.left + deque_len pending.old) }
+    ensures err { IfErr result (λ e. Stops e answers.new
+        (called_for (A.answerer source.now) answers.old mode depth work.old.left t.now call.now (lists_of written.items) (map marked_of pending.old.items))) }
 {
-    let Some(d) = answers.definition(source, t.token.text.as_slice())? else {
-        return Ok(None);
-    };
-    match d.shape() {
-        Shape::Object => Ok(Some(object_tokens(alloc, t, d)?)),
-        Shape::Function { params, variadic } => {
-            if !take_open(pending) {
-                return Ok(None);
-            }
-            let names = params.as_slice();
-            let call = read_call(alloc, t, names, *variadic, pending)?;
-            let list = read_parts(alloc, names, d.body())?;
-            let parts = list.as_slice();
-            let (written, call) = with_kept(alloc, parts, call)?;
-            let expanded = expand_arguments(
-                alloc, source, answers, mode, depth, t, parts, written, work,
-            )?;
-            let variable = variable_number(names, *variadic);
-            Ok(Some(call_tokens(alloc, t, parts, variable, &call, expanded.as_slice())?))
-        }
-    }
+    let expanded = expand_arguments(alloc, source, answers, mode, depth, t, call, written, work)?;
+    let parts = call.parts.as_slice();
+    let made = call_tokens(
+        alloc,
+        t,
+        parts,
+        call.variable,
+        &call.read,
+        expanded.as_slice(),
+    )?;
+    put_in(pending, work, made)
 }
 
 // One step: a name that isn't hidden from itself, and what it is replaced by.
@@ -206,12 +238,12 @@ fn expand_name<S, A: Answers<S>>(
     ensures err { IfErr result (λ e. Stops e answers.new (expanded_for (A.answerer source.now) answers.old mode depth work.old.left
         (marked_of t ∷ map marked_of pending.old.items))) }
 {
-    match replace_name(alloc, source, answers, mode, depth, &t, pending, work)? {
-        None => put(out, t),
-        Some(made) => {
-            charge(work, made.len())?;
-            put_back(pending, made)
-        }
+    match read_name(alloc, source, answers, &t, pending)? {
+        ReadName::Itself => put(out, t),
+        ReadName::Object(made) => put_in(pending, work, made),
+        ReadName::Call(written, call) => expand_call(
+            alloc, source, answers, mode, depth, &t, &call, written, pending, work,
+        ),
     }
 }
 

@@ -8,6 +8,7 @@ mod expansion;
 mod hide_set;
 mod laws;
 mod marked;
+mod name;
 mod operand;
 mod outcome;
 mod paste;

@@ -39,7 +39,7 @@ pub(crate) fn copied_token(alloc: Global, t: &Token) -> Result<Token, AllocError
 }
 
 // What a token at the head of a list is.
-#[derive(Clone, Copy, Debug, PartialEq, Eq, Drop)]
+#[derive(Clone, Copy, Drop)]
 pub(crate) enum Role {
     // `defined` with its operand, in a condition (6.10.1)
     Defined,

@@ -23,7 +23,7 @@ use std::alloc::{AllocError, Global};
 
 // What a token of a replacement list stands for: itself, the argument of a number with the space of its parameter, the
 // spelling of one (`#`), or a join (`##`).
-#[derive(Clone, Copy, Debug, Drop)]
+#[derive(Clone, Copy, Drop)]
 pub(crate) enum Part<'d> {
     Plain(&'d Token),
     Argument(usize, bool),

@@ -6,30 +6,33 @@ use Rattle.macro_expand.proofs.expansion.+expanding.Given as goal
 
 -- an argument is expanded one deeper, and at most 400 deep
 abbrev pub decreases-expand_list : goal.decreases-expand_list
-decreases-expand_list g l = 5 * (400 - l.depth) + 4
+decreases-expand_list g l = 6 * (400 - l.depth) + 5
 
 abbrev pub decreases-expand_head : goal.decreases-expand_head
-decreases-expand_head g l = 5 * (400 - l.depth) + 3
+decreases-expand_head g l = 6 * (400 - l.depth) + 4
 
 abbrev pub decreases-expand_name : goal.decreases-expand_name
-decreases-expand_name g l = 5 * (400 - l.depth) + 2
+decreases-expand_name g l = 6 * (400 - l.depth) + 3
 
-abbrev pub decreases-replace_name : goal.decreases-replace_name
-decreases-replace_name g l = 5 * (400 - l.depth) + 1
+abbrev pub decreases-expand_call : goal.decreases-expand_call
+decreases-expand_call g l = 6 * (400 - l.depth) + 2
 
 abbrev pub decreases-expand_arguments : goal.decreases-expand_arguments
-decreases-expand_arguments g l = 5 * (400 - l.depth)
+decreases-expand_arguments g l = 6 * (400 - l.depth) + 1
+
+abbrev pub decreases-expand_argument : goal.decreases-expand_argument
+decreases-expand_argument g l = 6 * (400 - l.depth)
 
 -- the arguments expanded so far, before what the others become with the work that is left
-abbrev pub invariant-expand_arguments-loop-a : goal.invariant-expand_arguments-loop-a
-invariant-expand_arguments-loop-a g l =
-    (arguments_for (g.A.Answers.answerer l.source) l.initial.answers l.mode l.depth l.t.token (parts_seen l.parts) 0 l.initial.work.left (lists_of l.fn.written.items)
+abbrev pub invariant-expand_arguments-loop-argument : goal.invariant-expand_arguments-loop-argument
+invariant-expand_arguments-loop-argument g l =
+    (arguments_for (g.A.Answers.answerer l.source) l.initial.answers l.mode l.depth l.t.token (parts_seen l.call.parts.items) 0 l.initial.work.left (lists_of l.fn.written.items)
     ≡ before_all (lists_of l.out.items)
-    (arguments_for (g.A.Answers.answerer l.source) l.answers l.mode l.depth l.t.token (parts_seen l.parts) (length l.out.items) l.work.left (lists_of l.left.items)))
-    × ((length l.out.items + length l.left.items ≡ length l.alone.items) × (l.work.left ≤ l.initial.work.left))
+    (arguments_for (g.A.Answers.answerer l.source) l.answers l.mode l.depth l.t.token (parts_seen l.call.parts.items) (length l.out.items) l.work.left (lists_of l.left.items)))
+    × ((length l.out.items + length l.left.items ≡ length l.call.alone.items) × (l.work.left ≤ l.initial.work.left))
 
-abbrev pub decreases-expand_arguments-loop-a : goal.decreases-expand_arguments-loop-a
-decreases-expand_arguments-loop-a g l = deque_len l.left
+abbrev pub decreases-expand_arguments-loop-argument : goal.decreases-expand_arguments-loop-argument
+decreases-expand_arguments-loop-argument g l = deque_len l.left
 
 -- the tokens put out so far, before what the pending tokens become with the work that is left
 abbrev pub invariant-expand_list-loop-t : goal.invariant-expand_list-loop-t

@@ -1,4 +1,4 @@
-use Rattle.std.proofs.Common.{[], sym, refl, arith}
+use Rattle.std.proofs.Common.{[], sym, arith}
 use Rattle.std.proofs.lemmas.List.{nil_from_length}
 use Rattle.std.proofs.lemmas.Result.{err_from_is_err_and}
 use Rattle.macro_expand.proofs.AnsweredLaws.{before-nothing}

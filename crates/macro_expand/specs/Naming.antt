@@ -1,0 +1,49 @@
+-- What code reads of a name: what the name and the tokens after it become (6.10.3).
+use Rattle.std.specs.Prelude.{◌≡◌, ◌<◌, ℕ, Bool, false, List, [], ◌∷◌, map, length, get_or, None, Ok}
+use Rattle.macro_expand.specs.declared.outcome.Mode.{Mode}
+use Rattle.macro_expand.specs.declared.outcome.RunError.{RunError}
+use Rattle.macro_expand.specs.declared.marked.Marked.{Marked as Kept}
+use Rattle.macro_expand.specs.declared.marked.Role.TheVariants.{Name}
+use Rattle.macro_expand.specs.declared.name.MacroCall.{MacroCall}
+use Rattle.macro_expand.specs.declared.name.ReadName.{ReadName}
+use Rattle.macro_expand.specs.declared.name.ReadName.TheVariants.{Itself, Object, Call}
+use Rattle.macro_expand.specs.Replacement.{Marked, Part, stands_alone}
+use Rattle.macro_expand.specs.Expansion.{Expanded, role_of}
+use Rattle.macro_expand.specs.Answered.{Answerer, Answered, and_then, before, expanded_for, charged_for, arguments_for}
+use Rattle.macro_expand.specs.Seen.{marked_of, lists_of, parts_seen, call_replaced_by, Stops}
+
+-- which of so many arguments stand alone somewhere
+abbrev pub StandAlone : List Bool → ℕ → List Part → Type 0
+StandAlone alone count parts =
+    (length alone ≡ count) × ((i : ℕ) → i < count → get_or alone i false ≡ stands_alone i None parts)
+
+-- what becomes of a call with these arguments and the tokens after it
+unfoldable pub called_for : {S : Type 0} → Answerer S → S → Mode → ℕ → ℕ → Kept → MacroCall → List (List Marked) → List Marked → Answered Expanded S
+called_for w s mode depth units t call written rest =
+    and_then (arguments_for w s mode depth t.token (parts_seen call.parts.items) 0 units written) (λ e u.
+    charged_for w u mode depth e.units
+    (call_replaced_by t (parts_seen call.parts.items) call.variable (lists_of call.read.written.items) (marked_of call.read.close) e.lists) rest)
+
+-- what a name that was read and the tokens after it become
+abbrev pub named_for : {S : Type 0} → Answerer S → S → Mode → ℕ → ℕ → Kept → ReadName → List Marked → Answered Expanded S
+named_for w s mode depth units t Itself rest = before (marked_of t ∷ []) (expanded_for w s mode depth units rest)
+named_for w s mode depth units t (Object made) rest = charged_for w s mode depth units (Ok (map marked_of made.items)) rest
+named_for w s mode depth units t (Call written call) rest = called_for w s mode depth units t call (lists_of written.items) rest
+
+-- a call's arguments are those of which is known whether they stand alone
+abbrev pub KnowsAlone : ReadName → Type 0
+KnowsAlone Itself = Unit {0}
+KnowsAlone (Object made) = Unit {0}
+KnowsAlone (Call written call) = StandAlone call.alone.items (length written.items) (parts_seen call.parts.items)
+
+-- a name that isn't hidden and the pending tokens become what was read becomes, with the tokens that are left
+abbrev pub ReadsName : {S : Type 0} → Answerer S → S → Kept → List Kept → ReadName → S → List Kept → Type 0
+ReadsName w s t pending name u rest =
+    (mode : Mode) (depth units : ℕ) → role_of mode (marked_of t) (map marked_of pending) ≡ Name →
+    expanded_for w s mode depth units (marked_of t ∷ map marked_of pending) ≡ named_for w u mode depth units t name (map marked_of rest)
+
+-- a name that isn't hidden was stopped by this error, in this state
+abbrev pub NameStops : {S : Type 0} → Answerer S → S → Kept → List Kept → RunError → S → Type 0
+NameStops w s t pending e u =
+    (mode : Mode) (depth units : ℕ) → role_of mode (marked_of t) (map marked_of pending) ≡ Name →
+    Stops e u (expanded_for w s mode depth units (marked_of t ∷ map marked_of pending))
