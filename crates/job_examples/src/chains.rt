@@ -1,25 +1,37 @@
 // Includes of all forms, by the directories of the words (ISO C 6.10.2; `#include_next` as in GCC's documentation).
 use crate::checked::Stands::{Dir, File};
-use crate::checked::{Stands, check};
-use std::test::Fail;
+use crate::checked::{Case, Node};
 
-#[test]
-fn the_next_file_of_a_name(rt: HostRuntime) -> Result<(), Fail> {
-    check(
-        &rt,
-        rt.alloc(),
-        &[
-            ("/w", Dir),
-            ("/w/a", Dir),
-            ("/w/a.c", File("#include <x.h>\n")),
-            ("/w/a/x.h", File("#include_next <x.h>\n")),
-            ("/w/b", Dir),
-            ("/w/b/x.h", File("int b;\n")),
-            ("/w/c", Dir),
-            ("/w/c/x.h", File("#include_next <x.h>\n")),
-            ("/w/n.c", File("#include_next <x.h>\n")),
+// Sources that include names in quotes and in angles, and directories that hold the files of these names.
+const QUOTES: [Node<'static>; 11] = [
+    ("/w", Dir, ""),
+    ("/w/q", Dir, ""),
+    ("/w/q/x.h", File, "int q;\n"),
+    ("/w/q/y.h", File, "int y;\n"),
+    ("/w/s", Dir, ""),
+    ("/w/s/x.h", File, "int s;\n"),
+    ("/w/src", Dir, ""),
+    ("/w/src/angle.c", File, "#include <x.h>\n"),
+    ("/w/src/quote.c", File, "#include \"x.h\"\n"),
+    ("/w/src/there.c", File, "#include \"y.h\"\n"),
+    ("/w/src/y.h", File, "int here;\n"),
+];
+
+pub const CASES: [Case<'static>; 5] = [
+    Case {
+        name: "the next file of a name",
+        nodes: &[
+            ("/w", Dir, ""),
+            ("/w/a", Dir, ""),
+            ("/w/a.c", File, "#include <x.h>\n"),
+            ("/w/a/x.h", File, "#include_next <x.h>\n"),
+            ("/w/b", Dir, ""),
+            ("/w/b/x.h", File, "int b;\n"),
+            ("/w/c", Dir, ""),
+            ("/w/c/x.h", File, "#include_next <x.h>\n"),
+            ("/w/n.c", File, "#include_next <x.h>\n"),
         ],
-        &[
+        rows: &[
             (
                 "a.c -Ia -Ib",
                 "T# 1 \"/w/a.c\"\n# 1 \"/w/a/x.h\" 1\n# 1 \"/w/b/x.h\" 1\nint b;\n# 2 \"/w/a/x.h\" 2\n# 2 \"/w/a.c\" 2\n",
@@ -31,31 +43,11 @@ fn the_next_file_of_a_name(rt: HostRuntime) -> Result<(), Fail> {
             ("a.c -Ia -Ic", "D/w/c/x.h:1: error: cannot find <x.h>"),
             ("a.c", "D/w/a.c:1: error: cannot find <x.h>"),
         ],
-    )
-}
-
-// Sources that include names in quotes and in angles, and directories that hold the files of these names.
-const QUOTES: [(&str, Stands<'static>); 11] = [
-    ("/w", Dir),
-    ("/w/q", Dir),
-    ("/w/q/x.h", File("int q;\n")),
-    ("/w/q/y.h", File("int y;\n")),
-    ("/w/s", Dir),
-    ("/w/s/x.h", File("int s;\n")),
-    ("/w/src", Dir),
-    ("/w/src/angle.c", File("#include <x.h>\n")),
-    ("/w/src/quote.c", File("#include \"x.h\"\n")),
-    ("/w/src/there.c", File("#include \"y.h\"\n")),
-    ("/w/src/y.h", File("int here;\n")),
-];
-
-#[test]
-fn names_in_quotes_and_in_angles(rt: HostRuntime) -> Result<(), Fail> {
-    check(
-        &rt,
-        rt.alloc(),
-        &QUOTES,
-        &[
+    },
+    Case {
+        name: "names in quotes and in angles",
+        nodes: &QUOTES,
+        rows: &[
             (
                 "src/quote.c -iquote q -isystem s",
                 "T# 1 \"/w/src/quote.c\"\n# 1 \"/w/q/x.h\" 1\nint q;\n# 2 \"/w/src/quote.c\" 2\n",
@@ -73,16 +65,11 @@ fn names_in_quotes_and_in_angles(rt: HostRuntime) -> Result<(), Fail> {
                 "T# 1 \"/w/src/there.c\"\n# 1 \"/w/src/y.h\" 1\nint here;\n# 2 \"/w/src/there.c\" 2\n",
             ),
         ],
-    )
-}
-
-#[test]
-fn files_and_sources_that_are_nowhere(rt: HostRuntime) -> Result<(), Fail> {
-    check(
-        &rt,
-        rt.alloc(),
-        &QUOTES,
-        &[
+    },
+    Case {
+        name: "files and sources that are nowhere",
+        nodes: &QUOTES,
+        rows: &[
             (
                 "src/quote.c",
                 "D/w/src/quote.c:1: error: cannot find \"x.h\"",
@@ -90,39 +77,33 @@ fn files_and_sources_that_are_nowhere(rt: HostRuntime) -> Result<(), Fail> {
             ("gone.c -Iq", "D/w/gone.c:0: error: cannot find source"),
             ("/gone.c -Iq", "D/gone.c:0: error: cannot find source"),
         ],
-    )
-}
-
-#[test]
-fn names_from_the_root(rt: HostRuntime) -> Result<(), Fail> {
-    check(
-        &rt,
-        rt.alloc(),
-        &[
-            ("/v", Dir),
-            ("/v/x.h", File("int v;\n")),
-            ("/w", Dir),
+    },
+    Case {
+        name: "names from the root",
+        nodes: &[
+            ("/v", Dir, ""),
+            ("/v/x.h", File, "int v;\n"),
+            ("/w", Dir, ""),
             (
                 "/w/a.c",
-                File("#include </v/x.h>\n#include_next \"/v/x.h\"\n"),
+                File,
+                "#include </v/x.h>\n#include_next \"/v/x.h\"\n",
             ),
         ],
-        &[(
+        rows: &[(
             "a.c",
             "T# 1 \"/w/a.c\"\n# 1 \"/v/x.h\" 1\nint v;\n# 2 \"/w/a.c\" 2\n# 1 \"/v/x.h\" 1\nint v;\n# 3 \"/w/a.c\" 2\n",
         )],
-    )
-}
-
-#[test]
-fn trigraphs_where_they_are_asked_for(rt: HostRuntime) -> Result<(), Fail> {
-    check(
-        &rt,
-        rt.alloc(),
-        &[("/w", Dir), ("/w/a.c", File("??=warning x\ny??(1??)\n"))],
-        &[
+    },
+    Case {
+        name: "trigraphs where they are asked for",
+        nodes: &[
+            ("/w", Dir, ""),
+            ("/w/a.c", File, "??=warning x\ny??(1??)\n"),
+        ],
+        rows: &[
             ("a.c -trigraphs", "T# 1 \"/w/a.c\"\n\ny[1]\n"),
             ("a.c", "T# 1 \"/w/a.c\"\n? ? = warning x\ny ? ?(1 ? ?)\n"),
         ],
-    )
-}
+    },
+];

@@ -9,14 +9,25 @@ use job_words::read_words;
 use std::alloc::{AllocError, Global};
 use std::process::Abort;
 use std::test::Fail;
-use tree_model::{CanonPath, Entry, MemTree, Unnamed};
+use tree_model::{CanonPath, Entry, MemTree, Tree, Unnamed};
 
 /// What stands at a path.
 #[derive(Clone, Copy, Drop)]
-pub enum Stands<'a> {
+pub enum Stands {
     Dir,
-    File(&'a str),
-    Link(&'a str),
+    File,
+    Link,
+}
+
+/// A path, what stands at it, and a file's bytes or a link's text.
+pub type Node<'x> = (&'x str, Stands, &'x str);
+
+/// Jobs over a tree: each row has the words of a job in `/w`, and its outcome.
+#[derive(Clone, Copy, Drop)]
+pub struct Case<'x> {
+    pub name: &'x str,
+    pub nodes: &'x [Node<'x>],
+    pub rows: &'x [(&'x str, &'x str)],
 }
 
 // A text that a link may have.
@@ -43,13 +54,13 @@ fn link(alloc: Global, text: &[u8]) -> Result<Entry, AllocError>
     Ok(Entry::Link(Bytes::copy_of(alloc, text)?))
 }
 
-fn entry(alloc: Global, stands: Stands<'_>) -> Result<Entry, AllocError>
+fn entry(alloc: Global, stands: Stands, text: &[u8]) -> Result<Entry, AllocError>
     ensures { IfOk result (λ entry. IsTrue (entry_fits entry)) }
 {
     match stands {
         Stands::Dir => Ok(Entry::Dir),
-        Stands::File(body) => Ok(Entry::File(Bytes::copy_of(alloc, body.as_bytes())?)),
-        Stands::Link(text) => link(alloc, text.as_bytes()),
+        Stands::File => Ok(Entry::File(Bytes::copy_of(alloc, text)?)),
+        Stands::Link => link(alloc, text),
     }
 }
 
@@ -57,29 +68,26 @@ fn entry(alloc: Global, stands: Stands<'_>) -> Result<Entry, AllocError>
 fn add(
     alloc: Global,
     entries: &mut Vec<(CanonPath, Entry)>,
-    path: &str,
-    stands: Stands<'_>,
+    node: Node<'_>,
 ) -> Result<(), AllocError>
     requires { IsTrue (links_fit entries.old.items) }
     ensures { IsTrue (links_fit entries.new.items) }
 {
+    let (path, stands, text) = node;
     let Some(path) = CanonPath::read(alloc, path.as_bytes())? else {
         return Ok(());
     };
-    let entry = entry(alloc, stands)?;
+    let entry = entry(alloc, stands, text.as_bytes())?;
     entries.push((path, entry))?;
     Ok(())
 }
 
-fn entries_of(
-    alloc: Global,
-    nodes: &[(&str, Stands<'_>)],
-) -> Result<Vec<(CanonPath, Entry)>, AllocError>
+fn entries_of(alloc: Global, nodes: &[Node<'_>]) -> Result<Vec<(CanonPath, Entry)>, AllocError>
     ensures { IfOk result (λ entries. IsTrue (links_fit entries.items)) }
 {
     let mut entries = Vec::new(alloc);
-    for (path, stands) in nodes {
-        add(alloc, &mut entries, path, *stands)?;
+    for node in nodes {
+        add(alloc, &mut entries, *node)?;
     }
     Ok(entries)
 }
@@ -110,58 +118,68 @@ fn shown(alloc: Global, outcome: Result<Outcome, CppError>) -> Result<Vec<u8>, A
     }
 }
 
-fn outcome_over(
-    alloc: Global,
-    tree: &mut MemTree<Unnamed>,
-    words: &[Bytes],
-) -> Result<Vec<u8>, AllocError> {
-    match read_words(alloc, b"/w", words) {
+// The outcome of the job of these words in `/w`; empty where there is none.
+fn outcome<T: Tree>(alloc: Global, tree: &mut T, words: &str) -> Result<Vec<u8>, AllocError> {
+    let words = words_of(alloc, words)?;
+    match read_words(alloc, b"/w", words.as_slice()) {
         Ok(job) => shown(alloc, preprocess(alloc, tree, &job)),
         Err(_) => Ok(Vec::new(alloc)),
     }
 }
 
-// The outcome of the job of these words in `/w`; empty where there is none.
-fn outcome(
+fn check_shown(rt: &impl Abort, name: &str, words: &str, seen: &[u8], want: &str) {
+    let text = std::str::from_utf8(seen).unwrap_or("no UTF-8");
+    assert_eq!(rt; text, want, "{name}: {words}");
+}
+
+fn check_outcome<T: Tree>(
+    rt: &impl Abort,
     alloc: Global,
-    nodes: &[(&str, Stands<'_>)],
-    words: &str,
-) -> Result<Vec<u8>, AllocError> {
-    let words = words_of(alloc, words)?;
-    let entries = entries_of(alloc, nodes)?;
-    match MemTree::<Unnamed>::new(alloc, entries, Vec::new(alloc)) {
-        Ok(mut tree) => outcome_over(alloc, &mut tree, words.as_slice()),
-        Err(_) => Ok(Vec::new(alloc)),
+    name: &str,
+    tree: &mut T,
+    (words, want): (&str, &str),
+) {
+    match outcome(alloc, tree, words) {
+        Ok(seen) => check_shown(rt, name, words, seen.as_slice(), want),
+        Err(_) => rt.panic("no memory for an outcome"),
     }
 }
 
-fn check_seen(rt: &impl Abort, alloc: Global, words: &str, seen: Vec<u8>, want: &str) {
-    let same = seen.as_slice() == want.as_bytes();
-    let text = String::from_utf8(seen).unwrap_or(String::new(alloc));
-    assert!(rt; same, "{words}: {text}");
+fn tree_of(alloc: Global, nodes: &[Node<'_>]) -> Result<MemTree<Unnamed>, Fail> {
+    let entries = entries_of(alloc, nodes)?;
+    Ok(MemTree::new(alloc, entries, Vec::new(alloc))?)
 }
 
 fn check_row(
     rt: &impl Abort,
     alloc: Global,
-    nodes: &[(&str, Stands<'_>)],
-    words: &str,
-    want: &str,
+    name: &str,
+    nodes: &[Node<'_>],
+    row: (&str, &str),
 ) -> Result<(), Fail> {
-    let seen = outcome(alloc, nodes, words)?;
-    check_seen(rt, alloc, words, seen, want);
+    let mut tree = tree_of(alloc, nodes)?;
+    check_outcome(rt, alloc, name, &mut tree, row);
     Ok(())
 }
 
 /// Each row's job, by its words in `/w`, has its outcome over the tree of these nodes.
-pub fn check<'x>(
+pub fn check_rows(
     rt: &impl Abort,
     alloc: Global,
-    nodes: &[(&'x str, Stands<'x>)],
-    rows: &[(&'x str, &'x str)],
+    name: &str,
+    nodes: &[Node<'_>],
+    rows: &[(&str, &str)],
 ) -> Result<(), Fail> {
-    for (words, want) in rows {
-        check_row(rt, alloc, nodes, words, want)?;
+    for row in rows {
+        check_row(rt, alloc, name, nodes, *row)?;
+    }
+    Ok(())
+}
+
+/// The rows of each case.
+pub fn check_cases(rt: &impl Abort, alloc: Global, cases: &[Case<'_>]) -> Result<(), Fail> {
+    for case in cases {
+        check_rows(rt, alloc, case.name, case.nodes, case.rows)?;
     }
     Ok(())
 }

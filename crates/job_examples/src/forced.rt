@@ -1,22 +1,19 @@
 // Files that the words include in front of the source.
+use crate::checked::Case;
 use crate::checked::Stands::{Dir, File};
-use crate::checked::check;
-use std::test::Fail;
 
-#[test]
-fn files_in_front_of_the_source(rt: HostRuntime) -> Result<(), Fail> {
-    check(
-        &rt,
-        rt.alloc(),
-        &[
-            ("/w", Dir),
-            ("/w/a.c", File("int a;\n")),
-            ("/w/d.h", File("int d;\n")),
-            ("/w/e.h", File("#include \"d.h\"\n#include \"f.h\"\nint e;")),
-            ("/w/i", Dir),
-            ("/w/i/f.h", File("int f;\n")),
+pub const CASES: [Case<'static>; 2] = [
+    Case {
+        name: "files in front of the source",
+        nodes: &[
+            ("/w", Dir, ""),
+            ("/w/a.c", File, "int a;\n"),
+            ("/w/d.h", File, "int d;\n"),
+            ("/w/e.h", File, "#include \"d.h\"\n#include \"f.h\"\nint e;"),
+            ("/w/i", Dir, ""),
+            ("/w/i/f.h", File, "int f;\n"),
         ],
-        &[
+        rows: &[
             (
                 "a.c -include d.h",
                 "T# 1 \"/w/a.c\"\n# 1 \"/w/d.h\" 1\nint d;\n# 1 \"/w/a.c\" 2\nint a;\n",
@@ -35,22 +32,17 @@ fn files_in_front_of_the_source(rt: HostRuntime) -> Result<(), Fail> {
              # 3 \"/w/e.h\" 2\nint e;\n# 1 \"/w/a.c\" 2\nint a;\n",
             ),
         ],
-    )
-}
-
-#[test]
-fn diagnostics_of_such_files(rt: HostRuntime) -> Result<(), Fail> {
-    check(
-        &rt,
-        rt.alloc(),
-        &[
-            ("/w", Dir),
-            ("/w/a.c", File("#error a\n")),
-            ("/w/bad.h", File("int x;\n#foo\n")),
-            ("/w/loop.h", File("#include \"loop.h\"\n")),
-            ("/w/open.h", File("/*\n")),
+    },
+    Case {
+        name: "diagnostics of such files",
+        nodes: &[
+            ("/w", Dir, ""),
+            ("/w/a.c", File, "#error a\n"),
+            ("/w/bad.h", File, "int x;\n#foo\n"),
+            ("/w/loop.h", File, "#include \"loop.h\"\n"),
+            ("/w/open.h", File, "/*\n"),
         ],
-        &[
+        rows: &[
             ("a.c -include z.h", "D/w/a.c:0: error: cannot find \"z.h\""),
             (
                 "a.c -include bad.h",
@@ -67,5 +59,5 @@ fn diagnostics_of_such_files(rt: HostRuntime) -> Result<(), Fail> {
             ("z.c -include z.h", "D/w/z.c:0: error: cannot find source"),
             ("a.c", "D/w/a.c:1: error: #error a"),
         ],
-    )
-}
+    },
+];

@@ -8,4 +8,6 @@ mod checked;
 #[cfg(test)]
 mod forced;
 #[cfg(test)]
+mod jobs;
+#[cfg(test)]
 mod links;

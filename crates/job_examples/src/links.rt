@@ -1,26 +1,28 @@
 // Includes through links: the directory behind a link is where `..` goes up from, and the 41st link ends a search.
 use crate::checked::Stands::{Dir, File, Link};
-use crate::checked::{Stands, check};
+use crate::checked::{Case, Node, check_rows};
 use std::alloc::{AllocError, Global};
+use std::process::Abort;
 use std::test::Fail;
 
-#[test]
-fn a_directory_behind_a_link(rt: HostRuntime) -> Result<(), Fail> {
-    check(
-        &rt,
-        rt.alloc(),
-        &[
-            ("/v", Dir),
-            ("/v/inc", Dir),
-            ("/v/x.h", File("int v;\n")),
-            ("/w", Dir),
-            ("/w/a.c", File("#include \"l/../x.h\"\n")),
-            ("/w/b.c", File("#include \"k//.././x.h\"\n")),
-            ("/w/k", Link("./l/")),
-            ("/w/l", Link("/v/inc")),
-            ("/w/x.h", File("int w;\n")),
+// A source whose include goes through a directory and up again.
+const THROUGH_A_DIRECTORY: &str = "#include \"gone/../x.h\"\n";
+
+pub const CASES: [Case<'static>; 3] = [
+    Case {
+        name: "a directory behind a link",
+        nodes: &[
+            ("/v", Dir, ""),
+            ("/v/inc", Dir, ""),
+            ("/v/x.h", File, "int v;\n"),
+            ("/w", Dir, ""),
+            ("/w/a.c", File, "#include \"l/../x.h\"\n"),
+            ("/w/b.c", File, "#include \"k//.././x.h\"\n"),
+            ("/w/k", Link, "./l/"),
+            ("/w/l", Link, "/v/inc"),
+            ("/w/x.h", File, "int w;\n"),
         ],
-        &[
+        rows: &[
             (
                 "a.c",
                 "T# 1 \"/w/a.c\"\n# 1 \"/v/x.h\" 1\nint v;\n# 2 \"/w/a.c\" 2\n",
@@ -30,43 +32,30 @@ fn a_directory_behind_a_link(rt: HostRuntime) -> Result<(), Fail> {
                 "T# 1 \"/w/b.c\"\n# 1 \"/v/x.h\" 1\nint v;\n# 2 \"/w/b.c\" 2\n",
             ),
         ],
-    )
-}
-
-// A source whose include goes through a directory and up again.
-const THROUGH_A_DIRECTORY: &str = "#include \"gone/../x.h\"\n";
-
-#[test]
-fn an_empty_directory_on_the_way(rt: HostRuntime) -> Result<(), Fail> {
-    check(
-        &rt,
-        rt.alloc(),
-        &[
-            ("/w", Dir),
-            ("/w/a.c", File(THROUGH_A_DIRECTORY)),
-            ("/w/gone", Dir),
-            ("/w/x.h", File("int x;\n")),
+    },
+    Case {
+        name: "an empty directory on the way",
+        nodes: &[
+            ("/w", Dir, ""),
+            ("/w/a.c", File, THROUGH_A_DIRECTORY),
+            ("/w/gone", Dir, ""),
+            ("/w/x.h", File, "int x;\n"),
         ],
-        &[(
+        rows: &[(
             "a.c",
             "T# 1 \"/w/a.c\"\n# 1 \"/w/x.h\" 1\nint x;\n# 2 \"/w/a.c\" 2\n",
         )],
-    )
-}
-
-#[test]
-fn no_directory_on_the_way(rt: HostRuntime) -> Result<(), Fail> {
-    check(
-        &rt,
-        rt.alloc(),
-        &[
-            ("/w", Dir),
-            ("/w/a.c", File(THROUGH_A_DIRECTORY)),
-            ("/w/x.h", File("int x;\n")),
+    },
+    Case {
+        name: "no directory on the way",
+        nodes: &[
+            ("/w", Dir, ""),
+            ("/w/a.c", File, THROUGH_A_DIRECTORY),
+            ("/w/x.h", File, "int x;\n"),
         ],
-        &[("a.c", "D/w/a.c:1: error: cannot find \"gone/../x.h\"")],
-    )
-}
+        rows: &[("a.c", "D/w/a.c:1: error: cannot find \"gone/../x.h\"")],
+    },
+];
 
 // The paths of 41 links, and their names.
 const PATHS: [&str; 41] = [
@@ -86,60 +75,74 @@ const NAMES: [&str; 41] = [
 
 // Adds the link of this index, where there is one to add: the last of so many leads to a file, another one to the next.
 fn add_link(
-    nodes: &mut Vec<(&'static str, Stands<'static>)>,
+    nodes: &mut Vec<Node<'static>>,
     index: usize,
     path: &'static str,
     count: usize,
 ) -> Result<(), AllocError> {
     let next = index.saturating_add(1);
     if next == count {
-        return Ok(nodes.push((path, Link("x.h")))?);
+        return Ok(nodes.push((path, Link, "x.h"))?);
     }
     match NAMES.get(next) {
-        Some(name) => Ok(nodes.push((path, Link(name)))?),
+        Some(name) => Ok(nodes.push((path, Link, name))?),
         None => Ok(()),
     }
 }
 
-// A source that asks for the first of so many links, each of which leads to the next and the last to a file; and a file of
-// the first one's name in a directory. Links behind the last lead on as well.
-fn links(alloc: Global, count: usize) -> Result<Vec<(&'static str, Stands<'static>)>, AllocError> {
-    let mut nodes = vec![in alloc;
-        ("/w", Dir),
-        ("/w/a.c", File("#include \"l01\"\n")),
-        ("/w/i", Dir),
-        ("/w/i/l01", File("int i;\n")),
-    ]?;
+// A source that asks for the first of the links, and a file of the first one's name in a directory.
+const FRONT: [Node<'static>; 4] = [
+    ("/w", Dir, ""),
+    ("/w/a.c", File, "#include \"l01\"\n"),
+    ("/w/i", Dir, ""),
+    ("/w/i/l01", File, "int i;\n"),
+];
+
+// So many links behind the front, each of which leads to the next and the last to a file. Links behind the last lead on as
+// well.
+fn links(alloc: Global, count: usize) -> Result<Vec<Node<'static>>, AllocError> {
+    let mut nodes = FRONT.to_vec(alloc)?;
     for (k, path) in PATHS.iter().enumerate() {
         add_link(&mut nodes, k, path, count)?;
     }
-    nodes.push(("/w/x.h", File("int x;\n")))?;
+    nodes.push(("/w/x.h", File, "int x;\n"))?;
     Ok(nodes)
 }
 
-#[test]
-fn forty_links(rt: HostRuntime) -> Result<(), Fail> {
-    let followed = "T# 1 \"/w/a.c\"\n# 1 \"/w/l01\" 1\nint x;\n# 2 \"/w/a.c\" 2\n";
-    check(
-        &rt,
-        rt.alloc(),
-        &links(rt.alloc(), 40)?,
-        &[("a.c", followed), ("a.c -Ii", followed)],
-    )
+// The first of forty links is followed.
+const FOLLOWED: [(&str, &str); 2] = [
+    (
+        "a.c",
+        "T# 1 \"/w/a.c\"\n# 1 \"/w/l01\" 1\nint x;\n# 2 \"/w/a.c\" 2\n",
+    ),
+    (
+        "a.c -Ii",
+        "T# 1 \"/w/a.c\"\n# 1 \"/w/l01\" 1\nint x;\n# 2 \"/w/a.c\" 2\n",
+    ),
+];
+
+// The first of forty links and one more ends a search.
+const ENDED: [(&str, &str); 2] = [
+    ("a.c", "D/w/a.c:1: error: cannot find \"l01\""),
+    (
+        "a.c -Ii",
+        "T# 1 \"/w/a.c\"\n# 1 \"/w/i/l01\" 1\nint i;\n# 2 \"/w/a.c\" 2\n",
+    ),
+];
+
+fn check_links<'x>(
+    rt: &impl Abort,
+    alloc: Global,
+    name: &'x str,
+    count: usize,
+    rows: &'x [(&'x str, &'x str)],
+) -> Result<(), Fail> {
+    let nodes = links(alloc, count)?;
+    check_rows(rt, alloc, name, &nodes, rows)
 }
 
 #[test]
 fn forty_links_and_one_more(rt: HostRuntime) -> Result<(), Fail> {
-    check(
-        &rt,
-        rt.alloc(),
-        &links(rt.alloc(), 41)?,
-        &[
-            ("a.c", "D/w/a.c:1: error: cannot find \"l01\""),
-            (
-                "a.c -Ii",
-                "T# 1 \"/w/a.c\"\n# 1 \"/w/i/l01\" 1\nint i;\n# 2 \"/w/a.c\" 2\n",
-            ),
-        ],
-    )
+    check_links(&rt, rt.alloc(), "forty links", 40, &FOLLOWED)?;
+    check_links(&rt, rt.alloc(), "forty-one links", 41, &ENDED)
 }

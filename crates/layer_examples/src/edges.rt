@@ -1,5 +1,5 @@
 // Sources, sinks, outputs and a spawner in memory, the files of a folder, and a runtime's streams.
-use crate::same::check_same;
+use crate::checks::{check, check_text, shown};
 use base_types::Bytes;
 use io_edges::{
     FolderOuts, Host, MemOuts, MemSink, MemSource, MemSpawner, OutFault, Outs, ReadFault, Sink,
@@ -19,34 +19,23 @@ fn put_words<K: Sink>(sink: &mut K, words: &[&str]) -> Result<(), WriteFault> {
     Ok(())
 }
 
-// The front of what is left, of at most three bytes.
-fn take_three<S: Source>(alloc: Global, source: &mut S) -> Result<Vec<u8>, Fail> {
-    let mut room = [0; 3];
-    let Ok(n) = source.take(&mut room) else {
-        return Ok(Vec::new(alloc));
-    };
-    Ok(room[..n].to_vec(alloc)?)
-}
-
 // What is left begins with this, of which at most three bytes are taken.
-fn check_three<S: Source>(
-    rt: &impl Abort,
-    alloc: Global,
-    source: &mut S,
-    want: &[u8],
-) -> Result<(), Fail> {
-    let taken = take_three(alloc, source)?;
-    check_same(rt, taken.as_slice(), want);
-    Ok(())
+fn check_three<S: Source>(rt: &impl Abort, source: &mut S, want: &str) {
+    let mut room = [0; 3];
+    match source.take(&mut room) {
+        Ok(n) => check_text(rt, "the bytes taken", &room[..n], want),
+        Err(_) => rt.panic("bytes are taken"),
+    }
 }
 
 fn check_take<S: Source>(rt: &impl Abort, source: &mut S, want: Result<usize, ReadFault>) {
     let mut room = [0; 4];
-    assert_eq!(rt; source.take(&mut room), want);
+    let taken = source.take(&mut room);
+    check(rt, taken == want, "how many bytes are taken");
 }
 
 fn check_put<K: Sink>(rt: &impl Abort, sink: &mut K, words: &[&str], want: Result<(), WriteFault>) {
-    assert_eq!(rt; put_words(sink, words), want);
+    check(rt, put_words(sink, words) == want, "words are put");
 }
 
 // A source of five bytes, whose second call fails.
@@ -55,108 +44,91 @@ fn failing_source(alloc: Global) -> Result<MemSource, AllocError> {
     Ok(MemSource::new(bytes, vec![in alloc; 2]?))
 }
 
-#[test]
-fn a_source_gives_its_bytes_and_fails_where_listed(rt: HostRuntime) -> Result<(), Fail> {
-    let alloc = rt.alloc();
-    let mut source = failing_source(alloc)?;
-    check_three(&rt, alloc, &mut source, b"abc")?;
-    check_take(&rt, &mut source, Err(ReadFault::Fault));
-    check_three(&rt, alloc, &mut source, b"de")?;
-    check_take(&rt, &mut source, Ok(0));
-    Ok(())
+// A source gives its bytes, and its second call fails.
+fn check_source<S: Source>(rt: &impl Abort, source: &mut S) {
+    check_three(rt, source, "abc");
+    check_take(rt, source, Err(ReadFault::Fault));
+    check_three(rt, source, "de");
+    check_take(rt, source, Ok(0));
 }
 
-#[test]
-fn a_sink_holds_its_pieces(rt: HostRuntime) -> Result<(), Fail> {
-    let alloc = rt.alloc();
-    let mut sink = MemSink::new(alloc, vec![in alloc; 3]?);
-    check_put(
-        &rt,
-        &mut sink,
-        &["one ", "two ", "three"],
-        Err(WriteFault::Fault),
-    );
-    check_put(&rt, &mut sink, &["four"], Ok(()));
-    check_same(&rt, sink.bytes(), b"one two four");
-    Ok(())
+// The third call of a sink fails, and it holds the pieces of the others.
+fn check_sink(rt: &impl Abort, mut sink: MemSink) {
+    let failed = Err(WriteFault::Fault);
+    check_put(rt, &mut sink, &["one ", "two ", "three"], failed);
+    check_put(rt, &mut sink, &["four"], Ok(()));
+    check_text(rt, "the words put", sink.bytes(), "one two four");
 }
 
 fn check_body<O: Outs>(rt: &impl Abort, outs: &mut O, name: &str, body: &str) {
-    assert_eq!(rt;
-        outs.put(name.as_bytes(), body.as_bytes()),
-        Ok(()),
-        "at {name}"
-    );
+    check(rt, outs.put(name.as_bytes(), body.as_bytes()).is_ok(), name);
 }
 
 fn check_refused<O: Outs>(rt: &impl Abort, outs: &mut O, name: &[u8], body: &[u8]) {
-    assert_eq!(rt; outs.put(name, body), Err(OutFault::Fault), "at {name:?}");
+    check(
+        rt,
+        outs.put(name, body) == Err(OutFault::Fault),
+        shown(name),
+    );
 }
 
-fn check_one_entry(rt: &impl Abort, entries: &[(Bytes, Bytes)], name: &[u8], body: &[u8]) {
-    assert_eq!(rt; entries.len(), 1);
-    check_same(rt, entries[0].0.as_slice(), name);
-    check_same(rt, entries[0].1.as_slice(), body);
+fn check_one_entry(rt: &impl Abort, entries: &[(Bytes, Bytes)], name: &str, body: &str) {
+    check(rt, entries.len() == 1, "one entry");
+    for (under, bytes) in entries {
+        check_text(rt, "its name", under.as_slice(), name);
+        check_text(rt, "its body", bytes.as_slice(), body);
+    }
 }
 
-#[test]
-fn outs_keep_names_and_bodies(rt: HostRuntime) -> Result<(), Fail> {
-    let alloc = rt.alloc();
-    let mut outs = MemOuts::new(alloc, vec![in alloc; 1]?);
-    check_refused(&rt, &mut outs, b"/a.o", b"first");
-    check_body(&rt, &mut outs, "/a.o", "second");
-    check_one_entry(&rt, outs.entries(), b"/a.o", b"second");
-    Ok(())
+// The first call of an output fails, and it keeps the name and the body of the other.
+fn check_outs(rt: &impl Abort, mut outs: MemOuts) {
+    check_refused(rt, &mut outs, b"/a.o", b"first");
+    check_body(rt, &mut outs, "/a.o", "second");
+    check_one_entry(rt, outs.entries(), "/a.o", "second");
 }
 
 fn check_localhost(rt: &impl Abort, host: &Host) {
-    check_same(rt, host.name.as_slice(), b"localhost");
-    assert_eq!(rt; (host.port, host.limit), (3632, 1));
+    check_text(rt, "the host", host.name.as_slice(), "localhost");
+    check(rt, host.port == 3632, "its port");
+    check(rt, host.limit == 1, "its limit");
+}
+
+fn check_stop<P: Spawner>(rt: &impl Abort, spawner: &mut P, want: Result<(), SpawnFault>) {
+    check(rt, spawner.stop_all() == want, "all are stopped");
 }
 
 fn check_start<P: Spawner>(rt: &impl Abort, spawner: &mut P, k: u32) {
     match spawner.start(k) {
         Ok(host) => check_localhost(rt, &host),
-        Err(_) => assert!(rt; false, "the first start failed"),
+        Err(_) => rt.panic("the first start failed"),
     }
 }
 
-fn check_stop<P: Spawner>(rt: &impl Abort, spawner: &mut P, want: Result<(), SpawnFault>) {
-    assert_eq!(rt; spawner.stop_all(), want);
+// One daemon is started, and the first call that stops it fails.
+fn check_spawner(rt: &impl Abort, mut spawner: MemSpawner) {
+    check_start(rt, &mut spawner, 7);
+    check_stop(rt, &mut spawner, Err(SpawnFault::Fault));
+    check_stop(rt, &mut spawner, Ok(()));
+    check(rt, spawner.started() == [7].as_slice(), "what was started");
 }
 
 #[test]
-fn a_spawner_starts_localhost(rt: HostRuntime) -> Result<(), Fail> {
+fn what_is_in_memory_fails_where_listed(rt: HostRuntime) -> Result<(), Fail> {
     let alloc = rt.alloc();
-    let mut spawner = MemSpawner::new(alloc, vec![in alloc; 2]?);
-    check_start(&rt, &mut spawner, 7);
-    check_stop(&rt, &mut spawner, Err(SpawnFault::Fault));
-    check_stop(&rt, &mut spawner, Ok(()));
-    assert_eq!(rt; spawner.started(), [7].as_slice());
+    check_source(&rt, &mut failing_source(alloc)?);
+    check_sink(&rt, MemSink::new(alloc, vec![in alloc; 3]?));
+    check_outs(&rt, MemOuts::new(alloc, vec![in alloc; 1]?));
+    check_spawner(&rt, MemSpawner::new(alloc, vec![in alloc; 2]?));
     Ok(())
 }
 
 // A folder below the working directory.
 const FOLDER: &str = "folder_outs_test/out";
 
-fn check_text(rt: &impl Abort, path: &str, text: &str, want: &str) {
-    assert_eq!(rt; text, want, "at {path}");
-}
-
 fn check_file<R: Files + Alloc + Abort>(rt: &R, path: &str, body: &str) -> Result<(), Fail> {
     let text = fs::read_to_string(rt, path)?;
-    check_text(rt, path, text.as_str(), body);
+    check_text(rt, path, text.as_bytes(), body);
     Ok(())
-}
-
-fn check_below<R: Files + Alloc + Abort>(
-    rt: &R,
-    alloc: Global,
-    path: &str,
-    body: &str,
-) -> Result<(), Fail> {
-    let path = format!(in alloc; "{FOLDER}/{path}")?;
-    check_file(rt, &path, body)
 }
 
 fn remove_folder<R: Files + Alloc>(rt: &R) -> Result<(), Fail> {
@@ -177,28 +149,30 @@ fn check_refusals<O: Outs>(rt: &impl Abort, outs: &mut O, names: &[&[u8]]) {
     }
 }
 
-fn check_files<R: Files + Alloc + Abort>(
-    rt: &R,
-    alloc: Global,
-    files: &[(&str, &str)],
-) -> Result<(), Fail> {
+fn check_files<R: Files + Alloc + Abort>(rt: &R, files: &[(&str, &str)]) -> Result<(), Fail> {
     for (path, body) in files {
-        check_below(rt, alloc, path, body)?;
+        check_file(rt, path, body)?;
     }
     Ok(())
 }
 
+// What is put, one after another.
+const PUT: [(&str, &str); 4] = [
+    ("/a/b/c.o", "c"),
+    ("a/b/d.o", "d"),
+    ("//e..", "e"),
+    ("/a/b/c.o", "later"),
+];
+
+// What stands in the folder then.
+const HELD: [(&str, &str); 3] = [
+    ("folder_outs_test/out/a/b/c.o", "later"),
+    ("folder_outs_test/out/a/b/d.o", "d"),
+    ("folder_outs_test/out/e..", "e"),
+];
+
 fn check_folder<O: Outs>(rt: &impl Abort, outs: &mut O) {
-    check_bodies(
-        rt,
-        outs,
-        &[
-            ("/a/b/c.o", "c"),
-            ("a/b/d.o", "d"),
-            ("//e..", "e"),
-            ("/a/b/c.o", "later"),
-        ],
-    );
+    check_bodies(rt, outs, &PUT);
     check_refusals(
         rt,
         outs,
@@ -212,15 +186,9 @@ fn check_folder<O: Outs>(rt: &impl Abort, outs: &mut O) {
 
 #[test]
 fn a_folder_holds_the_files_and_nothing_above_it(rt: HostRuntime) -> Result<(), Fail> {
-    let alloc = rt.alloc();
     remove_folder(&rt)?;
-    let mut outs = FolderOuts::new(&rt, alloc, FOLDER)?;
-    check_folder(&rt, &mut outs);
-    check_files(
-        &rt,
-        alloc,
-        &[("a/b/c.o", "later"), ("a/b/d.o", "d"), ("e..", "e")],
-    )?;
+    check_folder(&rt, &mut FolderOuts::new(&rt, rt.alloc(), FOLDER)?);
+    check_files(&rt, &HELD)?;
     fs::remove_dir_all(&rt, "folder_outs_test")?;
     Ok(())
 }
@@ -260,23 +228,13 @@ impl Print for Canned {
 }
 
 #[test]
-fn the_input_of_a_runtime(rt: HostRuntime) -> Result<(), Fail> {
-    let alloc = rt.alloc();
+fn the_streams_of_a_runtime(rt: HostRuntime) {
     let mut source = StdSource::new(&Canned);
-    check_three(&rt, alloc, &mut source, b"inp")?;
-    check_three(&rt, alloc, &mut source, b"ut")?;
-    check_three(&rt, alloc, &mut source, b"")?;
+    check_three(&rt, &mut source, "inp");
+    check_three(&rt, &mut source, "ut");
+    check_three(&rt, &mut source, "");
     let _input = StdSource::new(&rt);
-    Ok(())
-}
-
-#[test]
-fn the_output_of_a_runtime(rt: HostRuntime) {
-    check_put(
-        &rt,
-        &mut StdSink::new(Canned),
-        &["x"],
-        Err(WriteFault::Fault),
-    );
+    let failed = Err(WriteFault::Fault);
+    check_put(&rt, &mut StdSink::new(Canned), &["x"], failed);
     check_put(&rt, &mut StdSink::new(&rt), &["", ""], Ok(()));
 }

@@ -1,4 +1,5 @@
 // Small outputs, and their text.
+use crate::checks::check_text;
 use base_types::Bytes;
 use cpp_output::{LayError, Layout};
 use pp_tokens::{Kind, Token, TokenRef};
@@ -58,11 +59,10 @@ fn laid_out(alloc: Global, steps: &[Step<'_>]) -> Result<Bytes, LayError> {
 }
 
 fn check(rt: &impl Abort, alloc: Global, steps: &[Step<'_>], text: &str) {
-    let laid = laid_out(alloc, steps);
-    assert!(rt;
-        laid.is_ok_and(|bytes| bytes.as_slice() == text.as_bytes()),
-        "{text}"
-    );
+    match laid_out(alloc, steps) {
+        Ok(bytes) => check_text(rt, text, bytes.as_slice(), text),
+        Err(_) => rt.panic(text),
+    }
 }
 
 #[test]

@@ -2,12 +2,12 @@
 #![tactic(auto)]
 
 #[cfg(test)]
+mod checks;
+#[cfg(test)]
 mod edges;
 #[cfg(test)]
 mod layouts;
 #[cfg(test)]
 mod lists;
-#[cfg(test)]
-mod same;
 #[cfg(test)]
 mod serving;

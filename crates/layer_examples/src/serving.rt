@@ -1,7 +1,7 @@
 // Wires in memory, the answers behind them, and the daemon.
 ghost use Rattle.std.specs.Prelude.{◌≡◌, ◌<◌, All, IfOk, true};
 
-use crate::same::check_same;
+use crate::checks::{check, check_text};
 use base_types::Bytes;
 use daemon_serve::{
     Answerer, MemWire, PieceSource, Scripted, Serve, ServePeer, Served, daemon_words, inetd, serve,
@@ -71,43 +71,51 @@ fn gives<W: Wire>(wire: &mut W, piece: &[u8]) -> bool
 fn check_pieces<W: Wire>(rt: &impl Abort, wire: &mut W, host: &Host)
     requires { W.state wire.old ≡ LinkState.Closed }
 {
-    assert!(rt; is_asked(wire, host, b"one"));
-    assert!(rt; gives(wire, b"ab") && gives(wire, b"cde") && gives(wire, b"fg"));
-    assert!(rt; gives(wire, b"h") && gives(wire, b""));
+    check(rt, is_asked(wire, host, b"one"), "a request");
+    check(rt, gives(wire, b"ab"), "the first piece");
+    check(rt, gives(wire, b"cde"), "the second");
+    check(rt, gives(wire, b"fg"), "the third");
+    check(rt, gives(wire, b"h"), "the last");
+    check(rt, gives(wire, b""), "the end");
 }
 
-fn check_one_exchange(rt: &impl Abort, exchanges: &[Exchange], sent: &[u8], received: &[u8]) {
-    assert_eq!(rt; exchanges.len(), 1);
-    check_same(rt, exchanges[0].sent.as_slice(), sent);
-    check_same(rt, exchanges[0].received.as_slice(), received);
+fn check_one_exchange(rt: &impl Abort, exchanges: &[Exchange], sent: &str, received: &str) {
+    check(rt, exchanges.len() == 1, "one exchange");
+    for exchange in exchanges {
+        check_text(rt, "the bytes sent", exchange.sent.as_slice(), sent);
+        check_text(rt, "the answer", exchange.received.as_slice(), received);
+    }
 }
 
-#[test]
-fn an_answer_comes_in_pieces(rt: HostRuntime) -> Result<(), Fail> {
-    let alloc = rt.alloc();
-    let host = a_host(alloc)?;
+// An answer comes in pieces.
+fn comes_in_pieces(rt: &impl Abort, alloc: Global, host: &Host) -> Result<(), Fail> {
     let mut wire = a_wire(alloc, &["abcdefgh"], vec![in alloc; 2, 3]?, &[])?;
-    check_pieces(&rt, &mut wire, &host);
-    check_one_exchange(&rt, wire.exchanges(), b"one", b"abcdefgh");
+    check_pieces(rt, &mut wire, host);
+    check_one_exchange(rt, wire.exchanges(), "one", "abcdefgh");
     Ok(())
 }
 
 fn check_asked<W: Wire>(rt: &impl Abort, wire: &mut W, host: &Host, request: &[u8], answer: &[u8])
     requires { W.state wire.old ≡ LinkState.Closed }
 {
-    assert!(rt; is_asked(wire, host, request) && gives(wire, answer));
+    check(rt, is_asked(wire, host, request), "a request");
+    check(rt, gives(wire, answer), "its answer");
 }
 
-#[test]
-fn answers_come_in_turn_and_then_empty(rt: HostRuntime) -> Result<(), Fail> {
-    let alloc = rt.alloc();
-    let host = a_host(alloc)?;
+fn check_turns<W: Wire>(rt: &impl Abort, wire: &mut W, host: &Host)
+    requires { W.state wire.old ≡ LinkState.Closed }
+{
+    check_asked(rt, wire, host, b"a", b"first");
+    wire.close();
+    check_asked(rt, wire, host, b"b", b"second");
+    wire.close();
+    check_asked(rt, wire, host, b"c", b"");
+}
+
+// Answers come in turn, and then empty ones.
+fn come_in_turn(rt: &impl Abort, alloc: Global, host: &Host) -> Result<(), Fail> {
     let mut wire = a_wire(alloc, &["first", "second"], Vec::new(alloc), &[])?;
-    check_asked(&rt, &mut wire, &host, b"a", b"first");
-    wire.close();
-    check_asked(&rt, &mut wire, &host, b"b", b"second");
-    wire.close();
-    check_asked(&rt, &mut wire, &host, b"c", b"");
+    check_turns(rt, &mut wire, host);
     Ok(())
 }
 
@@ -115,28 +123,43 @@ fn check_answer<P: Answerer>(
     rt: &impl Abort,
     alloc: Global,
     peer: &mut P,
-    sent: &[u8],
-    want: &[u8],
-) -> Result<(), Fail> {
-    let answer = peer.answer(alloc, sent)?;
-    check_same(rt, answer.as_slice(), want);
-    Ok(())
+    (sent, want): (&str, &str),
+) {
+    match peer.answer(alloc, sent.as_bytes()) {
+        Ok(answer) => check_text(rt, sent, answer.as_slice(), want),
+        Err(_) => rt.panic("no memory for an answer"),
+    }
 }
 
+// Each row has the bytes sent and the answer to them.
+fn check_answers<P: Answerer>(rt: &impl Abort, alloc: Global, peer: &mut P, rows: &[(&str, &str)]) {
+    for row in rows {
+        check_answer(rt, alloc, peer, *row);
+    }
+}
+
+// Answers that are written are given whatever was sent.
+const WRITTEN: [(&str, &str); 3] = [("one", "first"), ("one", "second"), ("one", "")];
+
+// The daemon answers with a text, and refuses what is cut and another word.
+const SERVED: [(&str, &str); 3] = [
+    (REQUEST, REPLY),
+    ("DIST", "RFSE00000009"),
+    ("XXXX", "RFSE00000003"),
+];
+
 #[test]
-fn written_answers_are_given_whatever_was_sent(rt: HostRuntime) -> Result<(), Fail> {
-    let alloc = rt.alloc();
-    let mut peer = a_peer(alloc, &["first", "second"])?;
-    check_answer(&rt, alloc, &mut peer, b"one", b"first")?;
-    check_answer(&rt, alloc, &mut peer, b"one", b"second")?;
-    check_answer(&rt, alloc, &mut peer, b"one", b"")?;
+fn answers_are_given(rt: HostRuntime) -> Result<(), Fail> {
+    let mut peer = a_peer(rt.alloc(), &["first", "second"])?;
+    check_answers(&rt, rt.alloc(), &mut peer, &WRITTEN);
+    check_answers(&rt, rt.alloc(), &mut ServePeer, &SERVED);
     Ok(())
 }
 
 fn check_not_asked<W: Wire>(rt: &impl Abort, wire: &mut W, host: &Host, request: &[u8])
     requires { W.state wire.old ≡ LinkState.Closed }
 {
-    assert!(rt; !is_asked(wire, host, request));
+    check(rt, !is_asked(wire, host, request), "a call that fails");
 }
 
 fn check_no_answer<W: Wire>(
@@ -148,44 +171,38 @@ fn check_no_answer<W: Wire>(
 )
     requires { W.state wire.old ≡ LinkState.Closed }
 {
-    assert!(rt; is_asked(wire, host, request));
-    assert!(rt; !gives(wire, answer));
+    check(rt, is_asked(wire, host, request), "a request");
+    check(rt, !gives(wire, answer), "a take that fails");
 }
 
-#[test]
-fn calls_fail_where_listed(rt: HostRuntime) -> Result<(), Fail> {
-    let alloc = rt.alloc();
-    let host = a_host(alloc)?;
+fn check_failing<W: Wire>(rt: &impl Abort, wire: &mut W, host: &Host)
+    requires { W.state wire.old ≡ LinkState.Closed }
+{
+    check_not_asked(rt, wire, host, b"the dial fails");
+    wire.close();
+    check_not_asked(rt, wire, host, b"the piece fails");
+    wire.close();
+    check_no_answer(rt, wire, host, b"the first take fails", b"answer");
+}
+
+// Calls fail where their numbers are listed.
+fn fail_where_listed(rt: &impl Abort, alloc: Global, host: &Host) -> Result<(), Fail> {
     let failing = [(0, 1), (1, 2), (2, 4)];
     let mut wire = a_wire(alloc, &["answer"], Vec::new(alloc), &failing)?;
-    check_not_asked(&rt, &mut wire, &host, b"the dial fails");
-    wire.close();
-    check_not_asked(&rt, &mut wire, &host, b"the piece fails");
-    wire.close();
-    check_no_answer(&rt, &mut wire, &host, b"the first take fails", b"answer");
-    assert_eq!(rt; wire.exchanges().len(), 2);
+    check_failing(rt, &mut wire, host);
+    check(rt, wire.exchanges().len() == 2, "two exchanges");
     Ok(())
 }
 
-#[test]
-fn the_daemon_answers_with_the_text(rt: HostRuntime) -> Result<(), Fail> {
-    check_answer(
-        &rt,
-        rt.alloc(),
-        &mut ServePeer,
-        REQUEST.as_bytes(),
-        REPLY.as_bytes(),
-    )
+fn check_wires(rt: &impl Abort, alloc: Global, host: &Host) -> Result<(), Fail> {
+    comes_in_pieces(rt, alloc, host)?;
+    come_in_turn(rt, alloc, host)?;
+    fail_where_listed(rt, alloc, host)
 }
 
 #[test]
-fn the_daemon_refuses_what_is_cut(rt: HostRuntime) -> Result<(), Fail> {
-    check_answer(&rt, rt.alloc(), &mut ServePeer, b"DIST", b"RFSE00000009")
-}
-
-#[test]
-fn the_daemon_refuses_another_word(rt: HostRuntime) -> Result<(), Fail> {
-    check_answer(&rt, rt.alloc(), &mut ServePeer, b"XXXX", b"RFSE00000003")
+fn wires_in_memory(rt: HostRuntime) -> Result<(), Fail> {
+    check_wires(&rt, rt.alloc(), &a_host(rt.alloc())?)
 }
 
 fn check_served<S: Source>(
@@ -196,66 +213,83 @@ fn check_served<S: Source>(
     reply: &str,
 ) {
     let mut sink = MemSink::new(alloc, Vec::new(alloc));
-    assert_eq!(rt; serve(alloc, source, &mut sink), want);
-    check_same(rt, sink.bytes(), reply.as_bytes());
+    let served = serve(alloc, source, &mut sink);
+    check(rt, served == want, reply);
+    check_text(rt, "the reply", sink.bytes(), reply);
+}
+
+// A request, or the front of one, is served in pieces of at most these lengths.
+fn check_in_pieces(
+    rt: &impl Abort,
+    alloc: Global,
+    request: &str,
+    pieces: Vec<u32>,
+    want: Served,
+    reply: &str,
+)
+    requires { All (λ n. 0 < n) pieces.items }
+{
+    let mut source = PieceSource::new(request.as_bytes(), pieces);
+    check_served(rt, alloc, &mut source, want, reply);
 }
 
 #[test]
-fn a_request_is_served_in_pieces(rt: HostRuntime) -> Result<(), Fail> {
+fn requests_are_served_in_pieces(rt: HostRuntime) -> Result<(), Fail> {
     let alloc = rt.alloc();
-    let mut source = PieceSource::new(REQUEST.as_bytes(), vec![in alloc; 1, 2, 30]?);
-    check_served(&rt, alloc, &mut source, Served::Replied, REPLY);
+    let pieces = vec![in alloc; 1, 2, 30]?;
+    check_in_pieces(&rt, alloc, REQUEST, pieces, Served::Replied, REPLY);
+    let (short, refused) = ("DIST00000103CDIR", Served::Refused(9));
+    check_in_pieces(
+        &rt,
+        alloc,
+        short,
+        vec![in alloc; 5]?,
+        refused,
+        "RFSE00000009",
+    );
     Ok(())
 }
 
-#[test]
-fn a_request_that_ends_too_early_is_cut(rt: HostRuntime) -> Result<(), Fail> {
-    let alloc = rt.alloc();
-    let mut source = PieceSource::new(b"DIST00000103CDIR", vec![in alloc; 5]?);
-    check_served(&rt, alloc, &mut source, Served::Refused(9), "RFSE00000009");
-    Ok(())
+// The number of the call that fails, or none.
+fn failing(alloc: Global, number: u64) -> Result<Vec<u64>, AllocError> {
+    let mut numbers = Vec::new(alloc);
+    if number > 0 {
+        numbers.push(number)?;
+    }
+    Ok(numbers)
 }
 
-// The status of a daemon that gets these bytes, where the calls of these numbers fail.
-fn status(alloc: Global, request: &str, reads: &[u64], writes: &[u64]) -> Result<u8, AllocError> {
+// A request, the read and the write that fail, from 1, or 0 where none does, and the status.
+type Ended<'a> = (&'a str, u64, u64, u8);
+
+// The status of a daemon that gets these bytes.
+fn status(alloc: Global, (request, reads, writes, _): Ended<'_>) -> Result<u8, AllocError> {
+    let reads = failing(alloc, reads)?;
+    let writes = failing(alloc, writes)?;
     let bytes = Bytes::copy_of(alloc, request.as_bytes())?;
-    let mut source = MemSource::new(bytes, reads.to_vec(alloc)?);
-    let mut sink = MemSink::new(alloc, writes.to_vec(alloc)?);
+    let mut source = MemSource::new(bytes, reads);
+    let mut sink = MemSink::new(alloc, writes);
     Ok(inetd(alloc, &mut source, &mut sink))
 }
 
-// A request, the reads and the writes that fail, and the status.
-type Ended<'a> = (&'a str, &'a [u64], &'a [u64], u8);
+const ENDED: [Ended<'static>; 4] = [
+    (REQUEST, 0, 0, 0),
+    ("DIST00000104", 0, 0, 1),
+    (REQUEST, 1, 0, 3),
+    (REQUEST, 0, 1, 4),
+];
 
-fn check_status(rt: &impl Abort, alloc: Global, row: Ended<'_>) -> Result<(), Fail> {
-    let (request, reads, writes, want) = row;
-    assert_eq!(rt; status(alloc, request, reads, writes)?, want);
-    Ok(())
-}
-
-fn check_statuses(rt: &impl Abort, alloc: Global, rows: &[Ended<'_>]) -> Result<(), Fail> {
-    for row in rows {
-        check_status(rt, alloc, *row)?;
+#[test]
+fn a_status_tells_how_serving_ended(rt: HostRuntime) -> Result<(), Fail> {
+    for row in &ENDED {
+        let status = status(rt.alloc(), *row)?;
+        check(&rt, status == row.3, row.0);
     }
     Ok(())
 }
 
-#[test]
-fn a_status_tells_how_serving_ended(rt: HostRuntime) -> Result<(), Fail> {
-    check_statuses(
-        &rt,
-        rt.alloc(),
-        &[
-            (REQUEST, &[], &[], 0),
-            ("DIST00000104", &[], &[], 1),
-            (REQUEST, &[1], &[], 3),
-            (REQUEST, &[], &[1], 4),
-        ],
-    )
-}
-
 fn check_words(rt: &impl Abort, words: &[&str], want: Option<Serve>) {
-    assert_eq!(rt; daemon_words(words), want);
+    check(rt, daemon_words(words) == want, "the words of a daemon");
 }
 
 #[test]

@@ -1,171 +1,97 @@
 // A tree that remembers nodes, over a tree in memory whose calls fail where a list of their numbers says so: a listed
 // number fails the call after all that were made before, and so counts them.
-use crate::files::path;
-use crate::walks::{shown, tree};
-use base_types::Bytes;
+use crate::checks::check;
+use crate::files::place;
+use crate::nodes::{Shown, check_file, check_nodes};
+use crate::walks::{check_located, tree};
 use std::alloc::Global;
 use std::process::Abort;
 use std::test::Fail;
-use tree_model::{Cached, CanonPath, MemTree, Node, Tree, TreeError, Unnamed};
-
-// What a node is, or why there is no answer.
-fn kind(node: &Result<Option<Node>, TreeError>) -> &'static str {
-    match node {
-        Ok(None) => "nothing",
-        Ok(Some(Node::Dir)) => "directory",
-        Ok(Some(Node::File)) => "file",
-        Ok(Some(Node::Link(_))) => "link ",
-        Err(TreeError::Fault) => "fault",
-        Err(TreeError::Large) => "large",
-        Err(TreeError::Memory) => "memory",
-    }
-}
-
-// A link's text, and no bytes for all else.
-fn target(node: &Result<Option<Node>, TreeError>) -> &[u8] {
-    match node {
-        Ok(Some(Node::Link(target))) => target.as_slice(),
-        _ => &[],
-    }
-}
-
-// A node in words, with a link's text behind a blank, or why there is no answer.
-fn in_words(alloc: Global, node: &Result<Option<Node>, TreeError>) -> Result<Bytes, Fail> {
-    let mut text = Bytes::copy_of(alloc, kind(node).as_bytes())?;
-    text.extend(target(node))?;
-    Ok(text)
-}
-
-// The node at a place, in words.
-fn words<T: Tree>(alloc: Global, tree: &mut T, place: &str) -> Result<Bytes, Fail> {
-    let place = path(alloc, place.as_bytes())?;
-    in_words(alloc, &tree.node(&place))
-}
-
-// The node at this place is this in words.
-fn check_node<T: Tree>(
-    rt: &impl Abort,
-    alloc: Global,
-    tree: &mut T,
-    place: &str,
-    want: &str,
-) -> Result<(), Fail> {
-    let seen = words(alloc, tree, place)?;
-    assert_eq!(rt; seen.as_slice(), want.as_bytes());
-    Ok(())
-}
-
-// The nodes at these places, asked one after another, are these in words.
-fn check<T: Tree>(
-    rt: &impl Abort,
-    alloc: Global,
-    tree: &mut T,
-    rows: &[(&str, &str)],
-) -> Result<(), Fail> {
-    for (place, want) in rows {
-        check_node(rt, alloc, tree, place, want)?;
-    }
-    Ok(())
-}
+use tree_model::{Cached, CanonPath, MemTree, Tree, TreeError, Unnamed};
 
 // A tree that remembers nodes, over the tree in which the calls with these numbers fail.
 fn cached(alloc: Global, fails: &[u64]) -> Result<Cached<MemTree<Unnamed>>, Fail> {
     Ok(Cached::over(alloc, tree(alloc, fails)?))
 }
 
-#[test]
-fn a_node_is_asked_once_and_a_refusal_again(rt: HostRuntime) -> Result<(), Fail> {
-    let alloc = rt.alloc();
-    let mut tree = cached(alloc, &[2, 5])?;
-    check(
-        &rt,
-        alloc,
-        &mut tree,
-        &[
-            ("/w", "directory"),
-            ("/w", "directory"),
-            ("/w/a.c", "fault"),
-            ("/w/a.c", "file"),
-            ("/w/a.c", "file"),
-            ("/w/b.c", "nothing"),
-            ("/w/b.c", "nothing"),
-        ],
-    )?;
-    check(&rt, alloc, &mut tree.into_inner(), &[("/w", "fault")])
-}
+// A node is asked for once, and a refusal again.
+const ASKED: [Shown<'static>; 7] = [
+    ("/w", "directory", ""),
+    ("/w", "directory", ""),
+    ("/w/a.c", "fault", ""),
+    ("/w/a.c", "file", ""),
+    ("/w/a.c", "file", ""),
+    ("/w/b.c", "nothing", ""),
+    ("/w/b.c", "nothing", ""),
+];
 
-#[test]
-fn a_link_comes_back_with_its_text(rt: HostRuntime) -> Result<(), Fail> {
-    let alloc = rt.alloc();
-    let mut tree = cached(alloc, &[2])?;
-    check(
-        &rt,
-        alloc,
-        &mut tree,
-        &[
-            ("/w/n", "link /w/m/h"),
-            ("/w/n", "link /w/m/h"),
-            ("/w/m", "fault"),
-        ],
-    )
-}
+// A link comes back with its text.
+const LINKS: [Shown<'static>; 3] = [
+    ("/w/n", "link", "/w/m/h"),
+    ("/w/n", "link", "/w/m/h"),
+    ("/w/m", "fault", ""),
+];
 
-// How many bytes a file has.
-fn size<T: Tree>(tree: &mut T, file: &CanonPath) -> Result<Option<usize>, TreeError> {
-    match tree.read(file)? {
-        Some(body) => Ok(Some(body.len())),
-        None => Ok(None),
-    }
-}
+// The next call of the tree below fails.
+const BELOW: [Shown<'static>; 1] = [("/w", "fault", "")];
 
-// Reads of a file, one after another, give bodies of these sizes or fail.
-fn check_reads<T: Tree>(
+// Nodes are these in a tree that remembers them, and then in the tree below it.
+fn check_remembered(
     rt: &impl Abort,
-    tree: &mut T,
-    file: &CanonPath,
-    rows: &[Result<Option<usize>, TreeError>],
+    alloc: Global,
+    mut tree: Cached<MemTree<Unnamed>>,
+    rows: &[Shown<'_>],
+    below: &[Shown<'_>],
 ) {
-    for want in rows {
-        assert_eq!(rt; size(tree, file), *want);
+    check_nodes(rt, alloc, &mut tree, rows);
+    check_nodes(rt, alloc, &mut tree.into_inner(), below);
+}
+
+#[test]
+fn nodes_are_remembered(rt: HostRuntime) -> Result<(), Fail> {
+    let alloc = rt.alloc();
+    check_remembered(&rt, alloc, cached(alloc, &[2, 5])?, &ASKED, &BELOW);
+    check_remembered(&rt, alloc, cached(alloc, &[2])?, &LINKS, &[]);
+    Ok(())
+}
+
+fn check_fault<T: Tree>(rt: &impl Abort, tree: &mut T, file: &CanonPath) {
+    match tree.read(file) {
+        Err(TreeError::Fault) => (),
+        _ => rt.panic("the second read fails"),
     }
+}
+
+// Three reads of an empty file, of which the second fails.
+fn check_reads<T: Tree>(rt: &impl Abort, tree: &mut T, file: &CanonPath) {
+    check_file(rt, tree, file, "");
+    check_fault(rt, tree, file);
+    check_file(rt, tree, file, "");
 }
 
 #[test]
 fn each_read_goes_to_the_inner_tree(rt: HostRuntime) -> Result<(), Fail> {
-    let alloc = rt.alloc();
-    let mut tree = cached(alloc, &[2])?;
-    let file = path(alloc, b"/w/a.c")?;
-    check_reads(
-        &rt,
-        &mut tree,
-        &file,
-        &[Ok(Some(0)), Err(TreeError::Fault), Ok(Some(0))],
-    );
-    assert_eq!(rt; tree.into_inner().reads(), 3);
+    let mut tree = cached(rt.alloc(), &[2])?;
+    check_reads(&rt, &mut tree, &place(&rt, rt.alloc(), "/w/a.c"));
+    check(&rt, tree.into_inner().reads() == 3, "three reads");
     Ok(())
 }
 
 // The link `n` is located from `/w/d`.
-fn check_located<T: Tree>(rt: &impl Abort, alloc: Global, tree: &mut T) -> Result<(), Fail> {
-    let found = shown(alloc, tree, b"/w/d", b"/w/n")?;
-    assert_eq!(rt;
-        found.as_slice(),
-        b"/w/n /w/d/h /w/d / /w /w/n /w /w/m /w/d /w/d/h".as_slice()
+fn check_link<T: Tree>(rt: &impl Abort, alloc: Global, tree: &mut T) {
+    let row = (
+        "/w/d",
+        "/w/n",
+        "/w/n /w/d/h /w/d / /w /w/n /w /w/m /w/d /w/d/h",
     );
-    Ok(())
-}
-
-#[test]
-fn a_text_is_located_where_nothing_is_remembered(rt: HostRuntime) -> Result<(), Fail> {
-    let alloc = rt.alloc();
-    check_located(&rt, alloc, &mut tree(alloc, &[])?)
+    check_located(rt, alloc, tree, row);
 }
 
 #[test]
 fn a_text_located_again_asks_nothing(rt: HostRuntime) -> Result<(), Fail> {
-    let alloc = rt.alloc();
-    let mut tree = cached(alloc, &[6])?;
-    check_located(&rt, alloc, &mut tree)?;
-    check_located(&rt, alloc, &mut tree)?;
-    check(&rt, alloc, &mut tree.into_inner(), &[("/w", "fault")])
+    let mut tree = cached(rt.alloc(), &[6])?;
+    check_link(&rt, rt.alloc(), &mut tree);
+    check_link(&rt, rt.alloc(), &mut tree);
+    check_remembered(&rt, rt.alloc(), tree, &[], &BELOW);
+    Ok(())
 }

@@ -4,7 +4,8 @@ ghost use Rattle.tree_model.specs.Entries.{entry_fits, links_fit};
 
 use base_types::Bytes;
 use job_words::{Job, read_words};
-use std::alloc::Global;
+use std::alloc::{AllocError, Global};
+use std::process::Abort;
 use std::test::Fail;
 use tree_model::{CanonPath, Entry, MemTree, Unnamed};
 
@@ -16,10 +17,18 @@ pub struct Placed<'a> {
 }
 
 /// The path that a text spells, or the root where it spells none.
-pub fn path(alloc: Global, text: &[u8]) -> Result<CanonPath, Fail> {
+pub fn path(alloc: Global, text: &[u8]) -> Result<CanonPath, AllocError> {
     match CanonPath::read(alloc, text)? {
         Some(path) => Ok(path),
-        None => CanonPath::root(alloc).map_err(Fail::from),
+        None => CanonPath::root(alloc),
+    }
+}
+
+/// The same; a test ends where there is no memory for it.
+pub fn place(rt: &impl Abort, alloc: Global, text: &str) -> CanonPath {
+    match path(alloc, text.as_bytes()) {
+        Ok(path) => path,
+        Err(_) => rt.panic("no memory for a path"),
     }
 }
 
@@ -59,7 +68,7 @@ pub fn tree_with(
     requires { IsTrue (links_fit entries.items) }
 {
     let fails = fails.to_vec(alloc)?;
-    Ok(MemTree::<Unnamed>::new(alloc, entries, fails)?)
+    MemTree::<Unnamed>::new(alloc, entries, fails).map_err(Fail::from)
 }
 
 /// The tree of the directory `/w` and these files.
@@ -70,5 +79,5 @@ pub fn tree_of(alloc: Global, files: &[Placed<'_>]) -> Result<MemTree<Unnamed>, 
 /// The job of `a.c` in this directory.
 pub fn job(alloc: Global, dir: &[u8]) -> Result<Job, Fail> {
     let words = [Bytes::copy_of(alloc, b"a.c")?];
-    Ok(read_words(alloc, dir, &words)?)
+    read_words(alloc, dir, &words).map_err(Fail::from)
 }

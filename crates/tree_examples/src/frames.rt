@@ -3,56 +3,36 @@ ghost use Rattle.std.specs.Prelude.{◌≡◌, ◌∷◌, [], ◌≤◌, length,
 ghost use Rattle.job_frames.specs.Reply.{IsAnswer};
 ghost use Rattle.job_frames.specs.Request.{HasSpelling};
 
+use crate::checks::{check, check_text};
 use crate::files::{job, path};
 use base_types::{Bytes, List};
 use job_frames::{Answer, Fed, FrameError, ReplyReader, RequestReader, write_reply, write_request};
 use job_words::Job;
 use std::alloc::{AllocError, Global};
 use std::process::Abort;
+use std::slice;
 use std::test::Fail;
 use tree_model::{CanonPath, Entry};
 
-// An answer's kind and its content, or the digit of its reason.
-fn shown(alloc: Global, answer: Option<Answer>) -> Result<(char, Bytes), AllocError> {
-    match answer {
-        None => Ok(('-', Bytes::new(alloc))),
-        Some(Answer::Text(text)) => Ok(('t', text)),
-        Some(Answer::Diag(words)) => Ok(('d', words)),
-        Some(Answer::Refused(n)) => Ok(('r', Bytes::copy_of(alloc, [n].as_slice())?)),
+// The reply of an answer is this one.
+fn check_written(rt: &impl Abort, alloc: Global, answer: Answer, want: &str)
+    requires { IsAnswer answer }
+{
+    match write_reply(alloc, &answer) {
+        Ok(written) => check_text(rt, "a reply", written.as_slice(), want),
+        Err(_) => rt.panic("a reply is written"),
     }
 }
 
-// The reply of an answer is this one.
-fn check_written(rt: &impl Abort, alloc: Global, answer: &Answer, want: &str) -> Result<(), Fail>
-    requires { IsAnswer answer.now }
-{
-    let written = write_reply(alloc, answer)?;
-    assert_eq!(rt; written.as_slice(), want.as_bytes());
-    Ok(())
-}
-
-#[test]
-fn replies_are_written(rt: HostRuntime) -> Result<(), Fail> {
-    let alloc = rt.alloc();
+fn check_all_written(rt: &impl Abort, alloc: Global) -> Result<(), AllocError> {
     let text = Answer::Text(Bytes::copy_of(alloc, b"abc")?);
-    check_written(
-        &rt,
-        alloc,
-        &text,
-        "DONE00000103STAT00000000SERR00000000DOTI00000003abc",
-    )?;
+    let reply = "DONE00000103STAT00000000SERR00000000DOTI00000003abc";
+    check_written(rt, alloc, text, reply);
     let diagnostic = Answer::Diag(Bytes::copy_of(alloc, b"abc")?);
-    check_written(
-        &rt,
-        alloc,
-        &diagnostic,
-        "DONE00000103STAT00000100SERR00000003abcDOTI00000000",
-    )
-}
-
-#[test]
-fn a_refusal_is_written(rt: HostRuntime) -> Result<(), Fail> {
-    check_written(&rt, rt.alloc(), &Answer::Refused(9), "RFSE00000009")
+    let reply = "DONE00000103STAT00000100SERR00000003abcDOTI00000000";
+    check_written(rt, alloc, diagnostic, reply);
+    check_written(rt, alloc, Answer::Refused(9), "RFSE00000009");
+    Ok(())
 }
 
 // The answer of a whole reply.
@@ -63,82 +43,81 @@ fn read_whole(alloc: Global, bytes: &[u8]) -> Option<Answer> {
     reader.finish()
 }
 
-// Each row has a reply, the kind of its answer and the content.
-fn check(rt: &impl Abort, alloc: Global, rows: &[(&str, char, &str)]) -> Result<(), Fail> {
-    for (reply, kind, content) in rows {
-        let (is, holds) = shown(alloc, read_whole(alloc, reply.as_bytes()))?;
-        assert_eq!(rt; is, *kind);
-        assert_eq!(rt; holds.as_slice(), content.as_bytes());
+// An answer's kind and its content, or the digit of its reason.
+fn shown(answer: &Option<Answer>) -> (char, &[u8]) {
+    match answer {
+        None => ('-', &[]),
+        Some(Answer::Text(text)) => ('t', text.as_slice()),
+        Some(Answer::Diag(words)) => ('d', words.as_slice()),
+        Some(Answer::Refused(n)) => ('r', slice::from_ref(n)),
+    }
+}
+
+// A reply's answer is of this kind, and has this content.
+fn check_reply(rt: &impl Abort, alloc: Global, (reply, kind, content): (&str, char, &str)) {
+    let answer = read_whole(alloc, reply.as_bytes());
+    let (is, holds) = shown(&answer);
+    check(rt, is == kind, reply);
+    check_text(rt, reply, holds, content);
+}
+
+// Each row has a reply, the kind of its answer, and the content.
+const REPLIES: [(&str, char, &str); 13] = [
+    (
+        "DONE00000103STAT00000000SERR00000000DOTI00000003abc",
+        't',
+        "abc",
+    ),
+    ("DONE00000103STAT00000000SERR00000000DOTI00000000", 't', ""),
+    (
+        "DONE00000103STAT00000100SERR00000003abcDOTI00000000",
+        'd',
+        "abc",
+    ),
+    ("RFSE00000009", 'r', "\x09"),
+    // Replies that give nothing.
+    (
+        "DONE00000103STAT00000000SERR00000000DOTI00000003ab",
+        '-',
+        "",
+    ),
+    (
+        "DONE00000103STAT00000000SERR00000000DOTI00000003abcd",
+        '-',
+        "",
+    ),
+    (
+        "DONE00000103STAT00000100SERR00000003abDOTI00000000",
+        '-',
+        "",
+    ),
+    (
+        "DONE00000103STAT00000100SERR00000003abcDOTI000000000",
+        '-',
+        "",
+    ),
+    ("DONE00000103STAT00000100SERR00000000DOTI00000000", '-', ""),
+    ("RFSE00000000", '-', ""),
+    ("RFSE0000000a", '-', ""),
+    ("RFSE0000000", '-', ""),
+    ("", '-', ""),
+];
+
+#[test]
+fn replies_are_written_and_read(rt: HostRuntime) -> Result<(), Fail> {
+    check_all_written(&rt, rt.alloc())?;
+    for row in &REPLIES {
+        check_reply(&rt, rt.alloc(), *row);
     }
     Ok(())
 }
 
-#[test]
-fn whole_replies_are_read(rt: HostRuntime) -> Result<(), Fail> {
-    check(
-        &rt,
-        rt.alloc(),
-        &[
-            (
-                "DONE00000103STAT00000000SERR00000000DOTI00000003abc",
-                't',
-                "abc",
-            ),
-            ("DONE00000103STAT00000000SERR00000000DOTI00000000", 't', ""),
-            (
-                "DONE00000103STAT00000100SERR00000003abcDOTI00000000",
-                'd',
-                "abc",
-            ),
-            ("RFSE00000009", 'r', "\x09"),
-        ],
-    )
-}
-
-#[test]
-fn other_replies_give_nothing(rt: HostRuntime) -> Result<(), Fail> {
-    check(
-        &rt,
-        rt.alloc(),
-        &[
-            (
-                "DONE00000103STAT00000000SERR00000000DOTI00000003ab",
-                '-',
-                "",
-            ),
-            (
-                "DONE00000103STAT00000000SERR00000000DOTI00000003abcd",
-                '-',
-                "",
-            ),
-            (
-                "DONE00000103STAT00000100SERR00000003abDOTI00000000",
-                '-',
-                "",
-            ),
-            (
-                "DONE00000103STAT00000100SERR00000003abcDOTI000000000",
-                '-',
-                "",
-            ),
-            ("DONE00000103STAT00000100SERR00000000DOTI00000000", '-', ""),
-            ("RFSE00000000", '-', ""),
-            ("RFSE0000000a", '-', ""),
-            ("RFSE0000000", '-', ""),
-            ("", '-', ""),
-        ],
-    )
-}
-
 // A request of two entries.
-fn request() -> &'static [u8] {
-    b"DIST00000103CDIR00000005/workARGC00000001ARGV00000003a.cNFIL00000002\
-NAME00000005/workMDIR00000000NAME00000009/work/a.cFILE00000007int x;\n"
-        .as_slice()
-}
+const REQUEST: &str = "DIST00000103CDIR00000005/workARGC00000001ARGV00000003a.cNFIL00000002\
+                       NAME00000005/workMDIR00000000NAME00000009/work/a.cFILE00000007int x;\n";
 
 // Its entries.
-fn entries(alloc: Global) -> Result<Vec<(CanonPath, Entry)>, Fail>
+fn entries(alloc: Global) -> Result<Vec<(CanonPath, Entry)>, AllocError>
     ensures spelled { IfOk result (λ entries. All HasSpelling entries.items) }
     ensures few { IfOk result (λ entries. length entries.items ≡ 2) }
 {
@@ -160,21 +139,9 @@ fn written(alloc: Global) -> Result<Bytes, Fail> {
     request_of(alloc, &job)
 }
 
-#[test]
-fn a_request_is_written(rt: HostRuntime) -> Result<(), Fail> {
-    let written = written(rt.alloc())?;
-    assert_eq!(rt; written.as_slice(), request());
-    Ok(())
-}
-
-// A piece is judged so.
-fn check_fed(rt: &impl Abort, reader: &mut RequestReader, piece: &[u8], want: Fed) {
-    assert_eq!(rt; reader.feed(piece), want);
-}
-
-// The end is judged so.
-fn check_end(rt: &impl Abort, reader: &mut RequestReader, want: Fed) {
-    assert_eq!(rt; reader.end(), want);
+// A piece or the end is judged so.
+fn check_fed(rt: &impl Abort, fed: Fed, want: Fed, fact: &str) {
+    check(rt, fed == want, fact);
 }
 
 // Every byte is wanted, and the last one ends the request.
@@ -182,48 +149,58 @@ fn check_bytes(rt: &impl Abort, reader: &mut RequestReader, bytes: &[u8]) {
     for (i, byte) in bytes.iter().enumerate() {
         let whole = i == bytes.len() - 1;
         let want = if whole { Fed::Done } else { Fed::More };
-        check_fed(rt, reader, [*byte].as_slice(), want);
+        check_fed(rt, reader.feed([*byte].as_slice()), want, "a byte");
     }
-    check_end(rt, reader, Fed::Done);
-}
-
-// What a request that is fed byte by byte gives.
-fn read_byte_by_byte(rt: &impl Abort, alloc: Global) -> Option<(Job, List<(CanonPath, Entry)>)> {
-    let mut reader = RequestReader::new(alloc);
-    check_bytes(rt, &mut reader, request());
-    reader.finish()
+    check_fed(rt, reader.end(), Fed::Done, "the end of the request");
 }
 
 // A request's job has its directory, and there are two entries.
-fn check_read(rt: &impl Abort, read: &(Job, List<(CanonPath, Entry)>)) {
-    let (job, entries) = read;
-    assert_eq!(rt; job.setup().cwd(), b"/work".as_slice());
-    assert_eq!(rt; entries.len(), 2);
-}
-
-#[test]
-fn a_request_is_read_byte_by_byte(rt: HostRuntime) {
-    match read_byte_by_byte(&rt, rt.alloc()) {
-        None => assert!(rt; false, "a whole request gives a job"),
-        Some(read) => check_read(&rt, &read),
+fn check_read(rt: &impl Abort, read: &Option<(Job, List<(CanonPath, Entry)>)>) {
+    match read {
+        Some((job, entries)) => {
+            check_text(rt, "the directory", job.setup().cwd(), "/work");
+            check(rt, entries.len() == 2, "two entries");
+        }
+        None => rt.panic("a whole request gives a job"),
     }
 }
 
-#[test]
-fn a_refusal_stays(rt: HostRuntime) -> Result<(), Fail> {
-    let mut reader = RequestReader::new(rt.alloc());
+// A request that is fed byte by byte is read.
+fn check_byte_by_byte(rt: &impl Abort, alloc: Global) {
+    let mut reader = RequestReader::new(alloc);
+    check_bytes(rt, &mut reader, REQUEST.as_bytes());
+    check_read(rt, &reader.finish());
+}
+
+fn gives_nothing(reader: RequestReader) -> bool {
+    reader.finish().is_none()
+}
+
+// A refusal stays.
+fn check_refusal(rt: &impl Abort, alloc: Global) {
     let version = Fed::Refused(FrameError::Version);
-    check_fed(&rt, &mut reader, b"DIST00000104", version);
-    check_fed(&rt, &mut reader, b"CDIR", version);
-    check_end(&rt, &mut reader, version);
-    Ok(())
+    let mut reader = RequestReader::new(alloc);
+    check_fed(rt, reader.feed(b"DIST00000104"), version, "the version");
+    check_fed(rt, reader.feed(b"CDIR"), version, "more bytes");
+    check_fed(rt, reader.end(), version, "the end behind it");
+    check(rt, gives_nothing(reader), "no job of another version");
+}
+
+// A request that is cut short is refused.
+fn check_cut(rt: &impl Abort, alloc: Global) {
+    let cut = Fed::Refused(FrameError::Cut);
+    let mut reader = RequestReader::new(alloc);
+    check_fed(rt, reader.feed(b"DIST"), Fed::More, "four bytes");
+    check_fed(rt, reader.end(), cut, "the end behind them");
+    check(rt, gives_nothing(reader), "no job of four bytes");
 }
 
 #[test]
-fn a_request_cut_short_is_refused(rt: HostRuntime) -> Result<(), Fail> {
-    let mut short = RequestReader::new(rt.alloc());
-    check_fed(&rt, &mut short, b"DIST", Fed::More);
-    check_end(&rt, &mut short, Fed::Refused(FrameError::Cut));
-    assert!(rt; short.finish().is_none());
+fn requests_are_written_and_read(rt: HostRuntime) -> Result<(), Fail> {
+    let written = written(rt.alloc())?;
+    check_text(&rt, "the request", written.as_slice(), REQUEST);
+    check_byte_by_byte(&rt, rt.alloc());
+    check_refusal(&rt, rt.alloc());
+    check_cut(&rt, rt.alloc());
     Ok(())
 }

@@ -6,9 +6,13 @@ mod analyses;
 #[cfg(test)]
 mod cached;
 #[cfg(test)]
+mod checks;
+#[cfg(test)]
 mod files;
 #[cfg(test)]
 mod frames;
+#[cfg(test)]
+mod nodes;
 #[cfg(test)]
 mod preprocessing;
 #[cfg(test)]

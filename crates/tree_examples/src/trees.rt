@@ -2,100 +2,98 @@
 ghost use Rattle.std.specs.Prelude.{IsTrue};
 ghost use Rattle.tree_model.specs.Entries.{links_fit};
 
-use crate::files::{Placed, entries_of, path, tree_with, with};
-use std::alloc::Global;
+use crate::checks::{check, check_text};
+use crate::files::{Placed, entries_of, path, place, tree_with, with};
+use crate::nodes::{Shown, check_file, check_nodes};
+use std::alloc::{AllocError, Global};
 use std::process::Abort;
 use std::test::Fail;
-use tree_model::{
-    CanonPath, Entry, MemTree, MirrorError, Node, Tree, TreeError, Unnamed, judge_path,
-};
+use tree_model::{CanonPath, Entry, MemTree, MirrorError, Tree, Unnamed, judge_path};
 
-// A path has this spelling.
-fn check_bytes(rt: &impl Abort, path: &CanonPath, want: &[u8]) {
-    assert_eq!(rt; path.bytes(), want);
+// The path of a file has a spelling and a parent.
+fn check_source(rt: &impl Abort, alloc: Global, file: &CanonPath) {
+    check_text(rt, "a file", file.bytes(), "/w/a.c");
+    match file.parent_bytes() {
+        Some(bytes) => check_text(rt, "its parent's bytes", bytes, "/w"),
+        None => rt.panic("a file has a parent"),
+    }
+    match file.parent(alloc) {
+        Ok(dir) => check_parent(rt, alloc, &dir),
+        Err(_) => rt.panic("the parent of a file"),
+    }
 }
 
-#[test]
-fn paths_are_read(rt: HostRuntime) -> Result<(), Fail> {
-    let alloc = rt.alloc();
-    let file = path(alloc, b"/w/a.c")?;
-    check_bytes(&rt, &file, b"/w/a.c");
-    assert_eq!(rt; file.parent_bytes(), Some(b"/w".as_slice()));
-    check_bytes(&rt, &CanonPath::root(alloc)?, b"/");
-    Ok(())
+// The path of a directory below the root.
+fn check_parent(rt: &impl Abort, alloc: Global, dir: &CanonPath) {
+    check_text(rt, "its parent", dir.bytes(), "/w");
+    match dir.parent(alloc) {
+        Ok(root) => check(rt, root.is_root(), "the root is its parent"),
+        Err(_) => rt.panic("the parent of a directory"),
+    }
+    check_children(rt, alloc, dir);
 }
 
-#[test]
-fn paths_have_parents(rt: HostRuntime) -> Result<(), Fail> {
-    let alloc = rt.alloc();
-    let dir = path(alloc, b"/w/a.c")?.parent(alloc)?;
-    check_bytes(&rt, &dir, b"/w");
-    assert!(rt; dir.parent(alloc)?.is_root());
-    Ok(())
+// The paths that names and a directory are joined to.
+fn check_children(rt: &impl Abort, alloc: Global, dir: &CanonPath) {
+    match dir.child(alloc, b"..") {
+        Ok(None) => (),
+        _ => rt.panic("no name of a child"),
+    }
+    match dir.child(alloc, b"b.h") {
+        Ok(Some(other)) => check_child(rt, alloc, &other),
+        _ => rt.panic("the name of a child"),
+    }
 }
 
-#[test]
-fn names_are_joined_to_paths(rt: HostRuntime) -> Result<(), Fail> {
-    let alloc = rt.alloc();
-    let dir = path(alloc, b"/w/a.c")?.parent(alloc)?;
-    let Some(other) = dir.child(alloc, b"b.h")? else {
-        return Ok(assert!(rt; false));
-    };
-    check_bytes(&rt, &other, b"/w/b.h");
-    assert!(rt; other.copy(alloc)?.spells_same(&other));
-    assert!(rt; dir.child(alloc, b"..")?.is_none());
-    Ok(())
+fn check_child(rt: &impl Abort, alloc: Global, child: &CanonPath) {
+    check_text(rt, "a child", child.bytes(), "/w/b.h");
+    match child.copy(alloc) {
+        Ok(copy) => check(rt, copy.spells_same(child), "a copy of it"),
+        Err(_) => rt.panic("a copy of a child"),
+    }
+}
+
+fn check_root(rt: &impl Abort, alloc: Global) {
+    match CanonPath::root(alloc) {
+        Ok(root) => check_text(rt, "the root", root.bytes(), "/"),
+        Err(_) => rt.panic("the root"),
+    }
 }
 
 // The path of these bytes.
-fn path_of(alloc: Global, text: &[u8]) -> Result<Option<CanonPath>, Fail> {
-    Ok(CanonPath::of(text.to_vec(alloc)?)?)
+fn path_of(alloc: Global, text: &[u8]) -> Result<Option<CanonPath>, AllocError> {
+    CanonPath::of(text.to_vec(alloc)?)
+}
+
+// Bytes make the path that they spell.
+fn check_made(rt: &impl Abort, alloc: Global, file: &CanonPath) {
+    match path_of(alloc, b"/w/a.c") {
+        Ok(Some(whole)) => check(rt, whole.spells_same(file), "the path of bytes"),
+        _ => rt.panic("bytes make a path"),
+    }
+    match path_of(alloc, b"/w//a.c") {
+        Ok(None) => (),
+        _ => rt.panic("bytes that make no path"),
+    }
+}
+
+// Bytes are judged to be a path.
+fn check_judged(rt: &impl Abort, bytes: Vec<u8>) {
+    match judge_path(&[], bytes) {
+        Ok(Ok(path)) => check_text(rt, "a path judged", path.bytes(), "/w"),
+        _ => rt.panic("a path is judged"),
+    }
 }
 
 #[test]
-fn bytes_make_paths(rt: HostRuntime) -> Result<(), Fail> {
+fn paths_are_read_and_made(rt: HostRuntime) -> Result<(), Fail> {
     let alloc = rt.alloc();
-    let Some(whole) = path_of(alloc, b"/w/a.c")? else {
-        return Ok(assert!(rt; false));
-    };
-    assert!(rt; whole.spells_same(&path(alloc, b"/w/a.c")?));
-    assert!(rt; path_of(alloc, b"/w//a.c")?.is_none());
+    check_judged(&rt, b"/w".as_slice().to_vec(alloc)?);
+    check_root(&rt, alloc);
+    let file = path(alloc, b"/w/a.c")?;
+    check_source(&rt, alloc, &file);
+    check_made(&rt, alloc, &file);
     Ok(())
-}
-
-// Whether a tree shows a directory at a path.
-fn shows_dir<T: Tree>(tree: &mut T, path: &CanonPath) -> Result<bool, TreeError> {
-    match tree.node(path)? {
-        Some(Node::Dir) => Ok(true),
-        _ => Ok(false),
-    }
-}
-
-// A tree shows this at a path.
-fn check_dir<T: Tree>(
-    rt: &impl Abort,
-    tree: &mut T,
-    path: &CanonPath,
-    want: Result<bool, TreeError>,
-) {
-    assert_eq!(rt; shows_dir(tree, path), want);
-}
-
-// Three nodes are asked for, and the second call fails.
-fn check_nodes<T: Tree>(rt: &impl Abort, alloc: Global, tree: &mut T) -> Result<(), Fail> {
-    let dir = path(alloc, b"/w")?;
-    check_dir(rt, tree, &dir, Ok(true));
-    check_dir(rt, tree, &dir, Err(TreeError::Fault));
-    check_dir(rt, tree, &path(alloc, b"/w/a.c")?, Ok(false));
-    Ok(())
-}
-
-// The file is read.
-fn check_read<T: Tree>(rt: &impl Abort, tree: &mut T, file: &CanonPath) {
-    match tree.read(file) {
-        Ok(Some(body)) => assert_eq!(rt; body.as_slice(), b"int main;".as_slice()),
-        _ => assert!(rt; false),
-    }
 }
 
 // The tree of one file, in which the second call fails.
@@ -110,47 +108,48 @@ fn failing_tree(alloc: Global) -> Result<MemTree<Unnamed>, Fail> {
     tree_with(alloc, entries, &[2])
 }
 
+// Three nodes are asked for.
+const NODES: [Shown<'static>; 3] = [
+    ("/w", "directory", ""),
+    ("/w", "fault", ""),
+    ("/w/a.c", "file", ""),
+];
+
+// The nodes are shown, and the file is read.
+fn check_failing<T: Tree>(rt: &impl Abort, alloc: Global, tree: &mut T) {
+    check_nodes(rt, alloc, tree, &NODES);
+    check_file(rt, tree, &place(rt, alloc, "/w/a.c"), "int main;");
+}
+
 #[test]
 fn a_tree_in_memory_fails_where_listed(rt: HostRuntime) -> Result<(), Fail> {
-    let alloc = rt.alloc();
-    let mut tree = failing_tree(alloc)?;
-    check_nodes(&rt, alloc, &mut tree)?;
-    check_read(&rt, &mut tree, &path(alloc, b"/w/a.c")?);
-    assert_eq!(rt; tree.reads(), 1);
+    let mut tree = failing_tree(rt.alloc())?;
+    check_failing(&rt, rt.alloc(), &mut tree);
+    check(&rt, tree.reads() == 1, "one read");
     Ok(())
 }
 
-// Why these entries make no tree.
-fn refusal(alloc: Global, entries: Vec<(CanonPath, Entry)>) -> Option<MirrorError>
+// Entries make no tree, for this reason.
+fn check_refused(
+    rt: &impl Abort,
+    alloc: Global,
+    entries: Vec<(CanonPath, Entry)>,
+    want: MirrorError,
+    fact: &str,
+)
     requires { IsTrue (links_fit entries.items) }
 {
-    MemTree::<Unnamed>::new(alloc, entries, Vec::new(alloc)).err()
+    let error = MemTree::<Unnamed>::new(alloc, entries, Vec::new(alloc)).err();
+    check(rt, error == Some(want), fact);
 }
 
 #[test]
-fn entries_out_of_order_are_refused(rt: HostRuntime) -> Result<(), Fail> {
+fn entries_are_refused(rt: HostRuntime) -> Result<(), Fail> {
     let alloc = rt.alloc();
-    let entries = with(alloc, Vec::new(alloc), b"/w", Entry::Dir)?;
-    let entries = with(alloc, entries, b"/a", Entry::Dir)?;
-    assert_eq!(rt; refusal(alloc, entries), Some(MirrorError::Order));
-    Ok(())
-}
-
-#[test]
-fn entries_without_a_parent_are_refused(rt: HostRuntime) -> Result<(), Fail> {
-    let alloc = rt.alloc();
-    let entries = with(alloc, Vec::new(alloc), b"/w/a.c", Entry::Dir)?;
-    assert_eq!(rt; refusal(alloc, entries), Some(MirrorError::Parent));
-    Ok(())
-}
-
-#[test]
-fn paths_are_judged(rt: HostRuntime) -> Result<(), Fail> {
-    let alloc = rt.alloc();
-    let text = b"/w".as_slice().to_vec(alloc)?;
-    match judge_path(&[], text)? {
-        Ok(path) => assert_eq!(rt; path.bytes(), b"/w".as_slice()),
-        Err(_) => assert!(rt; false),
-    }
+    let orphan = with(alloc, Vec::new(alloc), b"/w/a.c", Entry::Dir)?;
+    check_refused(&rt, alloc, orphan, MirrorError::Parent, "without a parent");
+    let dir = with(alloc, Vec::new(alloc), b"/w", Entry::Dir)?;
+    let back = with(alloc, dir, b"/a", Entry::Dir)?;
+    check_refused(&rt, alloc, back, MirrorError::Order, "out of order");
     Ok(())
 }

@@ -3,12 +3,14 @@
 ghost use Rattle.std.specs.Prelude.{IfOk, IsTrue};
 ghost use Rattle.tree_model.specs.Entries.{is_link_text, links_fit};
 
-use crate::files::{path, tree_with, with};
+use crate::checks::check_text;
+use crate::files::{place, tree_with, with};
+use crate::nodes::{Shown, check_file, check_nodes};
 use base_types::Bytes;
-use std::alloc::Global;
+use std::alloc::{AllocError, Global};
 use std::process::Abort;
 use std::test::Fail;
-use tree_model::{CanonPath, Entry, Located, MemTree, Node, Tree, TreeError, Unnamed, locate};
+use tree_model::{CanonPath, Entry, Located, MemTree, Tree, TreeError, Unnamed, locate};
 
 // The entries with a link more at their end.
 fn with_link(
@@ -53,14 +55,13 @@ pub(crate) fn tree(alloc: Global, fails: &[u64]) -> Result<MemTree<Unnamed>, Fai
 }
 
 // A place behind a blank.
-fn push_place(line: &mut Vec<u8>, place: &[u8]) -> Result<(), Fail> {
+fn push_place(line: &mut Vec<u8>, place: &[u8]) -> Result<(), AllocError> {
     line.push(b' ')?;
-    line.extend_from_slice(place)?;
-    Ok(())
+    line.extend_from_slice(place)
 }
 
 // The place and the file that were located, and the nodes walked, each behind a blank.
-fn line_of(alloc: Global, found: &Located) -> Result<Vec<u8>, Fail> {
+fn line_of(alloc: Global, found: &Located) -> Result<Vec<u8>, AllocError> {
     let mut line = found.place.bytes().to_vec(alloc)?;
     push_place(&mut line, found.real.bytes())?;
     for node in found.walked.as_slice() {
@@ -70,133 +71,95 @@ fn line_of(alloc: Global, found: &Located) -> Result<Vec<u8>, Fail> {
 }
 
 // What a text locates as `line_of` has it; nothing where it locates none.
-pub(crate) fn shown<T: Tree>(
+fn shown<T: Tree>(
     alloc: Global,
     tree: &mut T,
-    dir: &[u8],
-    text: &[u8],
-) -> Result<Vec<u8>, Fail> {
-    let dir = path(alloc, dir)?;
-    match locate(alloc, tree, &dir, text) {
+    dir: &CanonPath,
+    text: &str,
+) -> Result<Vec<u8>, AllocError> {
+    match locate(alloc, tree, dir, text.as_bytes()) {
         Ok(Some(found)) => line_of(alloc, &found),
         _ => Ok(Vec::new(alloc)),
     }
 }
 
-// A row holds in a tree.
-fn check_shown<T: Tree>(
+/// What a text locates is shown so: its directory, the text, and the place, the file and the nodes walked, or nothing.
+pub(crate) fn check_located<T: Tree>(
     rt: &impl Abort,
     alloc: Global,
     tree: &mut T,
     (dir, text, want): (&str, &str, &str),
-) -> Result<(), Fail> {
-    let found = shown(alloc, tree, dir.as_bytes(), text.as_bytes())?;
-    assert_eq!(rt; found.as_slice(), want.as_bytes());
-    Ok(())
-}
-
-// Each row has a directory, a text located from it and what is shown, in one tree for all rows.
-fn check(rt: &impl Abort, alloc: Global, rows: &[(&str, &str, &str)]) -> Result<(), Fail> {
-    let mut tree = tree(alloc, &[])?;
-    for (dir, text, want) in rows {
-        check_shown(rt, alloc, &mut tree, (dir, text, want))?;
+) {
+    match shown(alloc, tree, &place(rt, alloc, dir), text) {
+        Ok(line) => check_text(rt, text, line.as_slice(), want),
+        Err(_) => rt.panic("no memory for a line"),
     }
+}
+
+// Each row holds, in one tree for all rows.
+fn check_rows<T: Tree>(rt: &impl Abort, alloc: Global, tree: &mut T, rows: &[(&str, &str, &str)]) {
+    for row in rows {
+        check_located(rt, alloc, tree, *row);
+    }
+}
+
+// Each row has a directory, a text located from it and what is shown: files, files through links, and nothing.
+const ROWS: [(&str, &str, &str); 17] = [
+    ("/w", "a.c", "/w/a.c /w/a.c /w /w/a.c"),
+    ("/w", "/w/a.c", "/w/a.c /w/a.c /w / /w /w/a.c"),
+    (
+        "/w/d",
+        ".././/d/../a.c",
+        "/w/a.c /w/a.c /w/d /w /w/d /w /w/a.c",
+    ),
+    ("/", "../../w/a.c", "/w/a.c /w/a.c / / / /w /w/a.c"),
+    ("/", "w/m/h", "/w/d/h /w/d/h / /w /w/m /w/d /w/d/h"),
+    (
+        "/w/d",
+        "/w/n",
+        "/w/n /w/d/h /w/d / /w /w/n /w /w/m /w/d /w/d/h",
+    ),
+    ("/w", "m/../a.c", "/w/a.c /w/a.c /w /w/m /w/d /w /w/a.c"),
+    ("/w", "s/h", "/w/d/h /w/d/h /w /w/s /w/d /w/d/h"),
+    ("/w", "r/w/a.c", "/w/a.c /w/a.c /w /w/r /w /w/a.c"),
+    ("/w", "l", ""),
+    ("/w", "a.c/.", ""),
+    ("/w", "a.c/", ""),
+    ("/w", "d", ""),
+    ("/w", "b.c", ""),
+    ("/w", "", ""),
+    ("/w", "m/..", ""),
+    ("/w", "n/h", ""),
+];
+
+// A link is shown with its text.
+const LINK: [Shown<'static>; 1] = [("/w/n", "link", "/w/m/h")];
+
+// Texts are located, a link is shown, and a file of no bytes is read.
+fn check_tree<T: Tree>(rt: &impl Abort, alloc: Global, tree: &mut T) {
+    check_rows(rt, alloc, tree, &ROWS);
+    check_nodes(rt, alloc, tree, &LINK);
+    check_file(rt, tree, &place(rt, alloc, "/w/d/h"), "");
+}
+
+#[test]
+fn a_tree_of_links_is_walked(rt: HostRuntime) -> Result<(), Fail> {
+    check_tree(&rt, rt.alloc(), &mut tree(rt.alloc(), &[])?);
     Ok(())
 }
 
-#[test]
-fn texts_locate_files(rt: HostRuntime) -> Result<(), Fail> {
-    check(
-        &rt,
-        rt.alloc(),
-        &[
-            ("/w", "a.c", "/w/a.c /w/a.c /w /w/a.c"),
-            ("/w", "/w/a.c", "/w/a.c /w/a.c /w / /w /w/a.c"),
-            (
-                "/w/d",
-                ".././/d/../a.c",
-                "/w/a.c /w/a.c /w/d /w /w/d /w /w/a.c",
-            ),
-            ("/", "../../w/a.c", "/w/a.c /w/a.c / / / /w /w/a.c"),
-        ],
-    )
-}
-
-#[test]
-fn links_are_walked(rt: HostRuntime) -> Result<(), Fail> {
-    check(
-        &rt,
-        rt.alloc(),
-        &[
-            ("/", "w/m/h", "/w/d/h /w/d/h / /w /w/m /w/d /w/d/h"),
-            (
-                "/w/d",
-                "/w/n",
-                "/w/n /w/d/h /w/d / /w /w/n /w /w/m /w/d /w/d/h",
-            ),
-            ("/w", "m/../a.c", "/w/a.c /w/a.c /w /w/m /w/d /w /w/a.c"),
-            ("/w", "s/h", "/w/d/h /w/d/h /w /w/s /w/d /w/d/h"),
-            ("/w", "r/w/a.c", "/w/a.c /w/a.c /w /w/r /w /w/a.c"),
-        ],
-    )
-}
-
-#[test]
-fn texts_locate_nothing(rt: HostRuntime) -> Result<(), Fail> {
-    check(
-        &rt,
-        rt.alloc(),
-        &[
-            ("/w", "l", ""),
-            ("/w", "a.c/.", ""),
-            ("/w", "a.c/", ""),
-            ("/w", "d", ""),
-            ("/w", "b.c", ""),
-            ("/w", "", ""),
-            ("/w", "m/..", ""),
-            ("/w", "n/h", ""),
-        ],
-    )
+// The second call fails.
+fn check_fault<T: Tree>(rt: &impl Abort, alloc: Global, tree: &mut T, root: &CanonPath) {
+    match locate(alloc, tree, root, b"w/a.c") {
+        Err(TreeError::Fault) => (),
+        _ => rt.panic("the tree's fault is handed on"),
+    }
 }
 
 #[test]
 fn a_fault_of_the_tree_is_handed_on(rt: HostRuntime) -> Result<(), Fail> {
     let alloc = rt.alloc();
     let mut tree = tree(alloc, &[2])?;
-    let dir = CanonPath::root(alloc)?;
-    let error = locate(alloc, &mut tree, &dir, b"w/a.c").err();
-    assert_eq!(rt; error, Some(TreeError::Fault));
-    Ok(())
-}
-
-// The link is shown with its text.
-fn check_link<T: Tree>(rt: &impl Abort, tree: &mut T, link: &CanonPath) {
-    match tree.node(link) {
-        Ok(Some(Node::Link(text))) => assert_eq!(rt; text.as_slice(), b"/w/m/h".as_slice()),
-        _ => assert!(rt; false),
-    }
-}
-
-#[test]
-fn a_link_is_shown_with_its_text(rt: HostRuntime) -> Result<(), Fail> {
-    let alloc = rt.alloc();
-    let mut tree = tree(alloc, &[])?;
-    check_link(&rt, &mut tree, &path(alloc, b"/w/n")?);
-    Ok(())
-}
-
-// The file is read, and has no bytes.
-fn check_file<T: Tree>(rt: &impl Abort, tree: &mut T, file: &CanonPath) {
-    match tree.read(file) {
-        Ok(Some(body)) => assert_eq!(rt; body.as_slice(), b"".as_slice()),
-        _ => assert!(rt; false),
-    }
-}
-
-#[test]
-fn a_file_is_read(rt: HostRuntime) -> Result<(), Fail> {
-    let alloc = rt.alloc();
-    let mut tree = tree(alloc, &[])?;
-    check_file(&rt, &mut tree, &path(alloc, b"/w/d/h")?);
+    check_fault(&rt, alloc, &mut tree, &place(&rt, alloc, "/"));
     Ok(())
 }

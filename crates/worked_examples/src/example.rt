@@ -1,5 +1,5 @@
 // What a run is given, and what has to come of it.
-ghost use Rattle.std.specs.Prelude.{◌≡◌, ◌<◌, ◌≤◌, [], Some, length, map, All, IfOk, IfSome, IsTrue, OnOk};
+ghost use Rattle.std.specs.Prelude.{◌≡◌, ◌<◌, ◌≤◌, [], Some, length, map, All, IfOk, IsTrue, OnOk};
 ghost use Rattle.std.specs.List.{AllByRecursion};
 ghost use Rattle.build_clients.specs.Outside.{seen_end};
 ghost use Rattle.pump_run.specs.Run.{IsFresh};
@@ -12,6 +12,7 @@ use pump_run::{End, pump};
 use std::alloc::{AllocError, Global};
 use std::process::Abort;
 use std::sync::Wait;
+use std::test::Fail;
 use std::thread::Threads;
 use tree_model::{CanonPath, Entry, MemTree, Tree, Unnamed};
 
@@ -25,140 +26,150 @@ pub struct Placed<'a> {
     pub body: &'a str,
 }
 
-/// What a run is given: the words, the list, the files of the tree beside the directory `/w`, in order of their paths, and
-/// the numbers of the calls that fail, from 1; at the wire with the number of their exchange, from 0. The wire gives at most
-/// `piece` bytes at a time, or all where that is 0.
+/// A run, and what has to come of it.
+///
+/// It is given words, a list, and the files of the tree beside the directory `/w`, in order of their paths. `list_fails`,
+/// `tree_fails`, `wire_fails` and `outs_fails` are the number of the call that fails there, from 1, or 0 where none does; at
+/// the wire it is one of the first exchange. The wire gives at most `piece` bytes at a time, or all where that is 0.
+///
+/// There is one text, under `a.i`, or none where `text` is empty, and one exchange, or none where `sent` is empty.
 #[derive(Clone, Copy, Drop)]
-pub struct Given<'a> {
+pub struct Run<'a> {
+    pub name: &'a str,
     pub words: &'a [&'a str],
     pub list: &'a str,
     pub files: &'a [Placed<'a>],
-    pub list_fails: &'a [u64],
-    pub tree_fails: &'a [u64],
-    pub wire_fails: &'a [(u32, u32)],
-    pub outs_fails: &'a [u64],
+    pub list_fails: u64,
+    pub tree_fails: u64,
+    pub wire_fails: u32,
+    pub outs_fails: u64,
     pub piece: u32,
-}
-
-/// The bytes of an exchange.
-#[derive(Clone, Copy, Drop)]
-pub struct Talk<'a> {
+    pub status: u8,
+    pub report: &'a str,
+    pub text: &'a str,
     pub sent: &'a str,
     pub received: &'a str,
 }
 
-/// What has to come of a run: the status, the report, the text that is put under `a.i`, and the exchange. There is no
-/// other text, and no other exchange.
-#[derive(Clone, Copy, Drop)]
-pub struct Want<'a> {
-    pub status: u8,
-    pub report: &'a str,
-    pub text: Option<&'a str>,
-    pub exchange: Option<Talk<'a>>,
-}
+/// A run for `a.c` in `/w` over no file, where no call fails, and of which nothing comes.
+pub const JOB: Run<'static> = Run {
+    name: "",
+    words: &["order", "-", "--hosts", "daemon", "-j", "1"],
+    list: "/w a.c\n",
+    files: &[],
+    list_fails: 0,
+    tree_fails: 0,
+    wire_fails: 0,
+    outs_fails: 0,
+    piece: 0,
+    status: 0,
+    report: "",
+    text: "",
+    sent: "",
+    received: "",
+};
 
-/// Words and a list that ask for `a.c` in `/w`, over a tree of these files, where no call fails.
-pub fn asked<'a>(files: &'a [Placed<'a>]) -> Given<'a> {
-    Given {
-        words: &["order", "-", "--hosts", "daemon", "-j", "1"],
-        list: "/w a.c\n",
-        files,
-        list_fails: &[],
-        tree_fails: &[],
-        wire_fails: &[],
-        outs_fails: &[],
-        piece: 0,
-    }
-}
-
-/// The same, where the wire gives one byte at a time.
-pub fn byte_by_byte<'a>(files: &'a [Placed<'a>]) -> Given<'a> {
-    let mut given = asked(files);
-    given.piece = 1;
-    given
-}
-
-/// Runs, and asserts that what has to come of it did.
-pub fn gives<R: Threads + Wait + Sync + Abort>(
+/// Runs each of these, and asserts that what has to come of it did.
+pub fn check_all<R: Threads + Wait + Sync + Abort>(
     rt: &R,
     alloc: Global,
-    given: &Given<'_>,
-    want: &Want<'_>,
-) -> Result<(), AllocError> {
-    let Some(end) = end_of(alloc, given)? else {
-        return Ok(assert!(rt; false, "the files make no tree"));
-    };
+    runs: &[Run<'_>],
+) -> Result<(), Fail> {
+    for run in runs {
+        check_run(rt, alloc, run)?;
+    }
+    Ok(())
+}
+
+fn check_run<R: Threads + Wait + Sync + Abort>(
+    rt: &R,
+    alloc: Global,
+    run: &Run<'_>,
+) -> Result<(), Fail> {
+    let end = end_of(alloc, run)?;
     let mut ends = vec![in alloc; end]?;
-    runs(rt, alloc, given, want, &mut ends)?;
-    are_left(rt, &ends, want);
+    run_at(rt, alloc, run, &mut ends)?;
+    check_ends(rt, &ends, run);
     Ok(())
 }
 
 // Runs at these ends, and asserts the status and the report.
-fn runs<T: Tree, W: Wire, O: Outs, R: Threads + Wait + Sync + Abort>(
+fn run_at<T: Tree, W: Wire, O: Outs, R: Threads + Wait + Sync + Abort>(
     rt: &R,
     alloc: Global,
-    given: &Given<'_>,
-    want: &Want<'_>,
+    run: &Run<'_>,
     ends: &mut Vec<End<T, W, O>>,
 ) -> Result<(), AllocError>
     requires some { 1 ≤ length ends.old.items }
     requires few { length ends.old.items ≤ 64 }
     requires fresh { AllByRecursion IsFresh (map (seen_end T.told T.Tree.faults T.reads W.talk W.state W.Wire.faults O.kept O.Outs.faults) ends.old.items) }
 {
-    let mut list = list_of(alloc, given)?;
+    let mut list = list_of(alloc, run)?;
     let mut spawner = MemSpawner::new(alloc, Vec::new(alloc));
     let mut report = MemSink::new(alloc, Vec::new(alloc));
     let status = pump(
         rt,
         alloc,
-        given.words,
+        run.words,
         &mut list,
         ends,
         &mut spawner,
         &mut report,
     );
-    has_report(rt, &report, status, want);
+    check_text(rt, run.name, report.bytes(), run.report);
+    check(rt, status == run.status, run.name, "the status");
     Ok(())
 }
 
-/// An end over the given files, at which no call was made; None where they make no tree.
-pub fn end_of(alloc: Global, given: &Given<'_>) -> Result<Option<MemEnd>, AllocError>
-    ensures closed { IfOk result (λ end. IfSome end (λ end. end.wire.state ≡ LinkState.Closed)) }
-    ensures silent { IfOk result (λ end. IfSome end (λ end. end.wire.talk ≡ [])) }
-    ensures wire_faults { IfOk result (λ end. IfSome end (λ end. end.wire.faults ≡ 0)) }
-    ensures kept { IfOk result (λ end. IfSome end (λ end. ⟦<MemOuts as Outs>⟧.kept end.outs ≡ Some [])) }
-    ensures outs_faults { IfOk result (λ end. IfSome end (λ end. ⟦<MemOuts as Outs>⟧.faults end.outs ≡ 0)) }
-    ensures tree_faults { IfOk result (λ end. IfSome end (λ end. ⟦<MemTree<Unnamed> as Tree>⟧.faults end.tree ≡ 0)) }
+/// An end over the given files, at which no call was made.
+pub fn end_of(alloc: Global, run: &Run<'_>) -> Result<MemEnd, Fail>
+    ensures closed { IfOk result (λ end. end.wire.state ≡ LinkState.Closed) }
+    ensures silent { IfOk result (λ end. end.wire.talk ≡ []) }
+    ensures wire_faults { IfOk result (λ end. end.wire.faults ≡ 0) }
+    ensures kept { IfOk result (λ end. ⟦<MemOuts as Outs>⟧.kept end.outs ≡ Some []) }
+    ensures outs_faults { IfOk result (λ end. ⟦<MemOuts as Outs>⟧.faults end.outs ≡ 0) }
+    ensures tree_faults { IfOk result (λ end. ⟦<MemTree<Unnamed> as Tree>⟧.faults end.tree ≡ 0) }
 {
-    let Some(tree) = tree_of(alloc, given)? else {
-        return Ok(None);
-    };
-    let wire = wire_of(alloc, given)?;
-    let outs = MemOuts::new(alloc, given.outs_fails.to_vec(alloc)?);
-    Ok(Some(End { tree, wire, outs }))
+    let outs = MemOuts::new(alloc, failing(alloc, run.outs_fails)?);
+    let tree = tree_of(alloc, run)?;
+    let wire = wire_of(alloc, run)?;
+    Ok(End { tree, wire, outs })
 }
 
-fn tree_of(alloc: Global, given: &Given<'_>) -> Result<Option<MemTree<Unnamed>>, AllocError>
-    ensures faults { IfOk result (λ tree. IfSome tree (λ tree. ⟦<MemTree<Unnamed> as Tree>⟧.faults tree ≡ 0)) }
+fn tree_of(alloc: Global, run: &Run<'_>) -> Result<MemTree<Unnamed>, Fail>
+    ensures faults { IfOk result (λ tree. ⟦<MemTree<Unnamed> as Tree>⟧.faults tree ≡ 0) }
 {
-    let entries = entries_of(alloc, given.files)?;
-    Ok(MemTree::new(alloc, entries, given.tree_fails.to_vec(alloc)?).ok())
+    let fails = failing(alloc, run.tree_fails)?;
+    let entries = entries_of(alloc, run.files)?;
+    Ok(MemTree::new(alloc, entries, fails)?)
 }
 
-fn wire_of(alloc: Global, given: &Given<'_>) -> Result<MemWire<ServePeer>, AllocError>
+fn wire_of(alloc: Global, run: &Run<'_>) -> Result<MemWire<ServePeer>, AllocError>
     ensures closed { IfOk result (λ wire. wire.state ≡ LinkState.Closed) }
     ensures silent { IfOk result (λ wire. wire.talk ≡ []) }
     ensures faults { IfOk result (λ wire. wire.faults ≡ 0) }
 {
-    let failing = given.wire_fails.to_vec(alloc)?;
-    let lengths = pieces(alloc, given.piece)?;
+    let mut failing = Vec::new(alloc);
+    if run.wire_fails > 0 {
+        failing.push((0, run.wire_fails))?;
+    }
+    let lengths = pieces(alloc, run.piece)?;
     Ok(MemWire::new(alloc, ServePeer, lengths, failing))
 }
 
-fn list_of(alloc: Global, given: &Given<'_>) -> Result<MemSource, AllocError> {
-    let bytes = Bytes::copy_of(alloc, given.list.as_bytes())?;
-    Ok(MemSource::new(bytes, given.list_fails.to_vec(alloc)?))
+fn list_of(alloc: Global, run: &Run<'_>) -> Result<MemSource, AllocError> {
+    let fails = failing(alloc, run.list_fails)?;
+    let bytes = Bytes::copy_of(alloc, run.list.as_bytes())?;
+    Ok(MemSource::new(bytes, fails))
+}
+
+// The number of the call that fails.
+fn failing(alloc: Global, number: u64) -> Result<Vec<u64>, AllocError> {
+    let mut numbers = Vec::new(alloc);
+    if number > 0 {
+        numbers.push(number)?;
+    }
+    Ok(numbers)
 }
 
 // The greatest lengths of a wire's pieces.
@@ -204,71 +215,53 @@ fn path(alloc: Global, text: &str) -> Result<CanonPath, AllocError> {
     }
 }
 
-/// Bytes as a text.
-pub fn shown(bytes: &[u8]) -> &str {
-    std::str::from_utf8(bytes).unwrap_or("no UTF-8")
+/// Asserts a fact of what this name is of.
+pub fn check<R: Abort>(rt: &R, holds: bool, name: &str, fact: &str) {
+    assert!(rt; holds, "{name}: {fact}");
 }
 
 /// Asserts that bytes are those of a text.
-pub fn is_text<R: Abort>(rt: &R, bytes: &[u8], text: &str) {
-    assert_eq!(rt; shown(bytes), text);
-}
-
-fn has_report<R: Abort>(rt: &R, report: &MemSink, status: u8, want: &Want<'_>) {
-    is_text(rt, report.bytes(), want.report);
-    assert_eq!(rt; status, want.status);
+pub fn check_text<R: Abort>(rt: &R, name: &str, bytes: &[u8], text: &str) {
+    let found = std::str::from_utf8(bytes).unwrap_or("no UTF-8");
+    assert_eq!(rt; found, text, "{name}");
 }
 
 // Asserts that there is one end, with the text and the exchange that are wanted.
-fn are_left<R: Abort>(rt: &R, ends: &[MemEnd], want: &Want<'_>) {
-    match ends {
-        [end] => is_left(rt, end, want),
-        _ => assert!(rt; false),
+fn check_ends<R: Abort>(rt: &R, ends: &[MemEnd], run: &Run<'_>) {
+    check(rt, ends.len() == 1, run.name, "the ends");
+    for end in ends {
+        check_put(rt, run.name, &end.outs, run.text);
+        check_exchanges(rt, end.wire.exchanges(), run);
     }
 }
 
-fn is_left<R: Abort>(rt: &R, end: &MemEnd, want: &Want<'_>) {
-    has_text(rt, &end.outs, want.text);
-    has_exchange(rt, &end.wire, want.exchange);
+// How many there are where an empty text means none.
+fn count(text: &str) -> usize {
+    if text.is_empty() { 0 } else { 1 }
 }
 
-fn has_text<R: Abort>(rt: &R, outs: &MemOuts, want: Option<&str>) {
-    match want {
-        Some(text) => has_put(rt, outs, text),
-        None => assert_eq!(rt; outs.entries().len(), 0),
+/// Asserts that just this text was put, under `a.i`, or none where it is empty.
+pub fn check_put<R: Abort>(rt: &R, name: &str, outs: &MemOuts, text: &str) {
+    let entries = outs.entries();
+    check(rt, entries.len() == count(text), name, "the texts put");
+    for (under, body) in entries {
+        check_text(rt, name, under.as_slice(), "a.i");
+        check_text(rt, name, body.as_slice(), text);
     }
 }
 
-/// Asserts that just this text was put, under `a.i`.
-pub fn has_put<R: Abort>(rt: &R, outs: &MemOuts, text: &str) {
-    match outs.entries() {
-        [entry] => is_put(rt, entry, text),
-        entries => assert_eq!(rt; entries.len(), 1),
+fn check_exchanges<R: Abort>(rt: &R, exchanges: &[Exchange], run: &Run<'_>) {
+    let wanted = count(run.sent);
+    check(rt, exchanges.len() == wanted, run.name, "the exchanges");
+    for exchange in exchanges {
+        check_exchange(rt, exchange, run);
     }
 }
 
-fn is_put<R: Abort>(rt: &R, entry: &(Bytes, Bytes), text: &str) {
-    is_text(rt, entry.0.as_slice(), "a.i");
-    is_text(rt, entry.1.as_slice(), text);
-}
-
-fn has_exchange<R: Abort>(rt: &R, wire: &MemWire<ServePeer>, want: Option<Talk<'_>>) {
-    match want {
-        Some(talk) => has_talk(rt, wire.exchanges(), talk),
-        None => assert_eq!(rt; wire.exchanges().len(), 0),
-    }
-}
-
-fn has_talk<R: Abort>(rt: &R, exchanges: &[Exchange], talk: Talk<'_>) {
-    match exchanges {
-        [exchange] => is_exchange(rt, exchange, talk),
-        _ => assert_eq!(rt; exchanges.len(), 1),
-    }
-}
-
-fn is_exchange<R: Abort>(rt: &R, exchange: &Exchange, talk: Talk<'_>) {
-    is_text(rt, exchange.host.name.as_slice(), "daemon");
-    is_text(rt, exchange.sent.as_slice(), talk.sent);
-    is_text(rt, exchange.received.as_slice(), talk.received);
-    assert!(rt; exchange.finished && exchange.ended);
+fn check_exchange<R: Abort>(rt: &R, exchange: &Exchange, run: &Run<'_>) {
+    check_text(rt, run.name, exchange.host.name.as_slice(), "daemon");
+    check_text(rt, run.name, exchange.sent.as_slice(), run.sent);
+    check_text(rt, run.name, exchange.received.as_slice(), run.received);
+    let is_whole = exchange.finished && exchange.ended;
+    check(rt, is_whole, run.name, "the end of the exchange");
 }

@@ -13,8 +13,8 @@ mod faults;
 #[cfg(test)]
 mod header;
 #[cfg(test)]
-mod options;
-#[cfg(test)]
 mod refusals;
+#[cfg(test)]
+mod runs;
 #[cfg(test)]
 mod texts;

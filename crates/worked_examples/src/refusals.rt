@@ -1,59 +1,75 @@
 // Words and lists that are refused.
-use crate::example::{Given, Want, asked, gives};
-use std::alloc::{AllocError, Global};
-use std::process::Abort;
-use std::sync::Wait;
-use std::thread::Threads;
+use crate::example::{JOB, Run};
 
-#[test]
-fn other_words_are_refused(rt: HostRuntime) -> Result<(), AllocError> {
-    let given = Given {
+pub const RUNS: [Run<'static>; 10] = [
+    Run {
+        name: "other words",
         words: &["order", "x"],
-        ..asked(&[])
-    };
-    let want = Want {
         status: 2,
         report: "pump: usage\n",
-        text: None,
-        exchange: None,
-    };
-    gives(&rt, rt.alloc(), &given, &want)
-}
-
-// Lists, and the lines that refuse them.
-const LISTS: [(&str, &str); 9] = [
-    ("nonsense", "pump: list 0: not built\n"),
-    ("/w\n", "pump: list 0: not built\n"),
-    ("/w a\\ b.c\n", "pump: list 0: not built\n"),
-    ("/w -c -O2\n", "pump: list 1: words 1\n"),
-    ("/w a.c b.c\n", "pump: list 1: words 2\n"),
-    ("/w -q a.c b.c\n", "pump: list 1: words 3\n"),
-    ("/w a.c -I\n", "pump: list 1: words 4\n"),
-    ("/w -DX=1 a.c\n", "pump: list 1: words 3\n"),
-    ("w a.c\n", "pump: list 1: words 7\n"),
-];
-
-#[test]
-fn other_lists_are_refused(rt: HostRuntime) -> Result<(), AllocError> {
-    for &(list, report) in &LISTS {
-        refuses(&rt, rt.alloc(), list, report)?;
-    }
-    Ok(())
-}
-
-// Whether a list is refused by this line.
-fn refuses<R: Threads + Wait + Sync + Abort>(
-    rt: &R,
-    alloc: Global,
-    list: &str,
-    report: &str,
-) -> Result<(), AllocError> {
-    let given = Given { list, ..asked(&[]) };
-    let want = Want {
+        ..JOB
+    },
+    Run {
+        name: "no line of a list",
+        list: "nonsense",
         status: 3,
-        report,
-        text: None,
-        exchange: None,
-    };
-    gives(rt, alloc, &given, &want)
-}
+        report: "pump: list 0: not built\n",
+        ..JOB
+    },
+    Run {
+        name: "a directory alone",
+        list: "/w\n",
+        status: 3,
+        report: "pump: list 0: not built\n",
+        ..JOB
+    },
+    Run {
+        name: "a quoted blank",
+        list: "/w a\\ b.c\n",
+        status: 3,
+        report: "pump: list 0: not built\n",
+        ..JOB
+    },
+    Run {
+        name: "no source",
+        list: "/w -c -O2\n",
+        status: 3,
+        report: "pump: list 1: words 1\n",
+        ..JOB
+    },
+    Run {
+        name: "two sources",
+        list: "/w a.c b.c\n",
+        status: 3,
+        report: "pump: list 1: words 2\n",
+        ..JOB
+    },
+    Run {
+        name: "an unknown option",
+        list: "/w -q a.c b.c\n",
+        status: 3,
+        report: "pump: list 1: words 3\n",
+        ..JOB
+    },
+    Run {
+        name: "an option without its directory",
+        list: "/w a.c -I\n",
+        status: 3,
+        report: "pump: list 1: words 4\n",
+        ..JOB
+    },
+    Run {
+        name: "an option that defines a macro",
+        list: "/w -DX=1 a.c\n",
+        status: 3,
+        report: "pump: list 1: words 3\n",
+        ..JOB
+    },
+    Run {
+        name: "a directory that is not absolute",
+        list: "w a.c\n",
+        status: 3,
+        report: "pump: list 1: words 7\n",
+        ..JOB
+    },
+];

@@ -1,35 +1,75 @@
-// Jobs that a daemon does.
-use crate::example::{Placed, Talk, Want, asked, byte_by_byte, gives};
-use crate::header::{FILES, TALK, TEXT};
-use std::alloc::AllocError;
+// Jobs whose outcome is a text.
+use crate::example::{JOB, Placed, Run};
+use crate::header::{HEADER, RECEIVED, SENT, TEXT};
 
-#[test]
-fn an_empty_source_is_one_line_marker(rt: HostRuntime) -> Result<(), AllocError> {
-    let files = [Placed {
-        path: "/w/a.c",
-        body: "",
-    }];
-    let want = Want {
-        status: 0,
+pub const RUNS: [Run<'static>; 5] = [
+    Run {
+        name: "an empty source",
+        files: &[Placed {
+            path: "/w/a.c",
+            body: "",
+        }],
         report: "job 0 text 13 remote\njobs 1 remote 1 local 0 broken 0\n",
-        text: Some("# 1 \"/w/a.c\"\n"),
-        exchange: Some(Talk {
-            sent: "DIST00000103CDIR00000002/wARGC00000001ARGV00000003a.cNFIL00000002\
-                   NAME00000002/wMDIR00000000NAME00000006/w/a.cFILE00000000",
-            received: "DONE00000103STAT00000000SERR00000000DOTI0000000d# 1 \"/w/a.c\"\n",
-        }),
-    };
-    gives(&rt, rt.alloc(), &asked(&files), &want)
-}
-
-#[test]
-fn an_included_header_is_sent(rt: HostRuntime) -> Result<(), AllocError> {
-    let want = Want {
-        status: 0,
+        text: "# 1 \"/w/a.c\"\n",
+        sent: "DIST00000103CDIR00000002/wARGC00000001ARGV00000003a.cNFIL00000002\
+               NAME00000002/wMDIR00000000NAME00000006/w/a.cFILE00000000",
+        received: "DONE00000103STAT00000000SERR00000000DOTI0000000d# 1 \"/w/a.c\"\n",
+        ..JOB
+    },
+    Run {
+        name: "a header",
         report: "job 0 text 57 remote\njobs 1 remote 1 local 0 broken 0\n",
-        text: Some(TEXT),
-        exchange: Some(TALK),
-    };
-    gives(&rt, rt.alloc(), &asked(&FILES), &want)?;
-    gives(&rt, rt.alloc(), &byte_by_byte(&FILES), &want)
-}
+        text: TEXT,
+        sent: SENT,
+        received: RECEIVED,
+        ..HEADER
+    },
+    Run {
+        name: "a header, byte by byte",
+        piece: 1,
+        report: "job 0 text 57 remote\njobs 1 remote 1 local 0 broken 0\n",
+        text: TEXT,
+        sent: SENT,
+        received: RECEIVED,
+        ..HEADER
+    },
+    Run {
+        name: "a header of a directory",
+        list: "/w -O2 a.c\t-I.. -iquote . \n",
+        files: &[
+            Placed {
+                path: "/w/a.c",
+                body: "#include \"b.h\"\n",
+            },
+            Placed {
+                path: "/w/b.h",
+                body: "int b;\n",
+            },
+        ],
+        report: "job 0 text 50 remote\njobs 1 remote 1 local 0 broken 0\n",
+        text: "# 1 \"/w/a.c\"\n# 1 \"/w/b.h\" 1\nint b;\n# 2 \"/w/a.c\" 2\n",
+        sent: "DIST00000103CDIR00000002/wARGC00000005ARGV00000003-O2ARGV00000003a.cARGV00000004-I..\
+               ARGV00000007-iquoteARGV00000001.NFIL00000003NAME00000002/wMDIR00000000\
+               NAME00000006/w/a.cFILE0000000f#include \"b.h\"\nNAME00000006/w/b.hFILE00000007int b;\n",
+        received: "DONE00000103STAT00000000SERR00000000DOTI00000032\
+                   # 1 \"/w/a.c\"\n# 1 \"/w/b.h\" 1\nint b;\n# 2 \"/w/a.c\" 2\n",
+        ..JOB
+    },
+    Run {
+        name: "a file in front of the source is local",
+        list: "/w a.c -include d.h\n",
+        files: &[
+            Placed {
+                path: "/w/a.c",
+                body: "int a;\n",
+            },
+            Placed {
+                path: "/w/d.h",
+                body: "int d;\n",
+            },
+        ],
+        report: "job 0 text 57 local A8\njobs 1 remote 0 local 1 broken 0\n",
+        text: "# 1 \"/w/a.c\"\n# 1 \"/w/d.h\" 1\nint d;\n# 1 \"/w/a.c\" 2\nint a;\n",
+        ..JOB
+    },
+];
