@@ -1,7 +1,9 @@
 -- Lemmas on preprocessing.
 --     ReservedLines    the first reserved identifier from a token on
+--     Shown            what is shown of a list, one member more
 --     Limits           more output, within the limit or past it
 --     Leading          what a piece leads to
+--     Searches         what was searched in the told tree
 --     Work             the work of opening a file
 --     Fewer            the pieces of a file are few
 --     Flat             the groups of a file, piece by piece
@@ -10,8 +12,10 @@
 --     Readers          the same as the code keeps it, through each of its steps
 --     Jobs             the outcome of a job from its parts
 pub mod ReservedLines
+pub mod Shown
 pub mod Limits
 pub mod Leading
+mod Searches
 mod Work
 mod Fewer
 mod Flat

@@ -1,16 +1,12 @@
 -- What is left to read, as the code keeps it, through each of its steps.
 use Rattle.std.proofs.Common.{◌≡◌, ◌<◌, ◌≤◌, ◌+◌, ℕ, suc, pos, List, [], ◌∷◌, ◌++◌, length, map, get_or, drop, Option, None, Some, refl, sym, ◌∙◌, ap, subst, false, arith}
-use Rattle.std.specs.Prelude.{IfSome}
-use Rattle.std.proofs.lemmas.List.{drop_more, drop_all, length-map, map-append}
+use Rattle.std.proofs.lemmas.List.{drop_more, drop_all, length-drop, length-map, map-append}
 use Rattle.std.proofs.lemmas.List.Sums.{sum_by_push}
 use Rattle.directive_scan.specs.declared.Piece.{Piece}
 use Rattle.cpp_output.specs.Layout.{back, enter, text_limit}
 use Rattle.cpp_output.specs.Laid.{Laid, after_event}
-use Rattle.tree_model.specs.Paths.{Text, spelled}
-use Rattle.tree_model.specs.Trees.{FileTree}
-use Rattle.search_path.specs.SetupOf.{SetupData}
-use Rattle.search_path.specs.Search.{Hit, search}
-use Rattle.search_path.specs.declared.asking.Ask.{Ask}
+use Rattle.tree_model.specs.Paths.{Text, Path, spelled}
+use Rattle.search_path.specs.Search.{Hit}
 use Rattle.daemon_cpp.specs.declared.outcome.Outcome.{Outcome}
 use Rattle.daemon_cpp.specs.declared.outcome.Outcome.TheVariants as outcome
 use Rattle.daemon_cpp.specs.declared.pieces.Move.{Move}
@@ -21,9 +17,10 @@ use Rattle.daemon_cpp.specs.declared.cpp.OpenFile.{OpenFile}
 use Rattle.daemon_cpp.specs.declared.cpp.Left.{Left}
 use Rattle.daemon_cpp.specs.declared.cpp.Reader.{Reader}
 use Rattle.daemon_cpp.specs.Diagnostics.{TooNested, TextLimit, NotFound, diagnostic_text}
-use Rattle.daemon_cpp.specs.Prep.{World, State, Step, Go, Stop, and_then, complain, complain_of_job, touch, visit_of, found, forced_ask, Entering, presumed_name, piece_step, open_file, enter_file, back_in, depth_limit, run_forced, open_source, prepared, world_of}
+use Rattle.daemon_cpp.specs.Prep.{World, State, Step, Go, Stop, and_then, complain, complain_of_job, touch, visit_of, found, forced_ask, Entering, presumed_name, piece_step, open_file, enter_file, back_in, depth_limit, run_forced, open_source, prepared}
 use Rattle.daemon_cpp.specs.Reading.{Frame, run_pieces, entering_at, StopsWith, Leads, Opens, inside, Shortens}
-use Rattle.daemon_cpp.specs.Files.{After, here_of, rest_of, frame_of, frames_of, state_of, outcome_behind, LeadsTo, EntersTo, ComesTo, GoesOn, ReadsTo, AllRead, work_ahead, source_behind}
+use Rattle.daemon_cpp.specs.Moving.{Marked, StaysWithin}
+use Rattle.daemon_cpp.specs.Files.{After, here_of, rest_of, frame_of, frames_of, state_of, outcome_behind, LeadsTo, EntersTo, ComesTo, opened_file, GoesInto, OpensTo, BeginsTo, GoesOn, ReadsTo, AllRead, EndsRead, work_ahead, Advances, source_behind}
 use Rattle.daemon_cpp.proofs.Frames.{then-go, then-then, stopped, next-piece, enters, too-nested, entered, back-out, back-within, back-past, at-end, at-start}
 
 -- ---- a piece ----
@@ -72,6 +69,17 @@ follows world behind reader whole output piece (Ended words) is below leads left
     stopped world behind (frames_of reader) (drop (reader.file.next + 1) reader.file.pieces) words (piece_step world (entering_at world (length (frames_of reader))) piece (state_of reader left.touched left.opened)) (leads (entering_at world (length (frames_of reader))) (state_of reader left.touched left.opened) refl refl refl)
     ∙ piece-left world behind reader whole piece is below left
 
+-- the work ahead behind a piece
+pub piece-done : (reader : Reader) (output : Laid) → reader.file.next < length reader.file.pieces → suc (work_ahead (behind_piece reader output)) ≡ work_ahead reader
+piece-done reader output below =
+    let rest : suc (length (drop (reader.file.next + 1) reader.file.pieces)) ≡ length (drop reader.file.next reader.file.pieces) =
+    omega (arith, length-drop reader.file.next reader.file.pieces, length-drop (reader.file.next + 1) reader.file.pieces, below) in
+    omega (arith, rest)
+
+pub onward : (reader : Reader) (output : Laid) (move : Move) → move ≡ Onward → reader.file.next < length reader.file.pieces → StaysWithin output move → Advances (work_ahead reader) (behind_piece reader output) None
+onward reader output move is below within =
+    (subst (λ (m : Move). StaysWithin output m) is within, omega (arith, piece-done reader output below))
+
 -- ---- an include ----
 
 pub too-deep : (world : World) (behind : After) (reader : Reader) (at : ℕ) (inner : Hit) (whole : Outcome) → 200 ≤ length reader.around.items → EntersTo world behind reader at inner whole → outcome.Diag (diagnostic_text (record { place = spelled reader.file.visit.place; at = at; complaint = TooNested })) ≡ whole
@@ -103,10 +111,6 @@ not-opened world behind reader output units at inner whole opened words shallow 
     ∙ sym (ap (λ (step : Step). outcome_behind world behind (frames_of reader) (rest_of reader.file) step) (enters world (length (frames_of reader)) at inner state below))
     ∙ left.same
 
--- a file that was found, of whose pieces none is read
-abbrev pub opened_file : Hit → List Piece → OpenFile
-opened_file hit pieces = record { visit = hit.0; real = hit.1.real; pieces = pieces; next = 0 }
-
 -- in a file that was entered, with the one around it put aside
 pub in-file : (world : World) (behind : After) (reader after : Reader) (output : Laid) (units at : ℕ) (inner : Hit) (whole : Outcome) (opened : Opened) (pieces : List Piece) → length reader.around.items < 200 → opened ≡ Pieces pieces → OpeningLeads world reader output units inner opened → after.file ≡ opened_file inner pieces → after.around.items ≡ reader.around.items ++ record { file = reader.file; at = at } ∷ [] → EntersTo world behind reader at inner whole → LeadsTo world behind (record after { source = reader.source; layout = output; left = units }) whole
 in-file world behind reader after output units at inner whole opened pieces shallow is leads file_is around_is left =
@@ -126,13 +130,42 @@ in-file world behind reader after output units at inner whole opened pieces shal
           ∙ left.same;
     }
 
+-- a reader whose parts are these
+stands : (world : World) (behind : After) (whole : Outcome) (after : Reader) (source : Path) (output : Laid) (units : ℕ) → after.source ≡ source → after.layout ≡ output → after.left ≡ units → LeadsTo world behind (record after { source = source; layout = output; left = units }) whole → LeadsTo world behind after whole
+stands world behind whole after source output units source_is layout_is left_is left =
+    subst (λ (p : Path). LeadsTo world behind (record after { source = p }) whole) (sym source_is)
+    (subst (λ (o : Laid). LeadsTo world behind (record after { source = source; layout = o }) whole) (sym layout_is)
+    (subst (λ (n : ℕ). LeadsTo world behind (record after { source = source; layout = output; left = n }) whole) (sym left_is) left))
+
+pub opens-file : (world : World) (behind : After) (reader : Reader) (output : Laid) (units at : ℕ) (inner : Hit) (whole : Outcome) (opened : Opened) → length reader.around.items < 200 → OpeningLeads world reader output units inner opened → EntersTo world behind reader at inner whole → OpensTo world behind (record reader { layout = output; left = units }) at inner whole opened
+opens-file world behind reader output units at inner whole (Pieces pieces) shallow leads left =
+    λ after goes.
+    stands world behind whole after reader.source output units goes.source goes.layout goes.left
+    (in-file world behind reader after output units at inner whole (Pieces pieces) pieces shallow refl leads goes.file_is goes.around left)
+opens-file world behind reader output units at inner whole (Refused words) shallow leads left =
+    not-opened world behind reader output units at inner whole (Refused words) words shallow refl leads left
+
+-- a file that was not opened for its depth
+pub refused-deep : (world : World) (behind : After) (reader : Reader) (at : ℕ) (inner : Hit) (whole : Outcome) (opened : Opened) → 200 ≤ length reader.around.items → opened ≡ Refused (diagnostic_text (record { place = spelled reader.file.visit.place; at = at; complaint = TooNested })) → EntersTo world behind reader at inner whole → OpensTo world behind reader at inner whole opened
+refused-deep world behind reader at inner whole opened deep is left =
+    subst (λ (o : Opened). OpensTo world behind reader at inner whole o) (sym is) (too-deep world behind reader at inner whole deep left)
+
+-- what opening a file leads to, where it was opened and gone into, and where it was not
+pub went-in : (world : World) (behind : After) (reader after : Reader) (at : ℕ) (inner : Hit) (whole : Outcome) (opened : Opened) (pieces : List Piece) → opened ≡ Pieces pieces → OpensTo world behind reader at inner whole opened → GoesInto reader (opened_file inner pieces) at after → LeadsTo world behind after whole
+went-in world behind reader after at inner whole opened pieces is leads goes =
+    subst (λ (o : Opened). OpensTo world behind reader at inner whole o) is leads after goes
+
+pub kept-out : (world : World) (behind : After) (reader : Reader) (at : ℕ) (inner : Hit) (whole : Outcome) (opened : Opened) (words : Text) → opened ≡ Refused words → OpensTo world behind reader at inner whole opened → outcome.Diag words ≡ whole
+kept-out world behind reader at inner whole opened words is leads =
+    subst (λ (o : Opened). OpensTo world behind reader at inner whole o) is leads
+
 -- the work ahead in a file that was entered
-pub less-ahead : (reader after : Reader) (units at : ℕ) (inner : Hit) (opened : Opened) (pieces : List Piece) → opened ≡ Pieces pieces → Shortens reader.left units opened → after.file ≡ opened_file inner pieces → after.around.items ≡ reader.around.items ++ record { file = reader.file; at = at } ∷ [] → work_ahead (record after { left = units }) < suc (work_ahead reader)
-less-ahead reader after units at inner opened pieces is shorter file_is around_is =
-    let paid : length pieces + 1 + (units + units) ≤ reader.left + reader.left = subst (λ (o : Opened). Shortens reader.left units o) is shorter in
+pub less-ahead : (before reader after : Reader) (at : ℕ) (inner : Hit) (opened : Opened) (pieces : List Piece) → opened ≡ Pieces pieces → Shortens before.left reader.left opened → reader.file ≡ before.file → reader.around ≡ before.around → GoesInto reader (opened_file inner pieces) at after → work_ahead after < suc (work_ahead before)
+less-ahead before reader after at inner opened pieces is shorter same_file same_around goes =
+    let paid : length pieces + 1 + (reader.left + reader.left) ≤ before.left + before.left = subst (λ (o : Opened). Shortens before.left reader.left o) is shorter in
     let weight : Left → ℕ = λ left. length (rest_of left.file) + 1 in
     let pushed = sum_by_push weight reader.around.items (record { file = reader.file; at = at }) in
-    rw (file_is, around_is, pushed) (omega (arith, paid))
+    rw (goes.left, goes.file_is, goes.around, pushed, same_file, same_around) (omega (arith, paid))
 
 -- ---- the end of a file ----
 
@@ -163,6 +196,16 @@ no-room world behind reader after outer whole ends around_is long left =
     ∙ sym (ap (λ (step : Step). outcome_behind world behind (frames_of after) (rest_of outer.file) step) (back-past (here_of outer.file) outer.at state long))
     ∙ came world behind reader after outer whole ends around_is left
 
+pub returned : (world : World) (behind : After) (reader after : Reader) (outer : Left) (output : Laid) (whole : Outcome) (ended : Option Text) → length reader.file.pieces ≤ reader.file.next → reader.around.items ≡ after.around.items ++ outer ∷ [] → Marked reader.source (after_event reader.layout (back (presumed_name outer.file.visit.place) (pos (outer.at + 1)) outer.at)) output ended → LeadsTo world behind reader whole → GoesOn world behind (record after { source = reader.source; layout = output; left = reader.left; file = outer.file }) whole ended
+returned world behind reader after outer output whole None ends around_is marked left =
+    came-back world behind reader after outer output whole ends around_is marked.0 marked.1 left
+returned world behind reader after outer output whole (Some words) ends around_is marked left =
+    ap (λ (w : Text). outcome.Diag w) marked.1 ∙ no-room world behind reader after outer whole ends around_is marked.0 left
+
+pub advanced : (source : Path) (full : Laid) (before : ℕ) (after : Reader) (ended : Option Text) → work_ahead after < before → Marked source full after.layout ended → Advances before after ended
+advanced source full before after None less marked = (marked.1, less)
+advanced source full before after (Some words) less marked = tt
+
 -- ---- all files ----
 
 pub said : (world : World) (behind : After) (reader : Reader) (whole : Outcome) (ended : Option Text) (words : Text) → ended ≡ Some words → GoesOn world behind reader whole ended → outcome.Diag words ≡ whole
@@ -189,14 +232,13 @@ all-read world behind reader whole ends alone left =
 pub ended-with : (behind : After) (reader : Reader) (whole : Outcome) (ended : Option Text) (words : Text) → ended ≡ Some words → ReadsTo behind reader whole ended → outcome.Diag words ≡ whole
 ended-with behind reader whole ended words is reads = subst (λ (e : Option Text). ReadsTo behind reader whole e) is reads
 
--- ---- a file of the job's words ----
+pub read-on : (behind : After) (reader : Reader) (whole : Outcome) (ended : Option Text) → ended ≡ None → ReadsTo behind reader whole ended → ComesTo behind reader whole
+read-on behind reader whole ended is reads = subst (λ (e : Option Text). ReadsTo behind reader whole e) is reads
 
--- what was searched in the told tree
-pub searched : (o : Option FileTree) (told : FileTree) (setup : SetupData) (ask wanted : Ask) (hit : Option Hit) → IfSome o (λ tree. hit ≡ search tree setup ask) → o ≡ Some told → ask ≡ wanted → (world_of told setup).find wanted ≡ hit
-searched None told setup ask wanted hit found is same = absurd (cc)
-searched (Some tree) told setup ask wanted hit found is same =
-    let one : tree ≡ told = cc in
-    sym (found ∙ ap (λ (t : FileTree). search t setup ask) one ∙ ap (λ (a : Ask). search told setup a) same)
+pub nothing-left : (reader : Reader) (ended : Option Text) → ended ≡ None → EndsRead reader ended → AllRead reader
+nothing-left reader ended is ends = subst (λ (e : Option Text). EndsRead reader e) is ends
+
+-- ---- a file of the job's words ----
 
 -- what a name of the job's words does
 abbrev pub forced_step : World → Text → State → Step
@@ -280,3 +322,18 @@ in-source world source reader after output units whole opened pieces read is lea
           ∙ sym (ap (λ (step : Step). (prepared step).outcome) (goes (enter_file world depth_limit) state refl refl refl))
           ∙ source-next world source reader whole comes;
     }
+
+pub begins : (world : World) (source : Hit) (reader : Reader) (output : Laid) (units : ℕ) (whole : Outcome) (opened : Opened) → AllRead reader → SourceLeads world reader output units source opened → ComesTo (source_behind world source []) reader whole → BeginsTo world source (record reader { layout = output; left = units }) whole opened
+begins world source reader output units whole (Pieces pieces) read leads comes =
+    in-source world source reader (record reader { file = opened_file source pieces }) output units whole (Pieces pieces) pieces read refl leads refl comes
+begins world source reader output units whole (Refused words) read leads comes =
+    source-refused world source reader output units whole (Refused words) words refl leads comes
+
+-- what opening the source leads to, where it was opened, and where it was not
+pub begun-in : (world : World) (source : Hit) (reader : Reader) (whole : Outcome) (opened : Opened) (pieces : List Piece) → opened ≡ Pieces pieces → BeginsTo world source reader whole opened → LeadsTo world (λ state. Go state) (record reader { file = opened_file source pieces }) whole
+begun-in world source reader whole opened pieces is leads =
+    subst (λ (o : Opened). BeginsTo world source reader whole o) is leads
+
+pub not-begun : (world : World) (source : Hit) (reader : Reader) (whole : Outcome) (opened : Opened) (words : Text) → opened ≡ Refused words → BeginsTo world source reader whole opened → outcome.Diag words ≡ whole
+not-begun world source reader whole opened words is leads =
+    subst (λ (o : Opened). BeginsTo world source reader whole o) is leads

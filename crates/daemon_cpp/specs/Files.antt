@@ -1,6 +1,6 @@
 -- The files that are read, as the code keeps them: what is left to read of each, and the outcome that this leads to. No
 -- public contract rests on it.
-use Rattle.std.specs.Prelude.{◌≡◌, ◌≤◌, ◌<◌, ◌+◌, ℕ, List, [], map, length, drop, sum_by, Option, None, Some}
+use Rattle.std.specs.Prelude.{◌≡◌, ◌≤◌, ◌<◌, ◌+◌, ◌++◌, ℕ, List, [], ◌∷◌, map, length, drop, sum_by, Option, None, Some}
 use Rattle.directive_scan.specs.declared.Piece.{Piece}
 use Rattle.cpp_output.specs.Layout.{text_limit}
 use Rattle.cpp_output.specs.Laid.{Laid}
@@ -9,6 +9,8 @@ use Rattle.tree_model.specs.declared.walk.Located.{Located}
 use Rattle.search_path.specs.Search.{Hit}
 use Rattle.daemon_cpp.specs.declared.outcome.Outcome.{Outcome}
 use Rattle.daemon_cpp.specs.declared.outcome.Outcome.TheVariants as outcome
+use Rattle.daemon_cpp.specs.declared.opening.Opened.{Opened}
+use Rattle.daemon_cpp.specs.declared.opening.Opened.TheVariants.{Pieces, Refused}
 use Rattle.daemon_cpp.specs.declared.cpp.OpenFile.{OpenFile}
 use Rattle.daemon_cpp.specs.declared.cpp.Left.{Left}
 use Rattle.daemon_cpp.specs.declared.cpp.Reader.{Reader}
@@ -66,6 +68,30 @@ pub record ComesTo (behind : After) (reader : Reader) (whole : Outcome) : Type 0
   pub touched : List Located
   pub opened : List Path
   pub same : (prepared (behind (state_of reader touched opened))).outcome ≡ whole
+
+-- a file that was found, of whose pieces none is read
+abbrev pub opened_file : Hit → List Piece → OpenFile
+opened_file hit pieces = record { visit = hit.0; real = hit.1.real; pieces = pieces; next = 0 }
+
+-- one reader has gone into a file from where another stands, at an include on a line
+pub record GoesInto (reader : Reader) (file : OpenFile) (at : ℕ) (after : Reader) : Type 0 where
+  pub source : after.source ≡ reader.source
+  pub layout : after.layout ≡ reader.layout
+  pub left : after.left ≡ reader.left
+  pub file_is : after.file ≡ file
+  pub around : after.around.items ≡ reader.around.items ++ record { file = reader.file; at = at } ∷ []
+
+-- what opening a file that is entered from an include on a line leads to: an outcome, once it is gone into, or a diagnostic
+abbrev pub OpensTo : World → After → Reader → ℕ → Hit → Outcome → Opened → Type 0
+OpensTo world behind reader at inner whole (Pieces pieces) =
+    (after : Reader) → GoesInto reader (opened_file inner pieces) at after → LeadsTo world behind after whole
+OpensTo world behind reader at inner whole (Refused words) = outcome.Diag words ≡ whole
+
+-- what opening the source leads to: an outcome, once it is the file that is read, or a diagnostic
+abbrev pub BeginsTo : World → Hit → Reader → Outcome → Opened → Type 0
+BeginsTo world source reader whole (Pieces pieces) =
+    LeadsTo world (λ state. Go state) (record reader { file = opened_file source pieces }) whole
+BeginsTo world source reader whole (Refused words) = outcome.Diag words ≡ whole
 
 -- what a step of the code leads to: an outcome as before, or its diagnostic
 abbrev pub GoesOn : World → After → Reader → Outcome → Option Text → Type 0

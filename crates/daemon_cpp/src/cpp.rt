@@ -2,8 +2,8 @@
 ghost use Rattle.std.specs.Prelude.{◌≡◌, ◌<◌, ◌≤◌, ◌+◌, ◌++◌, suc, pos, List, [], ◌∷◌, length, IfOk, IfSome, OnOk, IsErrOf};
 ghost use Rattle.std.specs.Option.{ForSome};
 ghost use Rattle.base_types.specs.Causes.{HasCause};
-ghost use Rattle.cpp_output.specs.Layout.{text_limit};
-ghost use Rattle.cpp_output.specs.Laid.{finished};
+ghost use Rattle.cpp_output.specs.Layout.{text_limit, back};
+ghost use Rattle.cpp_output.specs.Laid.{begun, after_event, finished};
 ghost use Rattle.tree_model.specs.Paths.{Text, spelled};
 ghost use Rattle.search_path.specs.SetupOf.{absolute};
 ghost use Rattle.search_path.specs.Search.{Hit};
@@ -11,19 +11,21 @@ ghost use Rattle.daemon_cpp.specs.Diagnostics.{NoSource, TextLimit, diagnostic_t
 ghost use Rattle.daemon_cpp.specs.Problems.{complaint_of};
 ghost use Rattle.daemon_cpp.specs.declared.outcome.Outcome.{Outcome};
 ghost use Rattle.daemon_cpp.specs.Prep as prep;
-ghost use Rattle.daemon_cpp.specs.Prep.{World, Go, world_of, outcome_of_text, outcome_over, OutcomeFits};
-ghost use Rattle.daemon_cpp.specs.Files.{After, LeadsTo, EntersTo, ComesTo, GoesOn, ReadsTo, AllRead, EndsRead, work_ahead, Advances, source_behind, begun_outcome, source_outcome};
+ghost use Rattle.daemon_cpp.specs.Prep.{World, Go, world_of, presumed_name, outcome_of_text, outcome_over, OutcomeFits};
+ghost use Rattle.daemon_cpp.specs.Reading.{KeepsLimit, Shortens};
+ghost use Rattle.daemon_cpp.specs.Moving.{Marked};
+ghost use Rattle.daemon_cpp.specs.Files.{opened_file, GoesInto, OpensTo, BeginsTo, After, LeadsTo, EntersTo, ComesTo, GoesOn, ReadsTo, AllRead, EndsRead, work_ahead, Advances, source_behind, begun_outcome, source_outcome};
 
 use crate::diagnostic::{Diagnostic, Problem, shown};
-use crate::opening::{Opened, open_file};
+use crate::opening::{Opened, open_file, refused};
 use crate::pieces::{Move, Places, run_piece};
-use crate::tree::{absolute_text, cause_of};
+use crate::tree::{absolute_text, find_file};
 use crate::{CppError, Outcome};
 use base_types::{Bytes, List};
 use cpp_output::{LayError, Layout};
 use directive_scan::Piece;
 use job_words::Job;
-use search_path::{Ask, Form, Setup, Visit, search};
+use search_path::{Ask, Form, Setup, Visit};
 use std::alloc::{AllocError, Global};
 use std::mem::replace;
 use tree_model::{CanonPath, Located, Tree};
@@ -47,10 +49,9 @@ pub fn preprocess<T: Tree>(alloc: Global, tree: &mut T, job: &Job) -> Result<Out
     ensures cause { HasCause CppError.Fault (T.faults tree.old) (T.faults tree.new) result }
 {
     let ask = source_ask(alloc, job)?;
-    match search(alloc, tree, job.setup(), &ask) {
-        Ok(Some(source)) => preprocess_source(alloc, tree, job, source),
-        Ok(None) => Ok(no_source(alloc, job)?),
-        Err(error) => Err(cause_of(error)),
+    match find_file(alloc, tree, job.setup(), ask)? {
+        Some(source) => preprocess_source(alloc, tree, job, &source),
+        None => Ok(no_source(alloc, job)?),
     }
 }
 
@@ -80,11 +81,11 @@ fn no_source(alloc: Global, job: &Job) -> Result<Outcome, AllocError>
     ensures fits { IfOk result OutcomeFits }
 {
     let text = absolute_text(alloc, job.setup().cwd(), job.source())?;
-    refused(alloc, &text, Problem::NoSource)
+    refused_whole(alloc, &text, Problem::NoSource)
 }
 
 // A file as a whole is the diagnostic.
-fn refused(alloc: Global, place: &[u8], problem: Problem<'_>) -> Result<Outcome, AllocError>
+fn refused_whole(alloc: Global, place: &[u8], problem: Problem<'_>) -> Result<Outcome, AllocError>
     ensures outcome { IfOk result (λ outcome. outcome ≡ Outcome.Diag (diagnostic_text (record { place = place.now; at = 0; complaint = complaint_of problem.entry }))) }
     ensures fits { IfOk result OutcomeFits }
 {
@@ -98,7 +99,7 @@ fn past_limit(alloc: Global, error: LayError, source: &CanonPath) -> Result<Outc
     ensures no_fault { IsErrOf result CppError.Fault → ⊥ }
 {
     match error {
-        LayError::Full => Ok(refused(alloc, source.bytes(), Problem::TextLimit)?),
+        LayError::Full => Ok(refused_whole(alloc, source.bytes(), Problem::TextLimit)?),
         LayError::Memory => Err(CppError::Memory),
     }
 }
@@ -108,18 +109,26 @@ fn preprocess_source<T: Tree>(
     alloc: Global,
     tree: &mut T,
     job: &Job,
-    source: (Visit, Located),
+    source: &(Visit, Located),
 ) -> Result<Outcome, CppError>
     ensures same { T.told tree.new ≡ T.told tree.old }
-    ensures outcome { ForSome (T.told tree.old) (λ told. IfOk result (λ outcome. outcome ≡ source_outcome (world_of told job.now.setup) source job.now.forced)) }
+    ensures outcome { ForSome (T.told tree.old) (λ told. IfOk result (λ outcome. outcome ≡ source_outcome (world_of told job.now.setup) source.now job.now.forced)) }
     ensures fits { IfOk result OutcomeFits }
     ensures cause { HasCause CppError.Fault (T.faults tree.old) (T.faults tree.new) result }
 {
-    let name = shown(alloc, source.0.place.bytes())?;
-    match Layout::begin(alloc, &name) {
+    match begin_output(alloc, &source.0.place) {
         Ok(layout) => read_files(alloc, tree, job, source, layout),
         Err(error) => past_limit(alloc, error, &source.0.place),
     }
+}
+
+// The output behind a source's first marker.
+fn begin_output(alloc: Global, source: &CanonPath) -> Result<Layout, LayError>
+    ensures ok { IfOk result (λ layout. (layout ≡ begun (presumed_name source.now)) × (length layout.text ≤ text_limit)) }
+    ensures full { IsErrOf result LayError.Full → text_limit < length (begun (presumed_name source.now)).text }
+{
+    let name = shown(alloc, source.bytes())?;
+    Layout::begin(alloc, &name)
 }
 
 // The files of a job behind its source's first marker.
@@ -127,24 +136,18 @@ fn read_files<T: Tree>(
     alloc: Global,
     tree: &mut T,
     job: &Job,
-    source: (Visit, Located),
+    source: &(Visit, Located),
     layout: Layout,
 ) -> Result<Outcome, CppError>
     requires { length layout.text ≤ text_limit }
     ensures same { T.told tree.new ≡ T.told tree.old }
-    ensures outcome { ForSome (T.told tree.old) (λ told. IfOk result (λ outcome. outcome ≡ begun_outcome (world_of told job.now.setup) source job.now.forced layout)) }
+    ensures outcome { ForSome (T.told tree.old) (λ told. IfOk result (λ outcome. outcome ≡ begun_outcome (world_of told job.now.setup) source.now job.now.forced layout)) }
     ensures fits { IfOk result OutcomeFits }
     ensures cause { HasCause CppError.Fault (T.faults tree.old) (T.faults tree.new) result }
 {
-    let mut reader = Reader::before_source(alloc, &source, layout)?;
-    if let Some(diagnostic) = reader.read_forced(alloc, tree, job)? {
-        return Ok(Outcome::Diag(diagnostic.into_bytes()));
-    }
-    if let Some(diagnostic) = reader.read_source(alloc, tree, job.setup(), source)? {
-        return Ok(Outcome::Diag(diagnostic.into_bytes()));
-    }
-    let Reader { source, layout, .. } = reader;
-    finish(alloc, layout, &source)
+    let mut reader = Reader::before_source(alloc, source, layout)?;
+    let ended = reader.read_all(alloc, tree, job, source)?;
+    reader.outcome(alloc, ended)
 }
 
 fn finish(alloc: Global, layout: Layout, source: &CanonPath) -> Result<Outcome, CppError>
@@ -169,7 +172,7 @@ struct OpenFile {
 
 impl OpenFile {
     fn new(found: (Visit, Located), pieces: List<Piece>) -> OpenFile
-        ensures { result ≡ record { visit = found.0; real = found.1.real; pieces = pieces; next = 0 } }
+        ensures { result ≡ opened_file found pieces }
     {
         let (visit, Located { real, .. }) = found;
         OpenFile {
@@ -178,6 +181,23 @@ impl OpenFile {
             pieces,
             next: 0,
         }
+    }
+
+    // The same of a copy of what was found.
+    fn copy_of(
+        alloc: Global,
+        found: &(Visit, Located),
+        pieces: List<Piece>,
+    ) -> Result<OpenFile, AllocError>
+        ensures { IfOk result (λ file. file ≡ opened_file found.now pieces) }
+    {
+        let (visit, located) = found;
+        Ok(OpenFile {
+            visit: visit.copy(alloc)?,
+            real: located.real.copy(alloc)?,
+            pieces,
+            next: 0,
+        })
     }
 }
 
@@ -193,6 +213,29 @@ fn put_aside(around: &mut Vec<Left>, left: Left) -> Result<(), AllocError>
 {
     around.push(left)?;
     Ok(())
+}
+
+// Marks in the output that the file at a place goes on behind an include on a line; the diagnostic comes where the
+// limit is passed, at the source as a whole.
+fn mark_return(
+    alloc: Global,
+    layout: &mut Layout,
+    source: &CanonPath,
+    place: &CanonPath,
+    at: u32,
+) -> Result<Option<Diagnostic>, CppError>
+    ensures marked { IfOk result (Marked source.now (after_event layout.old (back (presumed_name place.now) (pos (at + 1)) at)) layout.new) }
+    ensures no_fault { IsErrOf result CppError.Fault → ⊥ }
+{
+    let name = shown(alloc, place.bytes())?;
+    match layout.back(&name, line_behind(at), at) {
+        Ok(()) => Ok(None),
+        Err(LayError::Full) => {
+            let source = source.bytes();
+            Ok(Some(Diagnostic::new(alloc, source, 0, Problem::TextLimit)?))
+        }
+        Err(LayError::Memory) => Err(CppError::Memory),
+    }
 }
 
 // The presumed line behind a line.
@@ -224,19 +267,67 @@ impl Reader {
         ensures read { IfOk result AllRead }
         ensures leads { IfOk result (λ reader. (world : World) (forced : List Text) → ComesTo (source_behind world source.now forced) reader (begun_outcome world source.now forced layout)) }
     {
-        let (visit, located) = source;
+        let place = source.0.place.copy(alloc)?;
+        let file = OpenFile::copy_of(alloc, source, List::new(alloc))?;
         Ok(Reader {
-            source: visit.place.copy(alloc)?,
+            source: place,
             layout,
             left: WORK_LIMIT,
-            file: OpenFile {
-                visit: visit.copy(alloc)?,
-                real: located.real.copy(alloc)?,
-                pieces: List::new(alloc),
-                next: 0,
-            },
+            file,
             around: Vec::new(alloc),
         })
+    }
+
+    // Reads the files that the job's words name, and then the source, up to the first diagnostic.
+    fn read_all<T: Tree>(
+        &mut self,
+        alloc: Global,
+        tree: &mut T,
+        job: &Job,
+        source: &(Visit, Located),
+    ) -> Result<Option<Diagnostic>, CppError>
+        requires { AllRead self.old }
+        ensures same { T.told tree.new ≡ T.told tree.old }
+        ensures leads { ForSome (T.told tree.old) (λ told. IfOk result (λ ended. (whole : Outcome) → ComesTo (source_behind (world_of told job.now.setup) source.now job.now.forced) self.old whole → ReadsTo Go self.new whole ended)) }
+        ensures read { IfOk result (EndsRead self.new) }
+        ensures cause { HasCause CppError.Fault (T.faults tree.old) (T.faults tree.new) result }
+    {
+        match self.open_source(alloc, tree, job, source)? {
+            Opened::Refused(diagnostic) => Ok(Some(diagnostic)),
+            Opened::Pieces(pieces) => {
+                self.file = OpenFile::copy_of(alloc, source, pieces)?;
+                self.read(alloc, tree, job.setup())
+            }
+        }
+    }
+
+    // Reads the files that the job's words name, and opens the source.
+    fn open_source<T: Tree>(
+        &mut self,
+        alloc: Global,
+        tree: &mut T,
+        job: &Job,
+        source: &(Visit, Located),
+    ) -> Result<Opened, CppError>
+        requires { AllRead self.old }
+        ensures same { T.told tree.new ≡ T.told tree.old }
+        ensures leads { ForSome (T.told tree.old) (λ told. IfOk result (λ opened. (whole : Outcome) → ComesTo (source_behind (world_of told job.now.setup) source.now job.now.forced) self.old whole → BeginsTo (world_of told job.now.setup) source.now self.new whole opened)) }
+        ensures within { IfOk result (KeepsLimit self.new.layout) }
+        ensures cause { HasCause CppError.Fault (T.faults tree.old) (T.faults tree.new) result }
+    {
+        if let Some(diagnostic) = self.read_forced(alloc, tree, job)? {
+            return Ok(Opened::Refused(diagnostic));
+        }
+        open_file(
+            alloc,
+            tree,
+            &mut self.layout,
+            &mut self.left,
+            job.setup(),
+            &self.source,
+            source,
+            false,
+        )
     }
 
     // Reads the files that the job's words name, up to the first diagnostic.
@@ -275,51 +366,34 @@ impl Reader {
         ensures cause { HasCause CppError.Fault (T.faults tree.old) (T.faults tree.new) result }
     {
         let ask = forced_ask(alloc, name)?;
-        let file = match search(alloc, tree, setup, &ask) {
-            Ok(Some(file)) => file,
-            Ok(None) => {
+        match find_file(alloc, tree, setup, ask)? {
+            Some(file) => self.read_found(alloc, tree, setup, file),
+            None => {
                 let place = self.file.visit.place.bytes();
                 let problem = Problem::NotFound(false, name);
-                return Ok(Some(Diagnostic::new(alloc, place, 0, problem)?));
+                Ok(Some(Diagnostic::new(alloc, place, 0, problem)?))
             }
-            Err(error) => return Err(cause_of(error)),
-        };
-        if let Some(diagnostic) = self.enter(alloc, tree, setup, 0, file)? {
-            return Ok(Some(diagnostic));
         }
-        self.read(alloc, tree, setup)
     }
 
-    // Opens the source, and reads it.
-    fn read_source<T: Tree>(
+    // Enters a file, as by an include on line 0, and reads it and those around it.
+    fn read_found<T: Tree>(
         &mut self,
         alloc: Global,
         tree: &mut T,
         setup: &Setup,
-        source: (Visit, Located),
+        file: (Visit, Located),
     ) -> Result<Option<Diagnostic>, CppError>
-        requires { AllRead self.old }
+        requires { length self.old.layout.text ≤ text_limit }
         ensures same { T.told tree.new ≡ T.told tree.old }
-        ensures leads { ForSome (T.told tree.old) (λ told. IfOk result (λ ended. (whole : Outcome) → ComesTo (source_behind (world_of told setup.now) source []) self.old whole → ReadsTo Go self.new whole ended)) }
+        ensures leads { ForSome (T.told tree.old) (λ told. IfOk result (λ ended. (behind : After) (whole : Outcome) → EntersTo (world_of told setup.now) behind self.old 0 file whole → ReadsTo behind self.new whole ended)) }
         ensures read { IfOk result (EndsRead self.new) }
         ensures cause { HasCause CppError.Fault (T.faults tree.old) (T.faults tree.new) result }
     {
-        match open_file(
-            alloc,
-            tree,
-            &mut self.layout,
-            &mut self.left,
-            setup,
-            &self.source,
-            &source,
-            false,
-        )? {
-            Opened::Refused(diagnostic) => Ok(Some(diagnostic)),
-            Opened::Pieces(pieces) => {
-                self.file = OpenFile::new(source, pieces);
-                self.read(alloc, tree, setup)
-            }
+        if let Some(diagnostic) = self.enter(alloc, tree, setup, 0, file)? {
+            return Ok(Some(diagnostic));
         }
+        self.read(alloc, tree, setup)
     }
 
     // Reads the file and those around it, up to their ends or the first diagnostic.
@@ -394,27 +468,54 @@ impl Reader {
         ensures advances { IfOk result (Advances (suc (work_ahead self.old)) self.new) }
         ensures cause { HasCause CppError.Fault (T.faults tree.old) (T.faults tree.new) result }
     {
-        if self.around.as_slice().len() >= DEPTH_LIMIT {
-            let place = self.file.visit.place.bytes();
-            return Ok(Some(Diagnostic::new(alloc, place, at, Problem::TooNested)?));
+        match self.open_included(alloc, tree, setup, at, &inner)? {
+            Opened::Refused(diagnostic) => Ok(Some(diagnostic)),
+            Opened::Pieces(pieces) => {
+                self.go_into(OpenFile::new(inner, pieces), at)?;
+                Ok(None)
+            }
         }
-        match open_file(
+    }
+
+    // Opens the file of an include on a line, where no more levels are open than there may be.
+    fn open_included<T: Tree>(
+        &mut self,
+        alloc: Global,
+        tree: &mut T,
+        setup: &Setup,
+        at: u32,
+        inner: &(Visit, Located),
+    ) -> Result<Opened, CppError>
+        requires { length self.old.layout.text ≤ text_limit }
+        ensures same { T.told tree.new ≡ T.told tree.old }
+        ensures leads { ForSome (T.told tree.old) (λ told. IfOk result (λ opened. (behind : After) (whole : Outcome) → EntersTo (world_of told setup.now) behind self.old at inner.now whole → OpensTo (world_of told setup.now) behind self.new at inner.now whole opened)) }
+        ensures within { IfOk result (KeepsLimit self.new.layout) }
+        ensures shortens { IfOk result (Shortens self.old.left self.new.left) }
+        ensures file { self.new.file ≡ self.old.file }
+        ensures around { self.new.around ≡ self.old.around }
+        ensures cause { HasCause CppError.Fault (T.faults tree.old) (T.faults tree.new) result }
+    {
+        if self.around.as_slice().len() >= DEPTH_LIMIT {
+            return refused(alloc, &self.file.visit.place, at, Problem::TooNested);
+        }
+        open_file(
             alloc,
             tree,
             &mut self.layout,
             &mut self.left,
             setup,
             &self.source,
-            &inner,
+            inner,
             true,
-        )? {
-            Opened::Refused(diagnostic) => Ok(Some(diagnostic)),
-            Opened::Pieces(pieces) => {
-                let outer = replace(&mut self.file, OpenFile::new(inner, pieces));
-                put_aside(&mut self.around, Left { file: outer, at })?;
-                Ok(None)
-            }
-        }
+        )
+    }
+
+    // Goes into a file, and puts the one that was read aside, at an include on a line.
+    fn go_into(&mut self, file: OpenFile, at: u32) -> Result<(), AllocError>
+        ensures { OnOk result (GoesInto self.old file at self.new) }
+    {
+        let outer = replace(&mut self.file, file);
+        put_aside(&mut self.around, Left { file: outer, at })
     }
 
     // Comes back, at the end of a file, to the one that was left last.
@@ -428,16 +529,21 @@ impl Reader {
         let Some(outer) = self.around.pop() else {
             unreachable!()
         };
-        let name = shown(alloc, outer.file.visit.place.bytes())?;
-        let laid = self.layout.back(&name, line_behind(outer.at), outer.at);
         self.file = outer.file;
-        match laid {
-            Ok(()) => Ok(None),
-            Err(LayError::Full) => {
-                let source = self.source.bytes();
-                Ok(Some(Diagnostic::new(alloc, source, 0, Problem::TextLimit)?))
-            }
-            Err(LayError::Memory) => Err(CppError::Memory),
+        let place = &self.file.visit.place;
+        mark_return(alloc, &mut self.layout, &self.source, place, outer.at)
+    }
+
+    // What reading the files gives: the text, or the diagnostic that ended it.
+    fn outcome(self, alloc: Global, ended: Option<Diagnostic>) -> Result<Outcome, CppError>
+        ensures outcome { IfOk result (λ outcome. (whole : Outcome) → ReadsTo Go self whole ended → outcome ≡ whole) }
+        ensures fits { IfOk result OutcomeFits }
+        ensures no_fault { IsErrOf result CppError.Fault → ⊥ }
+    {
+        if let Some(diagnostic) = ended {
+            return Ok(Outcome::Diag(diagnostic.into_bytes()));
         }
+        let Reader { source, layout, .. } = self;
+        finish(alloc, layout, &source)
     }
 }

@@ -1,6 +1,7 @@
 // The texts of diagnostics.
 ghost use Rattle.std.specs.Prelude.{◌≡◌, ◌≤◌, ◌++◌, ◌∷◌, [], length, codes, IfOk, OnOk};
 ghost use Rattle.std.specs.List.{flat_map};
+ghost use Rattle.std.specs.Fmt.{decimal};
 ghost use Rattle.daemon_cpp.specs.Diagnostics.{NotFound, ErrorLine, shown, shown_byte, branch_name, error_token, diagnostic_text, words_of};
 ghost use Rattle.daemon_cpp.specs.Problems.{complaint_of};
 
@@ -14,7 +15,7 @@ use std::marker::Model;
 const LENGTH_LIMIT: usize = 65_536;
 
 // What is wrong.
-#[derive(Clone, Copy, Debug, Drop)]
+#[derive(Clone, Copy, Drop)]
 pub enum Problem<'a> {
     NoSource,
     TooLarge,
@@ -33,7 +34,7 @@ pub enum Problem<'a> {
 }
 
 // The text of a diagnostic, of 1 to 65,536 bytes.
-#[derive(Debug, Drop)]
+#[derive(Drop)]
 pub struct Diagnostic {
     text: Vec<u8>,
 }
@@ -60,8 +61,7 @@ impl Diagnostic {
         ensures { IfOk result (λ d. d ≡ diagnostic_text (record { place = place.now; at = line; complaint = complaint_of problem.entry })) }
     {
         let mut text = shown(alloc, place)?;
-        let middle = format!(in alloc; ":{line}: error: ")?;
-        text.extend_from_slice(middle.as_bytes())?;
+        add_line(alloc, &mut text, line)?;
         add_words(alloc, &mut text, problem)?;
         text.truncate(LENGTH_LIMIT);
         Ok(Diagnostic { text })
@@ -73,6 +73,14 @@ impl Diagnostic {
     {
         Bytes::of(self.text)
     }
+}
+
+// Adds the line, between the place and the words.
+fn add_line(alloc: Global, text: &mut Vec<u8>, line: u32) -> Result<(), AllocError>
+    ensures { OnOk result (text.new.items ≡ text.old.items ++ (codes ":" ++ (decimal line ++ codes ": error: "))) }
+{
+    let words = format!(in alloc; ":{line}: error: ")?;
+    text.extend_from_slice(words.as_bytes())
 }
 
 // Adds the words that say what is wrong.

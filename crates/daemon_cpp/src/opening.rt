@@ -61,7 +61,7 @@ pub fn open_file<T: Tree>(
 }
 
 // A diagnostic at a line of the file at a place.
-fn refused(
+pub fn refused(
     alloc: Global,
     place: &CanonPath,
     line: u32,

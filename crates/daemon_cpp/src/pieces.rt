@@ -13,12 +13,12 @@ ghost use Rattle.daemon_cpp.specs.Moving.{LaidOut, StaysWithin};
 
 use crate::CppError;
 use crate::diagnostic::{Diagnostic, Problem};
-use crate::tree::cause_of;
+use crate::tree::find_file;
 use base_types::Bytes;
 use cpp_output::{LayError, Layout};
 use directive_scan::{Directive, HeaderName, Piece, Target};
 use pp_tokens::{Kind, Token};
-use search_path::{Ask, Form, Setup, Visit, search};
+use search_path::{Ask, Form, Setup, Visit};
 use std::alloc::{AllocError, Global};
 use tree_model::{CanonPath, Located, Tree};
 
@@ -216,12 +216,11 @@ fn find_header<T: Tree>(
     ensures cause { HasCause CppError.Fault (T.faults tree.old) (T.faults tree.new) result }
 {
     let ask = ask_of(alloc, places.here, next, header)?;
-    match search(alloc, tree, places.setup, &ask) {
-        Ok(Some(file)) => Ok(Move::Enter { at, file }),
-        Ok(None) => {
+    match find_file(alloc, tree, places.setup, ask)? {
+        Some(file) => Ok(Move::Enter { at, file }),
+        None => {
             let problem = Problem::NotFound(header.angle, header.name.as_slice());
             ended(alloc, &places.here.place, at, problem)
         }
-        Err(error) => Err(cause_of(error)),
     }
 }

@@ -2,6 +2,7 @@
 ghost use Rattle.std.specs.Prelude.{◌≡◌, ◌≢◌, ◌≤◌, length, IfOk, IfSome};
 ghost use Rattle.std.specs.Option.{ForSome};
 ghost use Rattle.base_types.specs.Causes.{HasCause};
+ghost use Rattle.search_path.specs.Search.{NeedsFrom};
 ghost use Rattle.search_path.specs.SetupOf as setups;
 ghost use Rattle.search_path.specs.SetupOf.{SetupData};
 ghost use Rattle.daemon_cpp.specs.Prep.{world_of};
@@ -9,8 +10,9 @@ ghost use Rattle.daemon_cpp.specs.Reading.{body_within};
 
 use crate::CppError;
 use base_types::Bytes;
+use search_path::{Ask, Setup, Visit, search};
 use std::alloc::{AllocError, Global};
-use tree_model::{CanonPath, Tree, TreeError};
+use tree_model::{CanonPath, Located, Tree, TreeError};
 
 /// Why a tree gave no answer, where that is not that a body is too large.
 pub fn cause_of(error: TreeError) -> CppError
@@ -21,6 +23,24 @@ pub fn cause_of(error: TreeError) -> CppError
         TreeError::Fault => CppError::Fault,
         TreeError::Memory => CppError::Memory,
         TreeError::Large => unreachable!(),
+    }
+}
+
+/// The file that is asked for; None exactly where no candidate locates one.
+pub fn find_file<T: Tree>(
+    alloc: Global,
+    tree: &mut T,
+    setup: &Setup,
+    ask: Ask,
+) -> Result<Option<(Visit, Located)>, CppError>
+    requires { NeedsFrom ask.form ask.from }
+    ensures same { T.told tree.new ≡ T.told tree.old }
+    ensures found { ForSome (T.told tree.old) (λ told. IfOk result (λ found. (world_of told setup.now).find ask ≡ found)) }
+    ensures cause { HasCause CppError.Fault (T.faults tree.old) (T.faults tree.new) result }
+{
+    match search(alloc, tree, setup, &ask) {
+        Ok(found) => Ok(found),
+        Err(error) => Err(cause_of(error)),
     }
 }
 

@@ -13,13 +13,14 @@ use Rattle.job_frames.specs.declared.Fed.TheVariants as fed
 use Rattle.job_frames.specs.declared.FrameError.{FrameError}
 use Rattle.job_frames.specs.declared.FrameError.TheVariants as why
 use Rattle.job_frames.specs.Fields.{letters_at, number_at}
-use Rattle.job_frames.specs.Outcomes.{going, done, reason, Left, IsFed, Tells, number_of, whatever_follows}
+use Rattle.job_frames.specs.Outcomes.{going, done, reason, Left, IsFed, Tells, number_of}
 use Rattle.job_frames.specs.Readers.{request_of}
-use Rattle.job_frames.specs.Request.{Got, request_at, request_from}
+use Rattle.job_frames.specs.Request.{Got, request_from}
 use Rattle.job_frames.specs.Laws.{RequestsAreSpelled, RequestsMakeTrees, RequestsHaveSmallBodies, RequestsHaveReasons}
+use Rattle.daemon_serve.specs.declared.reading.NoRequest.{NoRequest}
 use Rattle.daemon_serve.specs.declared.reading.NoRequest.TheVariants as no
 use Rattle.daemon_serve.specs.Serving.{piece_limit, verdict_on, StopsInTime, IsReasonOf, IsCut}
-use Rattle.daemon_serve.specs.Parts.{HasWhole, IsReading, IsRequestRead}
+use Rattle.daemon_serve.specs.Parts.{HasWhole, IsReading, IsRequestFed, IsRequestRead}
 use Rattle.daemon_serve.proofs.WholeRequests.{got_of, given-by, request-of}
 
 prepend-nil : (told : Option (List ℕ)) → told ≡ prepend_known [] told
@@ -38,7 +39,7 @@ nothing-read : verdict_on [] ≡ going
 unfolding request_from number_at letters_at
 nothing-read = refl
 
-pub begun : (told : Option (List ℕ)) (faults : ℕ) (reader : Left Got) → ((bytes : List ℕ) → reader bytes ≡ whatever_follows (request_at bytes)) → IsReading told told faults faults reader
+pub begun : (told : Option (List ℕ)) (faults : ℕ) (reader : Left Got) → ((bytes : List ℕ) → reader bytes ≡ verdict_on bytes) → IsReading told told faults faults reader
 begun told faults reader says = record { read = []; taken = prepend-nil told; says = says; due = nothing-read; later = omega arith }
 
 module _ {told left : Option (List ℕ)} {reads reads' : ℕ} {reader : Left Got} (r : IsReading told left reads reads' reader) (left' : Option (List ℕ)) (faults : ℕ) (later : reads' ≤ faults) where
@@ -53,11 +54,11 @@ module _ {told left : Option (List ℕ)} {reads reads' : ℕ} {reader : Left Got
   still = record { before = r.read; last = []; parts = sym (append-nil r.read); piece = omega arith; due = r.due }
 
   -- the source failed
-  pub read-fault : left' ≡ left → Rose reads' faults → IsRequestRead told left' reads faults (Err no.Fault)
+  pub read-fault : {A : Type 0} → left' ≡ left → Rose reads' faults → IsRequestFed {A = A} told left' reads faults reader (Err no.Fault)
   read-fault same rose = record { read = r.read; taken = r.taken ∙ ap (prepend_known r.read) (sym same); in_time = still; later = omega arith; tells = (r.due, omega (arith, rose)) }
 
   -- the source gave its end
-  pub read-end : left ≡ prepend_known [] left' → IsAtEnd left' → IsRequestRead told left' reads faults (Err (no.Refused why.Cut))
+  pub read-end : {A : Type 0} → left ≡ prepend_known [] left' → IsAtEnd left' → IsRequestFed {A = A} told left' reads faults reader (Err (no.Refused why.Cut))
   read-end e end = record {
     read = r.read;
     taken = r.taken ∙ ap (prepend_known r.read) (e ∙ sym (prepend-nil left'));
@@ -78,8 +79,8 @@ module _ {told left : Option (List ℕ)} {reads reads' : ℕ} {reader : Left Got
   read-on piece after answer e (inr f) is = absurd (cc)
 
   -- the bytes are refused
-  pub read-refused : RequestsHaveReasons → (piece : List ℕ) (after : Left Got) (answer : Fed) (error : FrameError) → length piece ≤ piece_limit → left ≡ prepend_known piece left' → IsFed reader piece after answer
-      → answer ≡ fed.Refused error → IsRequestRead told left' reads faults (Err (no.Refused error))
+  pub read-refused : {A : Type 0} → RequestsHaveReasons → (piece : List ℕ) (after : Left Got) (answer : Fed) (error : FrameError) → length piece ≤ piece_limit → left ≡ prepend_known piece left' → IsFed reader piece after answer
+      → answer ≡ fed.Refused error → IsRequestFed {A = A} told left' reads faults after (Err (no.Refused error))
   read-refused reasons piece after answer error size e f is = record {
     read = r.read ++ piece;
     taken = taken-more piece e;
@@ -96,31 +97,33 @@ module _ {told left : Option (List ℕ)} {reads reads' : ℕ} {reader : Left Got
       by_fed (inr g) = inl (cc)
 
   -- a whole request has come
-  pub read-done : (piece : List ℕ) (after : Left Got) (answer : Fed) → IsFed reader piece after answer → answer ≡ fed.Done
-      → HasWhole after
-  read-done piece after answer (inl f) is =
-      let tells : (a : Got) × (reader piece ≡ done a) = subst (λ (a : Fed). Tells a (reader piece)) is f.0 in (
-        r.read ++ piece,
-        tells.0,
-        f.1 [] ∙ ap reader (append-nil piece) ∙ r.says piece,
-        sym (r.says piece) ∙ tells.1,
-      )
-  read-done piece after answer (inr f) is = absurd (cc)
-
-  pub read-whole : RequestsAreSpelled → RequestsMakeTrees → RequestsHaveSmallBodies → (piece : List ℕ) (after : Left Got) (answer : Fed) (job : Job) (entries : Entries) → length piece ≤ piece_limit
-      → left ≡ prepend_known piece left' → IsFed reader piece after answer → answer ≡ fed.Done → request_of (after []) ≡ Some (job, entries) → IsRequestRead told left' reads faults (Ok (job, entries))
-  read-whole spelled trees bodies piece after answer job entries size e (inl f) is given =
-      let whole : verdict_on (r.read ++ piece) ≡ done (got_of job entries) = sym (r.says piece) ∙ ap reader (sym (append-nil piece)) ∙ sym (f.1 []) ∙ given-by (after []) job entries given in
-      let request = request-of spelled (r.read ++ piece) (got_of job entries) whole in
+  pub read-whole : {A : Type 0} → (piece : List ℕ) (after : Left Got) (answer : Fed) (x : A) → length piece ≤ piece_limit → left ≡ prepend_known piece left' → IsFed reader piece after answer → answer ≡ fed.Done
+      → IsRequestFed told left' reads faults after (Ok x)
+  read-whole piece after answer x size e (inl f) is =
+      let tells : (a : Got) × (reader piece ≡ done a) = subst (λ (a : Fed). Tells a (reader piece)) is f.0 in
       record {
         read = r.read ++ piece;
         taken = taken-more piece e;
         in_time = in-time piece size;
         later = omega arith;
-        tells = (whole, trees request.0 entries request.1, bodies request.0 entries request.1);
+        tells = (tells.0, f.1 [] ∙ ap reader (append-nil piece) ∙ r.says piece, sym (r.says piece) ∙ tells.1);
       }
-  read-whole spelled trees bodies piece after answer job entries size e (inr f) is given = absurd (cc)
+  read-whole piece after answer x size e (inr f) is = absurd (cc)
 
 -- the turns ran out
-pub read-out : {told left : Option (List ℕ)} {reads reads' : ℕ} {reader : Left Got} → IsReading told left reads reads' reader → IsRequestRead told left reads reads' (Err (no.Refused why.Memory))
+pub read-out : {A : Type 0} {told left : Option (List ℕ)} {reads reads' : ℕ} {reader : Left Got} → IsReading told left reads reads' reader → IsRequestFed {A = A} told left reads reads' reader (Err (no.Refused why.Memory))
 read-out r = record { read = r.read; taken = r.taken; in_time = record { before = r.read; last = []; parts = sym (append-nil r.read); piece = omega arith; due = r.due }; later = r.later; tells = inl refl }
+
+-- a reader that was fed a whole request, the request, and none
+pub has-whole : {A : Type 0} {told left : Option (List ℕ)} {reads reads' : ℕ} {reader : Left Got} (x : A) → IsRequestFed told left reads reads' reader (Ok x) → HasWhole reader
+has-whole x r = (r.read, r.tells.0, r.tells.1, r.tells.2)
+
+pub whole-read : {A : Type 0} {told left : Option (List ℕ)} {reads reads' : ℕ} {reader : Left Got} (x : A) → RequestsAreSpelled → RequestsMakeTrees → RequestsHaveSmallBodies → IsRequestFed told left reads reads' reader (Ok x) → (job : Job) (entries : Entries) → request_of (reader []) ≡ Some (job, entries)
+    → IsRequestRead told left reads reads' (Ok (job, entries))
+whole-read {reader = reader} x spelled trees bodies r job entries given =
+    let whole : verdict_on r.read ≡ done (got_of job entries) = sym r.tells.1 ∙ given-by (reader []) job entries given in
+    let request = request-of spelled r.read (got_of job entries) whole in
+    record { read = r.read; taken = r.taken; in_time = r.in_time; later = r.later; tells = (whole, trees request.0 entries request.1, bodies request.0 entries request.1) }
+
+pub none_read : {A : Type 0} {told left : Option (List ℕ)} {reads reads' : ℕ} {reader : Left Got} (e : NoRequest) → IsRequestFed {A = A} told left reads reads' reader (Err e) → IsRequestRead told left reads reads' (Err e)
+none_read e r = record { read = r.read; taken = r.taken; in_time = r.in_time; later = r.later; tells = r.tells }

@@ -32,11 +32,27 @@ pub record IsReading (left left' : Option (List ℕ)) (reads reads' : ℕ) (read
 abbrev pub HasWhole : Left Got → Type 0
 HasWhole reader = (read : List ℕ) × (got : Got) × (reader [] ≡ verdict_on read) × (verdict_on read ≡ done got)
 
+-- what was read where no request was: the source failed, or the bytes are refused
+abbrev pub NoneTells : NoRequest → List ℕ → Option (List ℕ) → ℕ → ℕ → Type 0
+NoneTells no.Fault read left reads reads' = (verdict_on read ≡ going) × Rose reads reads'
+NoneTells (no.Refused e) read left reads reads' = (e ≡ why.Memory) ⊎ (IsReasonOf read (number_of e) ⊎ IsCut read left (number_of e))
+
+-- what was read where a reader was fed until a request was whole, or there was none
+abbrev pub FedTells : {A : Type 0} → Result A NoRequest → Left Got → List ℕ → Option (List ℕ) → ℕ → ℕ → Type 0
+FedTells (Ok fed) reader read left reads reads' = (got : Got) × (reader [] ≡ verdict_on read) × (verdict_on read ≡ done got)
+FedTells (Err e) reader read left reads reads' = NoneTells e read left reads reads'
+
+pub record IsRequestFed {A : Type 0} (left left' : Option (List ℕ)) (reads reads' : ℕ) (reader : Left Got) (result : Result A NoRequest) : Type 0 where
+  pub read : List ℕ
+  pub taken : left ≡ prepend_known read left'
+  pub in_time : StopsInTime read
+  pub later : reads ≤ reads'
+  pub tells : FedTells result reader read left' reads reads'
+
 -- what was read where a request, or none, was read
 abbrev pub ReadTells : Result (Job × Entries) NoRequest → List ℕ → Option (List ℕ) → ℕ → ℕ → Type 0
 ReadTells (Ok request) read left reads reads' = (verdict_on read ≡ done (record { job = Some request.0; entries = request.1 })) × IsTrue (makes_tree request.1) × IsTrue (bodies_fit request.1)
-ReadTells (Err no.Fault) read left reads reads' = (verdict_on read ≡ going) × Rose reads reads'
-ReadTells (Err (no.Refused e)) read left reads reads' = (e ≡ why.Memory) ⊎ (IsReasonOf read (number_of e) ⊎ IsCut read left (number_of e))
+ReadTells (Err e) read left reads reads' = NoneTells e read left reads reads'
 
 pub record IsRequestRead (left left' : Option (List ℕ)) (reads reads' : ℕ) (result : Result (Job × Entries) NoRequest) : Type 0 where
   pub read : List ℕ

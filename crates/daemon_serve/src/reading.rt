@@ -1,7 +1,8 @@
 // Reading one request from a source.
-ghost use Rattle.std.specs.Prelude.{◌≡◌, [], Some};
+ghost use Rattle.std.specs.Prelude.{◌≡◌, ℕ, List, [], Some};
 ghost use Rattle.job_frames.specs.Readers.{left, request_of};
-ghost use Rattle.daemon_serve.specs.Parts.{HasWhole, IsRequestRead};
+ghost use Rattle.daemon_serve.specs.Serving.{verdict_on};
+ghost use Rattle.daemon_serve.specs.Parts.{HasWhole, IsRequestFed, IsRequestRead};
 
 use base_types::List;
 use io_edges::Source;
@@ -24,6 +25,7 @@ pub(crate) enum NoRequest {
 }
 
 // Reads a request, and no piece more once it is whole or refused.
+#[tactic(auto, using(crate::proofs::RequestReads::none_read))]
 pub(crate) fn read_request<S: Source>(
     alloc: Global,
     source: &mut S,
@@ -33,6 +35,18 @@ pub(crate) fn read_request<S: Source>(
     request_spellings();
     request_trees();
     let mut reader = RequestReader::new(alloc);
+    match feed_from(source, &mut reader) {
+        Ok(()) => Ok(finished(reader)),
+        Err(why) => Err(why),
+    }
+}
+
+// Feeds a reader, to which nothing has come, from a source, until a request is whole or refused.
+fn feed_from<S: Source>(source: &mut S, reader: &mut RequestReader) -> Result<(), NoRequest>
+    requires { (bytes : List ℕ) → left reader.old bytes ≡ verdict_on bytes }
+    ensures { IsRequestFed (S.left source.old) (S.left source.new) (S.faults source.old) (S.faults source.new) (left reader.new) result }
+{
+    request_spellings();
     let mut room = [0u8; PIECE];
     for _ in 0..=REQUEST_LIMIT {
         let n = match source.take(&mut room) {
@@ -44,7 +58,7 @@ pub(crate) fn read_request<S: Source>(
         }
         match reader.feed(&room[..n]) {
             Fed::More => {}
-            Fed::Done => return Ok(finished(reader)),
+            Fed::Done => return Ok(()),
             Fed::Refused(why) => return Err(NoRequest::Refused(why)),
         }
     }

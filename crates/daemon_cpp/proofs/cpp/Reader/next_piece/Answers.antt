@@ -1,11 +1,11 @@
-use Rattle.std.proofs.Common.{◌≡◌, get_or, List, ◌∙◌, ap, subst}
+use Rattle.std.proofs.Common.{◌≡◌, IfOk, ℕ, get_or, List, ◌∙◌, ap, subst}
 use Rattle.std.proofs.lemmas.Result.{IfOk-weaker}
 use Rattle.directive_scan.specs.declared.Piece.{Piece}
 use Rattle.daemon_cpp.specs.declared.outcome.Outcome.{Outcome}
 use Rattle.daemon_cpp.specs.declared.pieces.Move.{Move}
 use Rattle.daemon_cpp.specs.Prep.{world_of}
-use Rattle.daemon_cpp.specs.Files.{After, LeadsTo, EntersTo, GoesOn}
-use Rattle.daemon_cpp.proofs.Readers.{behind_piece, Follows, follows}
+use Rattle.daemon_cpp.specs.Files.{After, LeadsTo, EntersTo, GoesOn, Advances}
+use Rattle.daemon_cpp.proofs.Readers.{behind_piece, Follows, follows, onward, piece-done}
 use Rattle.daemon_cpp.proofs.cpp.Reader.next_piece.Goals as goal
 
 pub returns-in-Onward-clause-leads : goal.returns-in-Onward-clause-leads
@@ -37,3 +37,11 @@ returns-in-Enter-clause-leads g c =
     (subst (λ (move : Move). Follows (world_of told c.args.setup.now) behind (behind_piece c.args.self.now c.run_piece.new.layout) whole move) c.in-Enter.is
     (follows (world_of told c.args.setup.now) behind c.args.self.now whole c.run_piece.new.layout c.index-as_slice-self.result c.in_ok-led.led at c.requires.goes_on (c.in_ok-led.ensures.leads told is) left)))
     (c.enter.ensures.leads told (c.in_ok-led.ensures.same ∙ is))
+
+pub returns-in-Onward-clause-advances : goal.returns-in-Onward-clause-advances
+returns-in-Onward-clause-advances g c =
+    onward c.args.self.now c.run_piece.new.layout c.in_ok-led.led c.in-Onward.is c.requires.goes_on c.in_ok-led.ensures.within
+
+pub returns-in-Enter-clause-advances : goal.returns-in-Enter-clause-advances
+returns-in-Enter-clause-advances g c =
+    subst (λ (work : ℕ). IfOk c.enter.result (Advances work c.enter.new.self)) (piece-done c.args.self.now c.run_piece.new.layout c.requires.goes_on) c.enter.ensures.advances
