@@ -1,6 +1,6 @@
 -- An analysis holds: the entries gathered are those of the job, and nothing is refused wrongly.
 use Rattle.std.proofs.Common.{◌≡◌, ◌<◌, ◌≤◌, ℕ, List, [], ◌∷◌, ◌++◌, length, Option, None, Some, IsSome, Bool, true, false, ◌&&◌, cond, refl, sym, ◌∙◌, ap, subst, arith, inl, inr, ◌⊎◌, ltb-true, ltb-false}
-use Rattle.std.specs.Prelude.{All, IsTrue, Result, Ok, Err, nat_lt, ◌↔◌, IfSome}
+use Rattle.std.specs.Prelude.{All, IsTrue, Result, Ok, Err, nat_lt, ◌↔◌, IfOk, IfSome}
 use Rattle.std.specs.Option.{ForSome, option_map}
 use Rattle.std.specs.List.{list_all, flat_map, filter_map, cons_option}
 use Rattle.base_types.specs.Members.{Member}
@@ -23,12 +23,16 @@ use Rattle.closure_fixpoint.specs.declared.job_analysis.Analysed.{Analysed}
 use Rattle.closure_fixpoint.specs.declared.job_analysis.Analysed.TheVariants as analysed
 use Rattle.closure_fixpoint.specs.Simple.{names_asked}
 use Rattle.closure_fixpoint.specs.Analysis.{IsNodeOf, AreEntriesOf, Holds, NothingHolds, AnalysisHolds, source_of, quoted_by, found_files, found_from, target_of, targets_of, body_found, is_unbuilt}
-use Rattle.closure_fixpoint.specs.Gathering.{files_from, upward, all_upward, nodes_of, comes_before, are_rising, with_path, entries_at, request_from}
+use Rattle.closure_fixpoint.specs.Gathering.{files_from, upward, all_upward, nodes_of, comes_before, are_rising, with_path, entries_at, request_from, IsAnswerAt}
 use Rattle.closure_fixpoint.proofs.Orders.{left-member, right-member, of-either, at-member, in_order}
 
 pub for-told : {A : Type 0} (o : Option A) (P : A → Type 0) → ForSome o P → IfSome o P
 for-told None P each = tt
 for-told (Some x) P each = each x refl
+
+pub ok-for-told : {A R E : Type 0} (o : Option A) (r : Result R E) (P : A → R → Type 0) → ForSome o (λ x. IfOk r (P x)) → IfOk r (λ answer. IfSome o (λ x. P x answer))
+ok-for-told o (Ok answer) P each = for-told o (λ x. P x answer) each
+ok-for-told o (Err e) P each = tt
 
 -- MEMBERS
 
@@ -337,7 +341,7 @@ module _ (holds : HoldsOfLocated) (locates : SearchesLocate) (tree : FileTree) (
     whole = λ path node. let there = some-of (entry_at tree path) (node-there holds locates tree whole job path node) in (there.0, at-entries tree sorted path there.0 (node-sorted path node) there.1);
   }
 
-  pub large-holds : (path : Path) → Member path sorted → IsTooLarge tree path → Holds refusal.Large tree job budget
+  large-holds : (path : Path) → Member path sorted → IsTooLarge tree path → Holds refusal.Large tree job budget
   large-holds path m large = (path, sorted-node path m, large)
 
   module _ (entries : Entries) (entries_are : entries ≡ entries_at tree sorted) (fits : All HasSpelling entries) where
@@ -371,6 +375,10 @@ module _ (holds : HoldsOfLocated) (locates : SearchesLocate) (tree : FileTree) (
     by-size false true e f = (entries, are, inr (many most (length (request_bytes job entries)) f))
     by-size false false e f = ((entries, are, refl), nothing e f)
 
-    pub analysis-holds : (answer : Analysed) → answer ≡ request_from job entries → AnalysisHolds tree job budget answer
+    analysis-holds : (answer : Analysed) → answer ≡ request_from job entries → AnalysisHolds tree job budget answer
     analysis-holds answer is =
         subst (λ (a : Analysed). AnalysisHolds tree job budget a) (sym is) (by-size (nat_lt 100000 (length entries)) (nat_lt most (length (request_bytes job entries))) refl refl)
+
+  pub answer-holds : (answer : Analysed) → IsAnswerAt tree job sorted answer → AnalysisHolds tree job budget answer
+  answer-holds answer (inl (path, m, large, is)) = subst (λ (a : Analysed). AnalysisHolds tree job budget a) (sym is) (large-holds path m large)
+  answer-holds answer (inr (fits, is)) = analysis-holds (entries_at tree sorted) refl fits answer is

@@ -3,12 +3,11 @@ use Rattle.std.proofs.Common.{◌≡◌, ◌<◌, ◌+◌, ℕ, List, [], ◌∷
 use Rattle.std.specs.Prelude.{Result, Ok, Err, nat_le}
 use Rattle.std.specs.List.{list_any, filter_map, cons_option}
 use Rattle.std.proofs.lemmas.Bool.{lt-leb}
-use Rattle.std.specs.Option.{option_map}
 use Rattle.tree_model.specs.Paths.{Text}
 use Rattle.tree_model.specs.Trees.{FileTree, body_limit}
 use Rattle.tree_model.specs.declared.walk.Located.{Located}
 use Rattle.search_path.specs.SetupOf.{SetupData}
-use Rattle.search_path.specs.Search.{Hit, search}
+use Rattle.search_path.specs.Search.{Hit}
 use Rattle.search_path.specs.declared.asking.Visit.{Visit}
 use Rattle.job_words.specs.declared.job.Job.{Job}
 use Rattle.directive_scan.specs.declared.Piece.{Piece}
@@ -16,8 +15,8 @@ use Rattle.daemon_cpp.specs.Reading.{body_within}
 use Rattle.closure_fixpoint.specs.declared.job_analysis.Refusal.{Refusal}
 use Rattle.closure_fixpoint.specs.declared.job_analysis.Refusal.TheVariants.{Unbuilt}
 use Rattle.closure_fixpoint.specs.Simple.{name_asked, asks, pieces_of, is_simple, is_flat}
-use Rattle.closure_fixpoint.specs.Analysis.{body_found, quoted_by, target_of, targets_of, is_plain_job}
-use Rattle.closure_fixpoint.specs.Gathering.{simple_of, is_flat_file, targets_from, are_flat, files_from}
+use Rattle.closure_fixpoint.specs.Analysis.{body_found, target_of, targets_of, is_plain_job}
+use Rattle.closure_fixpoint.specs.Gathering.{simple_of, is_flat_file, targets_from, are_flat, with_targets, files_from}
 use Rattle.closure_fixpoint.proofs.Steps.{next-at}
 
 -- A FILE'S PIECES
@@ -68,22 +67,27 @@ read-pieces body read file e is = is ∙ ap (λ (b : Text). simple_of b) (some-f
 
 -- A SOURCE
 
-err-unless_simple : {A : Type 0} (p s a : Bool) (x y : A) → p ≡ true → s ≡ false → x ≡ cond (not p || (not s || a)) x y
-err-unless_simple true true a x y e f = cc
-err-unless_simple true false a x y e f = refl
-err-unless_simple false s a x y e f = cc
+where-some : {A : Type 0} (p : Bool) (o : Option A) (x : A) → Some x ≡ cond p o None → p ≡ true
+where-some true o x e = refl
+where-some false o x e = cc
 
-err-unless_flat : {A : Type 0} (p s a : Bool) (x y : A) → p ≡ true → s ≡ true → not a ≡ false → x ≡ cond (not p || (not s || a)) x y
-err-unless_flat true true true x y e f g = refl
-err-unless_flat true true false x y e f g = cc
-err-unless_flat true false a x y e f g = cc
-err-unless_flat false s a x y e f g = cc
+unbuilt : {A B : Type 0} (p s a : Bool) (o : Option B) (x y : A) → (None ≡ o → s ≡ false) → None ≡ cond p o None → x ≡ cond (not p || (not s || a)) x y
+unbuilt true s a o x y f e = ap (λ b. cond (not b || a) x y) (sym (f e))
+unbuilt false s a o x y f e = refl
 
-ok-where_flat : {A : Type 0} (p s a : Bool) (x y : A) → p ≡ true → s ≡ true → not a ≡ true → y ≡ cond (not p || (not s || a)) x y
-ok-where_flat true true true x y e f g = cc
-ok-where_flat true true false x y e f g = refl
-ok-where_flat true false a x y e f g = cc
-ok-where_flat false s a x y e f g = cc
+built-where_simple : {A : Type 0} (p s a : Bool) (x y : A) → p ≡ true → s ≡ true → cond (not a) y x ≡ cond (not p || (not s || a)) x y
+built-where_simple true true true x y e f = refl
+built-where_simple true true false x y e f = refl
+built-where_simple true false a x y e f = cc
+built-where_simple false s a x y e f = cc
+
+pub where-flat : {A : Type 0} (flat all : Bool) (x y : A) → flat ≡ all → flat ≡ true → x ≡ cond all x y
+where-flat flat true x y e f = refl
+where-flat flat false x y e f = cc
+
+pub where-not_flat : {A : Type 0} (flat all : Bool) (x y : A) → flat ≡ all → flat ≡ false → y ≡ cond all x y
+where-not_flat flat true x y e f = cc
+where-not_flat flat false x y e f = refl
 
 abbrev Files : Type 0
 Files = Result (List Located) Refusal
@@ -98,28 +102,19 @@ module _ (tree : FileTree) (job : Job) (source : Hit) where
   abbrev built : Files
   built = Ok (source.1 ∷ targets_of tree job.setup source)
 
-  pub unbuilt-source : is_plain_job job ≡ true → None ≡ simple_of (body_found tree source.1) → ◌≡◌ {A = Files} (Err Unbuilt) (files_from tree job (Some source))
-  unbuilt-source plain e = err-unless_simple {A = Files} (is_plain_job job) its_simple any_not_flat (Err Unbuilt) built plain (not-simple (body_found tree source.1) e)
+  pub unbuilt-source : None ≡ cond (is_plain_job job) (simple_of (body_found tree source.1)) None → ◌≡◌ {A = Files} (Err Unbuilt) (files_from tree job (Some source))
+  unbuilt-source e = unbuilt {A = Files} (is_plain_job job) its_simple any_not_flat (simple_of (body_found tree source.1)) (Err Unbuilt) built (not-simple (body_found tree source.1)) e
 
-  module _ (plain : is_plain_job job ≡ true) (setup : SetupData) (setup_is : setup ≡ job.setup) (given : List Piece) (e : Some given ≡ simple_of (body_found tree source.1))
-      (flat : Bool) (is : flat ≡ are_flat tree (targets_from tree setup source.0 given)) where
-    asked_by : targets_from tree setup source.0 given ≡ targets_of tree job.setup source
-    asked_by =
-        ap (λ (s : SetupData). targets_from tree s source.0 given) setup_is
-        ∙ ap (λ (ps : List Piece). targets_from tree job.setup source.0 ps) (its-pieces (body_found tree source.1) given e)
-
-    flat_is : not any_not_flat ≡ flat
-    flat_is = ap (λ (files : List Located). are_flat tree files) (sym asked_by) ∙ sym is
-
-    pub unflat-source : flat ≡ false → ◌≡◌ {A = Files} (Err Unbuilt) (files_from tree job (Some source))
-    unflat-source no_flat =
-        err-unless_flat {A = Files} (is_plain_job job) its_simple any_not_flat (Err Unbuilt) built plain (simple (body_found tree source.1) given e) (flat_is ∙ no_flat)
-
-    pub built-source : flat ≡ true → (started files : List Located) → started ≡ source.1 ∷ [] → files ≡ started ++ targets_from tree setup source.0 given
-        → ◌≡◌ {A = Files} (Ok files) (files_from tree job (Some source))
-    built-source yes_flat started files begun added =
-        ap (λ (l : List Located). Ok l) (added ∙ ap (λ (s : List Located). s ++ targets_from tree setup source.0 given) begun ∙ ap (λ (t : List Located). source.1 ∷ t) asked_by)
-        ∙ ok-where_flat {A = Files} (is_plain_job job) its_simple any_not_flat (Err Unbuilt) built plain (simple (body_found tree source.1) given e) (flat_is ∙ yes_flat)
+  pub built-source : (setup : SetupData) → setup ≡ job.setup → (given : List Piece) → Some given ≡ cond (is_plain_job job) (simple_of (body_found tree source.1)) None
+      → with_targets tree setup source.0 source.1 given ≡ files_from tree job (Some source)
+  built-source setup setup_is given is =
+      let plain : is_plain_job job ≡ true = where-some (is_plain_job job) (simple_of (body_found tree source.1)) given is in
+      let e : Some given ≡ simple_of (body_found tree source.1) = is ∙ ap (λ b. cond b (simple_of (body_found tree source.1)) None) plain in
+      let asked_by : targets_from tree setup source.0 given ≡ targets_of tree job.setup source =
+      ap (λ (s : SetupData). targets_from tree s source.0 given) setup_is
+      ∙ ap (λ (ps : List Piece). targets_from tree job.setup source.0 ps) (its-pieces (body_found tree source.1) given e) in
+      ap (λ (targets : List Located). cond {A = Files} (are_flat tree targets) (Ok (source.1 ∷ targets)) (Err Unbuilt)) asked_by
+      ∙ built-where_simple {A = Files} (is_plain_job job) its_simple any_not_flat (Err Unbuilt) built plain (simple (body_found tree source.1) given e)
 
 -- A PIECE
 
@@ -132,13 +127,10 @@ module _ (tree : FileTree) (setup : SetupData) (visit : Visit) where
   located_by names = filter_map (target_of tree setup visit) names
 
   -- a piece whose name was searched
-  pub piece-asks : (piece : Piece) (name text : Text) (copy : Visit) (got : Option Hit) (hit : Hit) → Some name ≡ name_asked piece
-      → got ≡ search tree setup (quoted_by copy text) → copy ≡ visit → text ≡ name → got ≡ Some hit → targets_from tree setup visit (piece ∷ []) ≡ hit.1 ∷ []
-  piece-asks piece name text copy got hit asks is same_visit same_name found =
-      let asked : got ≡ search tree setup (quoted_by visit name) =
-      is ∙ ap (λ (v : Visit). search tree setup (quoted_by v text)) same_visit ∙ ap (λ (n : Text). search tree setup (quoted_by visit n)) same_name in
-      ap (λ (o : Option Text). located_by (cons_option o [])) (sym asks)
-      ∙ ap (λ (o : Option Hit). cons_option (option_map (λ h. h.1) o) []) (sym asked ∙ found)
+  pub piece-asks : (piece : Piece) (name : Text) (found : Located) → Some name ≡ name_asked piece → Some found ≡ target_of tree setup visit name
+      → targets_from tree setup visit (piece ∷ []) ≡ found ∷ []
+  piece-asks piece name found asks is =
+      ap (λ (o : Option Text). located_by (cons_option o [])) (sym asks) ∙ ap (λ (o : Option Located). cons_option o []) (sym is)
 
   pub flat-where_one : (piece : Piece) (found : Located) (flat : Bool) → targets_from tree setup visit (piece ∷ []) ≡ found ∷ [] → flat ≡ is_flat (body_found tree found) → flat ≡ are_flat tree (targets_from tree setup visit (piece ∷ []))
   flat-where_one piece found flat e is = is ∙ sym (ap (λ (l : List Located). are_flat tree l) e ∙ one-flat (is_flat (body_found tree found)))

@@ -1,10 +1,11 @@
 -- The parts of an analysis: the files that are found, the paths of their nodes, their entries, and the request.
-use Rattle.std.specs.Prelude.{Bool, true, false, not, ◌&&◌, ◌≤◌, List, [], ◌∷◌, ◌++◌, length, cond, nat_lt, Option, None, Some, Result, Ok, Err}
+use Rattle.std.specs.Prelude.{◌≡◌, ◌⊎◌, All, Bool, true, false, not, ◌&&◌, ◌≤◌, List, [], ◌∷◌, ◌++◌, length, cond, nat_lt, Option, None, Some, Result, Ok, Err}
 use Rattle.std.specs.List.{list_any, list_all, filter_map, flat_map}
 use Rattle.std.specs.Option.{option_map}
+use Rattle.base_types.specs.Members.{Member}
 use Rattle.tree_model.specs.Paths.{Text, Path, spelled}
 use Rattle.tree_model.specs.Entries.{Entries, IsLinkText, below}
-use Rattle.tree_model.specs.Trees.{FileTree, entry_at, body_limit}
+use Rattle.tree_model.specs.Trees.{FileTree, entry_at, body_limit, IsTooLarge}
 use Rattle.tree_model.specs.declared.walk.Located.{Located}
 use Rattle.tree_model.specs.declared.entry.Entry.{Entry}
 use Rattle.tree_model.specs.declared.entry.Entry.TheVariants.{Dir, File, Link}
@@ -12,9 +13,11 @@ use Rattle.search_path.specs.SetupOf.{SetupData}
 use Rattle.search_path.specs.Search.{Hit}
 use Rattle.search_path.specs.declared.asking.Visit.{Visit}
 use Rattle.job_words.specs.declared.job.Job.{Job}
-use Rattle.job_frames.specs.Request.{request_bytes, most}
+use Rattle.job_frames.specs.Request.{HasSpelling, request_bytes, most}
+use Rattle.pp_tokens.specs.Lines.{LexedFile}
 use Rattle.directive_scan.specs.declared.Piece.{Piece}
-use Rattle.closure_fixpoint.specs.Simple.{name_asked, asks, pieces_of, is_simple, is_flat}
+use Rattle.directive_scan.specs.Directives.{pieces}
+use Rattle.closure_fixpoint.specs.Simple.{name_asked, asks, pieces_of, has_reserved, is_next_or_angle, is_simple, is_flat}
 use Rattle.closure_fixpoint.specs.declared.job_analysis.Refusal.{Refusal}
 use Rattle.closure_fixpoint.specs.declared.job_analysis.Refusal.TheVariants as refusal
 use Rattle.closure_fixpoint.specs.declared.job_analysis.Analysed.{Analysed}
@@ -26,6 +29,10 @@ use Rattle.closure_fixpoint.specs.Analysis.{body_found, target_of, targets_of, i
 -- the pieces of a file that is taken so far
 unfoldable pub simple_of : Text → Option (List Piece)
 simple_of body = cond (is_simple body) (Some (pieces_of body)) None
+
+-- the same, by the tokens of the file
+abbrev pub taken_pieces : LexedFile → Option (List Piece)
+taken_pieces file = cond (not (has_reserved file) && not (list_any is_next_or_angle (pieces file.lines))) (Some (pieces file.lines)) None
 
 -- pieces of which none asks for a name
 abbrev pub is_flat_file : Option (List Piece) → Bool
@@ -39,6 +46,11 @@ targets_from tree setup visit pieces = filter_map (target_of tree setup visit) (
 -- none of the files isn't flat
 abbrev pub are_flat : FileTree → List Located → Bool
 are_flat tree files = not (list_any (λ other. not (is_flat (body_found tree other))) files)
+
+-- a file and the files that its pieces ask for, or that one of these isn't flat
+abbrev pub with_targets : FileTree → SetupData → Visit → Located → List Piece → Result (List Located) Refusal
+with_targets tree setup visit file pieces =
+    cond (are_flat tree (targets_from tree setup visit pieces)) (Ok (file ∷ targets_from tree setup visit pieces)) (Err refusal.Unbuilt)
 
 -- the files of a job whose source's search gave this, or why there are none
 abbrev pub files_from : FileTree → Job → Option Hit → Result (List Located) Refusal
@@ -105,3 +117,9 @@ request_from job entries =
     cond (nat_lt 100000 (length entries))
     (analysed.Refused refusal.Request)
     (cond (nat_lt most (length (request_bytes job entries))) (analysed.Refused refusal.Request) (analysed.Request (request_bytes job entries)))
+
+-- the answer of what stands at paths: that a file there is too large, or the request of the entries, which have spellings
+abbrev pub IsAnswerAt : FileTree → Job → List Path → Analysed → Type 0
+IsAnswerAt tree job paths answer =
+    ((path : Path) × Member path paths × IsTooLarge tree path × (answer ≡ analysed.Refused refusal.Large))
+    ⊎ (All HasSpelling (entries_at tree paths) × (answer ≡ request_from job (entries_at tree paths)))

@@ -1,10 +1,10 @@
 // The files of a job.
-ghost use Rattle.std.specs.Prelude.{◌≡◌, ◌≢◌, ◌++◌, ◌∷◌, [], IfOk, OnOk, IsErrOf, true, Some, Ok};
-ghost use Rattle.std.specs.Option.{ForSome};
+ghost use Rattle.std.specs.Prelude.{◌≡◌, ◌≢◌, ◌++◌, ◌∷◌, [], cond, IfOk, OnOk, IsErrOf, true, None, Some, Ok};
+ghost use Rattle.std.specs.Option.{ForSome, option_map};
 ghost use Rattle.base_types.specs.Causes.{HasCause};
 ghost use Rattle.closure_fixpoint.specs.Simple.{is_flat};
-ghost use Rattle.closure_fixpoint.specs.Analysis.{source_of, body_found, body_at_path, is_plain_job};
-ghost use Rattle.closure_fixpoint.specs.Gathering.{simple_of, targets_from, are_flat, files_from};
+ghost use Rattle.closure_fixpoint.specs.Analysis.{source_of, target_of, body_found, body_at_path, is_plain_job, quoted_by};
+ghost use Rattle.closure_fixpoint.specs.Gathering.{simple_of, targets_from, are_flat, files_from, with_targets};
 
 use crate::Refusal;
 use crate::simple::{asked, is_flat_file, simple_pieces};
@@ -13,7 +13,7 @@ use daemon_cpp::{CppError, read_body};
 use directive_scan::Piece;
 use job_words::Job;
 use search_path::{Ask, Form, Setup, Visit, search};
-use std::alloc::Global;
+use std::alloc::{AllocError, Global};
 use tree_model::{CanonPath, Located, Tree, TreeError};
 
 // The files of a job: its source, and the files of the source's includes; or why there are none.
@@ -27,15 +27,29 @@ pub fn files_found<T: Tree>(
     ensures cause { HasCause TreeError.Fault (T.faults tree.old) (T.faults tree.new) result }
     ensures never_large { IsErrOf result TreeError.Large → ⊥ }
 {
+    match source_found(alloc, tree, job)? {
+        None => Ok(Err(Refusal::NoSource)),
+        Some((visit, source)) => files_of(alloc, tree, job, &visit, source),
+    }
+}
+
+// The source of a job, if it is found.
+fn source_found<T: Tree>(
+    alloc: Global,
+    tree: &mut T,
+    job: &Job,
+) -> Result<Option<(Visit, Located)>, TreeError>
+    ensures same { T.told tree.new ≡ T.told tree.old }
+    ensures found { ForSome (T.told tree.old) (λ told. IfOk result (λ found. found ≡ source_of told job.now)) }
+    ensures cause { HasCause TreeError.Fault (T.faults tree.old) (T.faults tree.new) result }
+    ensures never_large { IsErrOf result TreeError.Large → ⊥ }
+{
     let ask = Ask {
         form: Form::Source,
         from: None,
         name: Bytes::copy_of(alloc, job.source())?,
     };
-    match search(alloc, tree, job.setup(), &ask)? {
-        None => Ok(Err(Refusal::NoSource)),
-        Some(source) => files_of(alloc, tree, job, source),
-    }
+    search(alloc, tree, job.setup(), &ask)
 }
 
 // No file is included in front of the source, and trigraphs are left alone.
@@ -50,31 +64,55 @@ fn files_of<T: Tree>(
     alloc: Global,
     tree: &mut T,
     job: &Job,
-    source: (Visit, Located),
+    visit: &Visit,
+    source: Located,
 ) -> Result<Result<List<Located>, Refusal>, TreeError>
     ensures same { T.told tree.new ≡ T.told tree.old }
-    ensures found { ForSome (T.told tree.old) (λ told. IfOk result (λ found. found ≡ files_from told job.now (Some source))) }
+    ensures found { ForSome (T.told tree.old) (λ told. IfOk result (λ found. found ≡ files_from told job.now (Some (visit.now, source)))) }
+    ensures cause { HasCause TreeError.Fault (T.faults tree.old) (T.faults tree.new) result }
+    ensures never_large { IsErrOf result TreeError.Large → ⊥ }
+{
+    match source_pieces(alloc, tree, job, &source.real)? {
+        None => Ok(Err(Refusal::Unbuilt)),
+        Some(pieces) => with_targets(alloc, tree, job.setup(), visit, pieces.as_slice(), source),
+    }
+}
+
+// The pieces of a job's source, where the job and the source are taken so far.
+fn source_pieces<T: Tree>(
+    alloc: Global,
+    tree: &mut T,
+    job: &Job,
+    source: &CanonPath,
+) -> Result<Option<List<Piece>>, TreeError>
+    ensures same { T.told tree.new ≡ T.told tree.old }
+    ensures pieces { ForSome (T.told tree.old) (λ told. IfOk result (λ file. file ≡ cond (is_plain_job job.now) (simple_of (body_at_path told source.now)) None)) }
     ensures cause { HasCause TreeError.Fault (T.faults tree.old) (T.faults tree.new) result }
     ensures never_large { IsErrOf result TreeError.Large → ⊥ }
 {
     if !is_plain_job(job) {
-        return Ok(Err(Refusal::Unbuilt));
+        return Ok(None);
     }
-    let (visit, located) = source;
-    let pieces = match pieces_at(alloc, tree, &located.real)? {
-        Some(pieces) => pieces,
-        None => return Ok(Err(Refusal::Unbuilt)),
-    };
+    pieces_at(alloc, tree, source)
+}
+
+// A file, and the files that its pieces ask for; or that one of these isn't flat.
+fn with_targets<T: Tree>(
+    alloc: Global,
+    tree: &mut T,
+    setup: &Setup,
+    visit: &Visit,
+    pieces: &[Piece],
+    file: Located,
+) -> Result<Result<List<Located>, Refusal>, TreeError>
+    ensures same { T.told tree.new ≡ T.told tree.old }
+    ensures found { ForSome (T.told tree.old) (λ told. IfOk result (λ found. found ≡ with_targets told setup.now visit.now file pieces.now)) }
+    ensures cause { HasCause TreeError.Fault (T.faults tree.old) (T.faults tree.new) result }
+    ensures never_large { IsErrOf result TreeError.Large → ⊥ }
+{
     let mut files = List::new(alloc);
-    files.push(located)?;
-    if !add_targets(
-        alloc,
-        tree,
-        job.setup(),
-        &visit,
-        pieces.as_slice(),
-        &mut files,
-    )? {
+    files.push(file)?;
+    if !add_targets(alloc, tree, setup, visit, pieces, &mut files)? {
         return Ok(Err(Refusal::Unbuilt));
     }
     Ok(Ok(files))
@@ -122,14 +160,48 @@ fn add_piece<T: Tree>(
         Some(name) => name,
         None => return Ok(true),
     };
-    let ask = Ask {
+    match target_found(alloc, tree, setup, visit, name)? {
+        None => Ok(true),
+        Some(found) => add_file(alloc, tree, found, files),
+    }
+}
+
+// A name in quotes, as a file asks for it.
+fn quoted_by(alloc: Global, visit: &Visit, name: &[u8]) -> Result<Ask, AllocError>
+    ensures { IfOk result (λ ask. ask ≡ quoted_by visit.now name.now) }
+{
+    Ok(Ask {
         form: Form::Quote,
         from: Some(visit.copy(alloc)?),
         name: Bytes::copy_of(alloc, name)?,
-    };
-    match search(alloc, tree, setup, &ask)? {
-        None => Ok(true),
-        Some((_, found)) => add_file(alloc, tree, found, files),
+    })
+}
+
+// The file that a file asks for by a name in quotes, if it is found.
+fn target_found<T: Tree>(
+    alloc: Global,
+    tree: &mut T,
+    setup: &Setup,
+    visit: &Visit,
+    name: &[u8],
+) -> Result<Option<Located>, TreeError>
+    ensures same { T.told tree.new ≡ T.told tree.old }
+    ensures found { ForSome (T.told tree.old) (λ told. IfOk result (λ found. found ≡ target_of told setup.now visit.now name.now)) }
+    ensures cause { HasCause TreeError.Fault (T.faults tree.old) (T.faults tree.new) result }
+    ensures never_large { IsErrOf result TreeError.Large → ⊥ }
+{
+    let ask = quoted_by(alloc, visit, name)?;
+    let hit = search(alloc, tree, setup, &ask)?;
+    Ok(hit_file(hit))
+}
+
+// The file that a search found, if it found one.
+fn hit_file(hit: Option<(Visit, Located)>) -> Option<Located>
+    ensures { result ≡ option_map (λ found. found.1) hit }
+{
+    match hit {
+        None => None,
+        Some((_, file)) => Some(file),
     }
 }
 
@@ -146,9 +218,9 @@ fn add_file<T: Tree>(
     ensures cause { HasCause TreeError.Fault (T.faults tree.old) (T.faults tree.new) result }
     ensures never_large { IsErrOf result TreeError.Large → ⊥ }
 {
-    let file = pieces_at(alloc, tree, &found.real)?;
+    let is_flat = is_flat_file(pieces_at(alloc, tree, &found.real)?);
     files.push(found)?;
-    Ok(is_flat_file(file))
+    Ok(is_flat)
 }
 
 // The pieces of a file that is taken so far; None where it isn't.

@@ -7,7 +7,7 @@ ghost use Rattle.tree_model.specs.Paths.{Path, IsCanonical};
 ghost use Rattle.tree_model.specs.Trees as trees;
 ghost use Rattle.tree_model.specs.Trees.{IsTooLarge, node_at};
 ghost use Rattle.job_frames.specs.Request.{HasSpelling};
-ghost use Rattle.closure_fixpoint.specs.Gathering.{IsSendable, entries_at, request_from};
+ghost use Rattle.closure_fixpoint.specs.Gathering.{IsSendable, IsAnswerAt, entries_at, request_from};
 
 use crate::{Analysed, Refusal};
 use base_types::Bytes;
@@ -16,8 +16,28 @@ use job_words::Job;
 use std::alloc::{AllocError, Global};
 use tree_model::{CanonPath, Entry, Node, Tree, TreeError};
 
+// The request of a job with what stands at paths, or why there is none.
+pub fn request_at<T: Tree>(
+    alloc: Global,
+    tree: &mut T,
+    job: &Job,
+    nodes: &[CanonPath],
+) -> Result<Analysed, TreeError>
+    requires { All IsCanonical nodes.now }
+    ensures same { T.told tree.new ≡ T.told tree.old }
+    ensures answer { ForSome (T.told tree.old) (λ told. IfOk result (λ answer. IsAnswerAt told job.now nodes.now answer)) }
+    ensures cause { HasCause TreeError.Fault (T.faults tree.old) (T.faults tree.new) result }
+    ensures never_large { IsErrOf result TreeError.Large → ⊥ }
+{
+    match gather(alloc, tree, nodes) {
+        Ok(entries) => Ok(request_of(alloc, job, &entries)?),
+        Err(TreeError::Large) => Ok(Analysed::Refused(Refusal::Large)),
+        Err(error) => Err(error),
+    }
+}
+
 // What stands at each path; a path where nothing is has no entry. `Large` where a file there is too large.
-pub fn gather<T: Tree>(
+fn gather<T: Tree>(
     alloc: Global,
     tree: &mut T,
     nodes: &[CanonPath],
@@ -53,10 +73,21 @@ fn add_entry<T: Tree>(
     ensures large { ForSome (T.told tree.old) (λ told. IsErrOf result TreeError.Large → IsTooLarge told path.now) }
     ensures cause { HasCause TreeError.Fault (T.faults tree.old) (T.faults tree.new) result }
 {
-    let entry = match entry_at(alloc, tree, path)? {
-        Some(entry) => entry,
-        None => return Ok(()),
-    };
+    match entry_at(alloc, tree, path)? {
+        None => Ok(()),
+        Some(entry) => Ok(push_entry(alloc, path, entry, entries)?),
+    }
+}
+
+// Adds an entry at a path.
+fn push_entry(
+    alloc: Global,
+    path: &CanonPath,
+    entry: Entry,
+    entries: &mut Vec<(CanonPath, Entry)>,
+) -> Result<(), AllocError>
+    ensures { OnOk result (entries.new.items ≡ entries.old.items ++ (path.now, entry) ∷ []) }
+{
     entries.push((path.copy(alloc)?, entry))?;
     Ok(())
 }
@@ -107,7 +138,7 @@ const ENTRY_LIMIT: usize = 100_000;
 const REQUEST_LIMIT: usize = 268_435_456;
 
 // The request of a job with entries, where it isn't too large.
-pub fn request_of(
+fn request_of(
     alloc: Global,
     job: &Job,
     entries: &[(CanonPath, Entry)],

@@ -4,8 +4,8 @@ ghost use Rattle.base_types.specs.Causes.{HasCause};
 ghost use Rattle.closure_fixpoint.specs.Analysis.{AnalysisHolds};
 
 use crate::files::files_found;
-use crate::gather::{gather, request_of};
-use crate::nodes::{nodes_of, sorted};
+use crate::gather::request_at;
+use crate::nodes::nodes_in_order;
 use base_types::Bytes;
 use job_words::Job;
 use search_path::searches_locate;
@@ -58,10 +58,6 @@ pub fn analyse<T: Tree>(
         Ok(files) => files,
         Err(refusal) => return Ok(Analysed::Refused(refusal)),
     };
-    let nodes = sorted(alloc, nodes_of(alloc, files.as_slice())?)?;
-    match gather(alloc, tree, &nodes) {
-        Ok(entries) => Ok(request_of(alloc, job, &entries)?),
-        Err(TreeError::Large) => Ok(Analysed::Refused(Refusal::Large)),
-        Err(error) => Err(error),
-    }
+    let nodes = nodes_in_order(alloc, files.as_slice())?;
+    request_at(alloc, tree, job, &nodes)
 }

@@ -11,9 +11,18 @@ use std::alloc::{AllocError, Global};
 use std::cmp::Ordering;
 use tree_model::{CanonPath, Located, spellings_are_apart};
 
+// The nodes of files, without the root, each once, in order of their spellings' bytes.
+pub fn nodes_in_order(alloc: Global, files: &[Located]) -> Result<Vec<CanonPath>, AllocError>
+    ensures rising { IfOk result (λ nodes. IsTrue (are_rising nodes.items)) }
+    ensures same { IfOk result (λ nodes. (path : Path) → Member path nodes.items ↔ Member path (gathering.nodes_of files.now)) }
+    ensures canonical { IfOk result (λ nodes. All IsCanonical nodes.items) }
+{
+    sorted(alloc, nodes_of(alloc, files)?)
+}
+
 // The nodes of files, without the root, each as often as it was walked or stands above one that was: a walk of n nodes
 // gives at most the sum of their depths.
-pub fn nodes_of(alloc: Global, files: &[Located]) -> Result<Vec<CanonPath>, AllocError>
+fn nodes_of(alloc: Global, files: &[Located]) -> Result<Vec<CanonPath>, AllocError>
     ensures nodes { IfOk result (λ nodes. nodes.items ≡ gathering.nodes_of files.now) }
     ensures canonical { IfOk result (λ nodes. All IsCanonical nodes.items) }
 {
@@ -54,7 +63,7 @@ fn add_upward(alloc: Global, path: &CanonPath, nodes: &mut Vec<CanonPath>) -> Re
 }
 
 // The same paths, each once, in order of their spellings' bytes.
-pub fn sorted(alloc: Global, nodes: Vec<CanonPath>) -> Result<Vec<CanonPath>, AllocError>
+fn sorted(alloc: Global, nodes: Vec<CanonPath>) -> Result<Vec<CanonPath>, AllocError>
     requires { All IsCanonical nodes.items }
     ensures rising { IfOk result (λ list. IsTrue (are_rising list.items)) }
     ensures same { IfOk result (λ list. (path : Path) → Member path list.items ↔ Member path nodes.items) }

@@ -4,7 +4,7 @@ ghost use Rattle.std.specs.List.{list_any, slice_get, starts_with};
 ghost use Rattle.daemon_cpp.specs.Prep.{is_identifier, is_reserved};
 ghost use Rattle.closure_fixpoint.specs.Simple.{name_in_form, name_asked, asks, has_reserved, is_next_or_angle};
 ghost use Rattle.closure_fixpoint.specs.Gathering as gathering;
-ghost use Rattle.closure_fixpoint.specs.Gathering.{simple_of};
+ghost use Rattle.closure_fixpoint.specs.Gathering.{simple_of, taken_pieces};
 
 use base_types::List;
 use directive_scan::{Directive, HeaderName, Piece, Target, scan};
@@ -25,10 +25,17 @@ pub fn simple_pieces(alloc: Global, body: &[u8]) -> Result<Option<List<Piece>>, 
         return Ok(None);
     }
     let file = lex(alloc, body, false)?;
-    if has_reserved(&file) {
+    taken_pieces(alloc, &file)
+}
+
+// The pieces of a file with these tokens, where it is taken so far.
+fn taken_pieces(alloc: Global, file: &Lexed) -> Result<Option<List<Piece>>, AllocError>
+    ensures { IfOk result (λ found. found ≡ taken_pieces file.now) }
+{
+    if has_reserved(file) {
         return Ok(None);
     }
-    let pieces = scan(alloc, &file)?;
+    let pieces = scan(alloc, file)?;
     if has_next_or_angle(pieces.as_slice()) {
         return Ok(None);
     }

@@ -97,10 +97,9 @@ pub none_of : (o : Option FrameError) → false ≡ is_some o → o ≡ None
 none_of None h = refl
 none_of (Some e) h = absurd (cc)
 
--- what finish gives where all has come
+-- what a reader gives where all has come
 pub finish_says : (o : Option FrameError) (m : Machine) (s : Standing) → (o, m.due, m.pending.items, m.read) ≡ s → false ≡ is_some o → m.due ≡ Whole
-    → option_map (λ job. (job, m.read.entries)) m.read.job ≡ request_of (left s [])
+    → option_map (λ job. (job, s.3.entries)) s.3.job ≡ request_of (left s [])
 finish_says o m s view none e =
-    finish_whole m.due m.pending.items m.read e
-    ∙ ap (λ (x : Option FrameError). request_of (left (x, m.due, m.pending.items, m.read) [])) (sym (none_of o none))
-    ∙ ap (λ (x : Standing). request_of (left x [])) view
+    subst (λ (x : Standing). option_map (λ job. (job, x.3.entries)) x.3.job ≡ request_of (left x [])) view
+    (finish_whole m.due m.pending.items m.read e ∙ ap (λ (x : Option FrameError). request_of (left (x, m.due, m.pending.items, m.read) [])) (sym (none_of o none)))

@@ -1,5 +1,5 @@
 // Where a reader of requests or images stands, and its moves.
-ghost use Rattle.std.specs.Prelude.{◌≡◌, ◌≤◌, ◌<◌, ◌++◌, length, [], true, ◌==◌, IfOk};
+ghost use Rattle.std.specs.Prelude.{◌≡◌, ◌≤◌, ◌<◌, ◌++◌, ◌⊎◌, length, [], true, ◌==◌, IfOk, IfErr, Some, None};
 ghost use Rattle.std.specs.List.{list_any};
 ghost use Rattle.job_frames.specs.Stages.{Keeps, Moves, IsJudged, IsPushed, IsFilled, HasRun, Begins};
 ghost use Rattle.job_frames.specs.Request.{path_reason};
@@ -7,6 +7,7 @@ ghost use Rattle.job_frames.specs.Outcomes.{number_of};
 ghost use Rattle.tree_model.specs.Entries.{judged_path, Increasing};
 ghost use Rattle.job_words.specs.Words.{job_of};
 ghost use Rattle.job_frames.specs.declared.machine.Due.TheVariants as stage;
+ghost use Rattle.job_frames.specs.declared.FrameError.TheVariants as why;
 ghost use Rattle.job_frames.specs.Stages as stages;
 
 use crate::fields::{Number, token_number};
@@ -64,6 +65,29 @@ pub struct Machine {
     pub read: Read,
 }
 
+impl Machine {
+    // The job and the entries that were read.
+    pub fn into_parts(self) -> (Option<Job>, List<(CanonPath, Entry)>)
+        ensures { result ≡ (self.read.job, self.read.entries) }
+    {
+        let Machine {
+            alloc: _,
+            pending: _pending,
+            due: _,
+            read,
+        } = self;
+        let Read {
+            room: _,
+            cwd: _cwd,
+            words: _words,
+            job,
+            entries,
+            path: _path,
+        } = read;
+        (job, entries)
+    }
+}
+
 // A move where a token is due.
 fn token_move(m: &mut Machine) -> Move
     requires token { stages.is_token m.old.due ≡ true }
@@ -112,15 +136,16 @@ fn word_move(m: &mut Machine, k: u32, n: u32) -> Move
     Move::Go
 }
 
-// The job that words give; None where they give none.
+// The job that words give, or why there is none.
 #[tactic(auto, unfolding(job_words::specs::Words::job_of))]
-fn job_given(alloc: Global, cwd: &[u8], words: &[Bytes]) -> Result<Option<Job>, AllocError>
-    ensures { IfOk result (λ job. job ≡ job_of cwd.now words.now) }
+fn read_job(alloc: Global, cwd: &[u8], words: &[Bytes]) -> Result<Job, FrameError>
+    ensures job { IfOk result (λ job. Some job ≡ job_of cwd.now words.now) }
+    ensures why { IfErr result (λ e. (e ≡ why.Memory) ⊎ ((None ≡ job_of cwd.now words.now) × (e ≡ why.Words))) }
 {
     match read_words(alloc, cwd, words) {
-        Ok(job) => Ok(Some(job)),
-        Err(WordError::Memory) => Err(AllocError),
-        Err(_) => Ok(None),
+        Ok(job) => Ok(job),
+        Err(WordError::Memory) => Err(FrameError::Memory),
+        Err(_) => Err(FrameError::Words),
     }
 }
 
@@ -130,10 +155,9 @@ fn words_move(m: &mut Machine) -> Move
     requires keeps { Keeps m.old }
     ensures { Moves m.old m.new result }
 {
-    match job_given(m.alloc, m.read.cwd.as_slice(), m.read.words.as_slice()) {
-        Err(_) => Move::Rest(Fed::Refused(FrameError::Memory)),
-        Ok(None) => Move::Rest(Fed::Refused(FrameError::Words)),
-        Ok(Some(job)) => {
+    match read_job(m.alloc, m.read.cwd.as_slice(), m.read.words.as_slice()) {
+        Err(why) => Move::Rest(Fed::Refused(why)),
+        Ok(job) => {
             m.read.job = Some(job);
             m.due = Due::Count;
             Move::Go

@@ -1,11 +1,12 @@
 // A reader of requests that is fed in any pieces.
-ghost use Rattle.std.specs.Prelude.{◌≡◌, ◌∷◌, [], ◌++◌, ℕ, List};
+ghost use Rattle.std.specs.Prelude.{◌≡◌, ◌∷◌, [], ◌++◌, ℕ, List, true, false, None};
+ghost use Rattle.std.specs.Option.{option_map};
 ghost use Rattle.job_frames.specs.Request.{request_at};
 ghost use Rattle.job_frames.specs.Outcomes.{IsFed, IsEnded, number_of, reason, whatever_follows, value_of};
 ghost use Rattle.job_frames.specs.declared.Fed.TheVariants.{Refused};
 ghost use Rattle.job_frames.specs.Readers.{request_of, left};
 
-use crate::machine::{Due, Machine, Read, begin, run};
+use crate::machine::{Due, Machine, begin, run};
 use crate::{Fed, FrameError};
 use base_types::List;
 use job_words::Job;
@@ -74,33 +75,28 @@ impl RequestReader {
         }
     }
 
+    // All has come, and nothing was wrong.
+    fn is_whole(&self) -> bool
+        ensures whole { result ≡ true → option_map (λ job. (job, self.now.3.entries)) self.now.3.job ≡ request_of (left self.now []) }
+        ensures other { result ≡ false → None ≡ request_of (left self.now []) }
+    {
+        if self.stopped.is_some() {
+            return false;
+        }
+        match self.machine.due {
+            Due::Whole => true,
+            _ => false,
+        }
+    }
+
     /// The job and the entries, exactly where the verdict was `Done`. Bytes behind the request don't matter.
     pub fn finish(self) -> Option<(Job, List<(CanonPath, Entry)>)>
         ensures { result ≡ request_of (left self []) }
     {
-        let RequestReader { machine, stopped } = self;
-        let Machine {
-            alloc: _,
-            pending: _pending,
-            due,
-            read,
-        } = machine;
-        let Read {
-            room: _,
-            cwd: _cwd,
-            words: _words,
-            job,
-            entries,
-            path: _path,
-        } = read;
-        if stopped.is_some() {
-            return None;
-        }
-        match due {
-            Due::Whole => match job {
-                Some(job) => Some((job, entries)),
-                None => None,
-            },
+        let is_whole = self.is_whole();
+        let (job, entries) = self.machine.into_parts();
+        match job {
+            Some(job) if is_whole => Some((job, entries)),
             _ => None,
         }
     }
