@@ -1,7 +1,8 @@
 // The nodes of a tree.
-ghost use Rattle.std.specs.Prelude.{◌≡◌, IfOk, OnErr, Err, IsTrue, Some};
+ghost use Rattle.std.specs.Prelude.{◌≡◌, ◌<◌, length, IfOk, OnErr, IsErrOf, Err, IsTrue, Some};
+ghost use Rattle.tree_model.specs.Paths.{Text};
 ghost use Rattle.tree_model.specs.Trees as trees;
-ghost use Rattle.tree_model.specs.Trees.{is_link};
+ghost use Rattle.tree_model.specs.Trees.{body_limit, body_of, is_link, IsBody};
 ghost use Rattle.tree_model.specs.declared.entry.Node.TheVariants.{Link};
 
 use crate::TreeError;
@@ -27,6 +28,9 @@ pub enum Node {
     Link(Bytes),
 }
 
+/// The greatest length of a file's body that is read.
+const BODY_LIMIT: usize = 16_777_216;
+
 impl Entry {
     /// The node without a file's bytes. A link's text is copied: `Memory` alone is an error, and only of a link.
     pub fn shown(&self, alloc: Global) -> Result<Node, TreeError>
@@ -38,6 +42,26 @@ impl Entry {
             Entry::Dir => Ok(Node::Dir),
             Entry::File(_) => Ok(Node::File),
             Entry::Link(text) => linked(alloc, text),
+        }
+    }
+
+    /// A copy of a file's bytes, or None where this is no file. Only of a file an error comes: `Large` where it has more
+    /// bytes than are read, else `Memory`.
+    pub(crate) fn body(&self, alloc: Global) -> Result<Option<Bytes>, TreeError>
+        ensures ok { IfOk result (λ got. got ≡ body_of (Some self.now)) }
+        ensures form { IfOk result IsBody }
+        ensures large { IsErrOf result TreeError.Large → (body : Text) × (body_of (Some self.now) ≡ Some body) × (body_limit < length body) }
+        ensures no_fault { IsErrOf result TreeError.Fault → ⊥ }
+    {
+        match self {
+            Entry::Dir => Ok(None),
+            Entry::File(body) => {
+                if body.len() > BODY_LIMIT {
+                    return Err(TreeError::Large);
+                }
+                Ok(Some(copied(alloc, body)?))
+            }
+            Entry::Link(_) => Ok(None),
         }
     }
 }

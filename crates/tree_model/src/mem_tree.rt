@@ -10,7 +10,7 @@ ghost use Rattle.tree_model.specs.Trees.{tree_of, node_at, body_at, IsNode, IsBo
 ghost use Rattle.tree_model.specs.declared.entry.Entry.TheVariants.{Dir};
 
 use crate::order::{entry_spelled, judge_entries};
-use crate::{CanonPath, Entry, Frozen, Node, Tree, TreeError, copied, lists_make_trees};
+use crate::{CanonPath, Entry, Frozen, Node, Tree, TreeError, lists_make_trees};
 use base_types::{Bytes, Calls, Counted};
 use std::alloc::Global;
 use std::marker::PhantomData;
@@ -22,9 +22,6 @@ pub enum MirrorError {
     Order,
     Parent,
 }
-
-/// The greatest length of a file's body that is read.
-const BODY_LIMIT: usize = 16_777_216;
 
 /// A tree in memory. The calls of `Tree` are counted from 1, and those whose number is in `fails` answer a fault.
 #[derive(Drop)]
@@ -94,6 +91,44 @@ pub fn entry_at<'a>(
     entry_spelled(entries, path.bytes())
 }
 
+// The node that the tree of the entries has at a path, if one is there.
+fn node_among(
+    alloc: Global,
+    entries: &[(CanonPath, Entry)],
+    path: &CanonPath,
+) -> Result<Option<Node>, TreeError>
+    requires made { IsTrue (makes_tree entries.now) }
+    requires whole { IsTree (tree_of entries.now) }
+    ensures answer { IfOk result (λ got. got ≡ node_at (tree_of entries.now) path.now) }
+    ensures form { IfOk result IsNode }
+    ensures memory { (e : _) → result ≡ Err e → e ≡ TreeError.Memory }
+{
+    let root = Entry::Dir;
+    match entry_at(&root, entries, path) {
+        None => Ok(None),
+        Some(entry) => Ok(Some(entry.shown(alloc)?)),
+    }
+}
+
+// The body of the file that the tree of the entries has at a path, if one is there.
+fn body_among(
+    alloc: Global,
+    entries: &[(CanonPath, Entry)],
+    path: &CanonPath,
+) -> Result<Option<Bytes>, TreeError>
+    requires { IsTrue (makes_tree entries.now) }
+    ensures answer { IfOk result (λ got. got ≡ body_at (tree_of entries.now) path.now) }
+    ensures form { IfOk result IsBody }
+    ensures large { IsErrOf result TreeError.Large → IsTooLarge (tree_of entries.now) path.now }
+    ensures no_fault { IsErrOf result TreeError.Fault → ⊥ }
+{
+    let root = Entry::Dir;
+    match entry_at(&root, entries, path) {
+        None => Ok(None),
+        Some(entry) => entry.body(alloc),
+    }
+}
+
 impl<F: Frozen> Counted for MemTree<F> {
     ghost calls = { λ m. m.calls.made };
 
@@ -127,11 +162,7 @@ impl<F: Frozen> Tree for MemTree<F> {
         if self.calls.next_fails() {
             return Err(TreeError::Fault);
         }
-        let root = Entry::Dir;
-        match entry_at(&root, &self.entries, path) {
-            None => Ok(None),
-            Some(entry) => Ok(Some(entry.shown(self.alloc)?)),
-        }
+        node_among(self.alloc, &self.entries, path)
     }
 
     fn read(&mut self, path: &CanonPath) -> Result<Option<Bytes>, TreeError>
@@ -149,19 +180,6 @@ impl<F: Frozen> Tree for MemTree<F> {
         if self.calls.next_fails() {
             return Err(TreeError::Fault);
         }
-        let root = Entry::Dir;
-        match entry_at(&root, &self.entries, path) {
-            None => Ok(None),
-            Some(entry) => match entry {
-                Entry::Dir => Ok(None),
-                Entry::File(body) => {
-                    if body.len() > BODY_LIMIT {
-                        return Err(TreeError::Large);
-                    }
-                    Ok(Some(copied(self.alloc, body)?))
-                }
-                Entry::Link(_) => Ok(None),
-            },
-        }
+        body_among(self.alloc, &self.entries, path)
     }
 }

@@ -100,18 +100,6 @@ fn is_spelling(text: &[u8]) -> bool
     *first == b'/' && (names.is_empty() || are_names(names))
 }
 
-// A stem, and then a name after a slash.
-fn below(alloc: Global, stem: &[u8], name: &[u8]) -> Result<Vec<u8>, AllocError>
-    requires { length stem.now + length name.now < 4096 }
-    ensures { IfOk result (λ text. text.items ≡ stem.now ++ slash ∷ name.now) }
-{
-    let mut text = Vec::with_capacity(alloc, stem.len() + 1 + name.len())?;
-    text.extend_from_slice(stem)?;
-    text.push(b'/')?;
-    text.extend_from_slice(name)?;
-    Ok(text)
-}
-
 // The first bytes of a text, and then a name after a slash.
 fn extended(text: Vec<u8>, stem: usize, name: &[u8]) -> Result<Vec<u8>, AllocError>
     ensures { IfOk result (λ longer. longer.items ≡ take stem text.items ++ slash ∷ name.now) }
@@ -227,11 +215,12 @@ impl CanonPath {
     pub fn child(&self, alloc: Global, name: &[u8]) -> Result<Option<CanonPath>, AllocError>
         ensures { IfOk result (λ path. path ≡ child_of self.now name.now) }
     {
-        let stem = self.stem();
-        if !is_name(name) || stem.len() + name.len() >= PATH_LIMIT {
+        let stem = self.stem().len();
+        if !is_name(name) || stem + name.len() >= PATH_LIMIT {
             return Ok(None);
         }
-        let bytes = below(alloc, stem, name)?;
+        let copy = roomy(alloc, self.bytes.as_slice(), 1 + name.len())?;
+        let bytes = extended(copy, stem, name)?;
         Ok(Some(CanonPath { bytes }))
     }
 
