@@ -8,7 +8,8 @@ use std::rt::Files;
 /// The most bytes that the lexer takes.
 pub const BODY_LIMIT: usize = 16_777_216;
 
-/// The body of a file that has at most 16 MiB.
+/// The body of a file. The error says that no file stands at the path, that it has more than 16 MiB, or why the host didn't
+/// read it; want of memory is one of the host's errors.
 pub fn read_body<R: Files + AllocGlobal>(rt: &R, path: &str) -> Result<Vec<u8>>
     ensures { IfOk result (λ body. length body.items ≤ 16777216) }
 {
