@@ -3,7 +3,8 @@ use Rattle.std.specs.Prelude.{◌≡◌, ℕ, ◌+◌, ◌<◌, ◌≤◌, Bool,
 use Rattle.std.proofs.Common.{sym, ◌∙◌, ap, append_assoc}
 use Rattle.std.proofs.lemmas.List.{append-nil, at_drop_more, at_drop_all}
 use Rattle.pp_tokens.specs.declared.Token.{Token}
-use Rattle.directive_scan.specs.HeaderNames.{is_mark, spaced, up_to_close}
+use Rattle.pp_tokens.specs.Marks.{is_mark}
+use Rattle.directive_scan.specs.HeaderNames.{spaced, up_to_close}
 
 -- what was gathered of a name, with what the tokens from here on add
 abbrev pub gathered : List ℕ → Option (List ℕ) → Option (List ℕ)

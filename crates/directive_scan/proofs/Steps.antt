@@ -4,7 +4,7 @@ use Rattle.std.specs.Prelude.{if◌then◌else◌}
 use Rattle.std.proofs.lemmas.List.{at_drop_more, at_drop_all}
 use Rattle.std.proofs.lemmas.Option.{unwrap_or-slice_get}
 use Rattle.pp_tokens.specs.declared.Token.{Token}
-use Rattle.pp_tokens.specs.Lines.{LexedFile, is_hash}
+use Rattle.pp_tokens.specs.Lines.{LexedFile, spells_hash}
 use Rattle.directive_scan.specs.declared.directive.Piece.{Piece}
 use Rattle.directive_scan.specs.declared.directive.Piece.TheVariants.{Line}
 use Rattle.directive_scan.specs.Directives.{directive_of, onto_run, line_before, pieces}
@@ -14,7 +14,7 @@ use Rattle.directive_scan.specs.Gathered.{line_at, hash_of}
 pub line-directive : (line : List Token) (at : ℕ) (others : List Piece) → Some at ≡ hash_of line → line_before line others ≡ Line at (directive_of (drop 1 line)) ∷ others
 unfolding hash_of
 line-directive [] at others is = absurd (cc)
-line-directive (t ∷ ts) at others is = begun (is_hash t.text) is
+line-directive (t ∷ ts) at others is = begun (spells_hash t.text) is
   where
     begun : (b : Bool) → Some at ≡ (if b then Some t.line else None) → (if b then Line t.line (directive_of ts) ∷ others else onto_run (t ∷ ts) others) ≡ Line at (directive_of ts) ∷ others
     begun true same = let line : at ≡ t.line = cc in ap (λ (n : ℕ). Line n (directive_of ts) ∷ others) (sym line)
@@ -24,7 +24,7 @@ line-directive (t ∷ ts) at others is = begun (is_hash t.text) is
 pub line-text : (line : List Token) (others : List Piece) → None ≡ hash_of line → line_before line others ≡ onto_run line others
 unfolding hash_of
 line-text [] others is = refl
-line-text (t ∷ ts) others is = begun (is_hash t.text) is
+line-text (t ∷ ts) others is = begun (spells_hash t.text) is
   where
     begun : (b : Bool) → None ≡ (if b then Some t.line else None) → (if b then Line t.line (directive_of ts) ∷ others else onto_run (t ∷ ts) others) ≡ onto_run (t ∷ ts) others
     begun true same = absurd (cc)

@@ -1,10 +1,10 @@
 -- The directives of a file, from its logical lines of tokens (ISO C 6.10).
-use Rattle.std.specs.Prelude.{ℕ, ◌-◌, Bool, ◌||◌, List, [], ◌∷◌, ◌++◌, length, take, drop, if◌then◌else◌, nat_eq, codes, bytes_eq}
+use Rattle.std.specs.Prelude.{ℕ, ◌-◌, List, [], ◌∷◌, ◌++◌, length, take, drop, if◌then◌else◌, nat_eq, codes, bytes_eq}
 use Rattle.std.specs.List.{starts_with}
 use Rattle.pp_tokens.specs.declared.Kind.{Kind}
 use Rattle.pp_tokens.specs.declared.Kind.TheVariants as kind
 use Rattle.pp_tokens.specs.declared.Token.{Token}
-use Rattle.pp_tokens.specs.Lines.{is_hash}
+use Rattle.pp_tokens.specs.Lines.{spells_hash}
 use Rattle.directive_scan.specs.declared.directive.HeaderName.{HeaderName}
 use Rattle.directive_scan.specs.declared.directive.Target.{Target}
 use Rattle.directive_scan.specs.declared.directive.Target.TheVariants.{Plain, Computed}
@@ -70,7 +70,7 @@ onto_run line (Line at what ∷ ps) = Run line ∷ (Line at what ∷ ps)
 -- a logical line more in front: a directive where its first token is `#` or `%:`, else text (6.10 paragraph 2)
 abbrev pub line_before : List Token → List Piece → List Piece
 line_before [] ps = onto_run [] ps
-line_before (t ∷ ts) ps = if is_hash t.text then Line t.line (directive_of ts) ∷ ps else onto_run (t ∷ ts) ps
+line_before (t ∷ ts) ps = if spells_hash t.text then Line t.line (directive_of ts) ∷ ps else onto_run (t ∷ ts) ps
 
 -- the pieces of a file, from its logical lines
 unfoldable pub pieces : List (List Token) → List Piece

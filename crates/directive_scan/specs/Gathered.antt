@@ -2,7 +2,7 @@
 use Rattle.std.specs.Prelude.{ℕ, List, [], ◌∷◌, ◌++◌, if◌then◌else◌, Option, None, Some, unwrap_or}
 use Rattle.std.specs.List.{slice_get}
 use Rattle.pp_tokens.specs.declared.Token.{Token}
-use Rattle.pp_tokens.specs.Lines.{LexedFile, is_hash}
+use Rattle.pp_tokens.specs.Lines.{LexedFile, spells_hash}
 use Rattle.directive_scan.specs.declared.directive.Piece.{Piece}
 use Rattle.directive_scan.specs.Directives.{onto_run}
 
@@ -13,7 +13,7 @@ line_at file line = unwrap_or (slice_get file.lines line) []
 -- the physical line of the `#` of a directive; none where the logical line is text (6.10 paragraph 2)
 unfoldable pub hash_of : List Token → Option ℕ
 hash_of [] = None
-hash_of (t ∷ ts) = if is_hash t.text then Some t.line else None
+hash_of (t ∷ ts) = if spells_hash t.text then Some t.line else None
 
 -- the pieces of a file: those of the lines that were gone through, of which the last ones may be a run that goes on,
 -- and those of the other lines

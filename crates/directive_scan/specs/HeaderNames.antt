@@ -1,8 +1,7 @@
 -- The header name that the expanded tokens of an include line give (ISO C 6.10.2 paragraph 4).
-use Rattle.std.specs.Prelude.{ℕ, ◌-◌, Bool, true, false, not, ◌&&◌, List, [], ◌∷◌, ◌++◌, length, take, drop, if◌then◌else◌, nat_eq, Option, Some, None, option_map, option_and_then, codes, bytes_eq}
+use Rattle.std.specs.Prelude.{ℕ, ◌-◌, Bool, true, false, not, ◌&&◌, List, [], ◌∷◌, ◌++◌, length, take, drop, if◌then◌else◌, nat_eq, Option, Some, None, option_map, option_and_then, codes}
 use Rattle.std.specs.List.{starts_with}
-use Rattle.pp_tokens.specs.declared.Kind.{Kind}
-use Rattle.pp_tokens.specs.declared.Kind.TheVariants as kind
+use Rattle.pp_tokens.specs.Marks.{is_string, is_mark}
 use Rattle.pp_tokens.specs.declared.Token.{Token}
 use Rattle.directive_scan.specs.declared.directive.HeaderName.{HeaderName}
 
@@ -15,21 +14,9 @@ named angle (b ∷ bs) = Some (record { angle = angle; name = b ∷ bs })
 abbrev pub between : List ℕ → List ℕ
 between text = take (length text - 2) (drop 1 text)
 
--- the kind is that of string literals (6.4.5)
-abbrev pub is_string : Kind → Bool
-is_string k = elim k [ kind.Str ↦ true | _ ↦ false ]
-
--- the kind is that of punctuators (6.4.6)
-abbrev pub is_punctuator : Kind → Bool
-is_punctuator k = elim k [ kind.Punct ↦ true | _ ↦ false ]
-
 -- the token is a string literal without a prefix (6.4.5)
 abbrev pub is_plain_string : Token → Bool
-is_plain_string t = is_string t.kind && starts_with nat_eq t.text (34 ∷ [])
-
--- the token is the punctuator with this spelling (6.4.6)
-abbrev pub is_mark : List ℕ → Token → Bool
-is_mark spelling t = is_punctuator t.kind && bytes_eq t.text spelling
+is_plain_string t = is_string t && starts_with nat_eq t.text (34 ∷ [])
 
 -- one space where white space stands before the token, unless it is the first
 abbrev pub space_before : Bool → Token → List ℕ

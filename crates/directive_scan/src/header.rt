@@ -1,10 +1,10 @@
 // The header names that expanded tokens give (ISO C 6.10.2 paragraph 4).
 ghost use Rattle.std.specs.Prelude.{◌≡◌, ◌++◌, ◌∷◌, ◌-◌, true, false, length, take, drop, option_and_then, IfOk, OnOk};
-ghost use Rattle.directive_scan.specs.HeaderNames.{named, between, is_string, is_punctuator, is_plain_string, is_mark, space_before, spaced, up_to_close, header_named};
+ghost use Rattle.directive_scan.specs.HeaderNames.{named, between, is_plain_string, space_before, spaced, up_to_close, header_named};
 
 use crate::directive::HeaderName;
 use base_types::Bytes;
-use pp_tokens::{Kind, Token};
+use pp_tokens::Token;
 use std::alloc::{AllocError, Global};
 
 /// The header name that the expanded tokens of an `#include` give (ISO C 6.10.2 paragraph 4), without its delimiters; None
@@ -30,7 +30,7 @@ fn name_at(alloc: Global, first: &Token, behind: &[Token]) -> Result<Option<Head
     if is_plain_string(first) {
         return string_name(alloc, first.text.as_slice());
     }
-    if is_mark(first, b"<") {
+    if first.is_mark(b"<") {
         return angle_name(alloc, behind);
     }
     Ok(None)
@@ -61,7 +61,7 @@ fn up_to_close(alloc: Global, tokens: &[Token]) -> Result<Option<Bytes>, AllocEr
     let mut name = Bytes::new(alloc);
     let mut first = true;
     for token in tokens {
-        if is_mark(token, b">") {
+        if token.is_mark(b">") {
             return Ok(Some(name));
         }
         add_spelling(&mut name, token, first)?;
@@ -97,26 +97,7 @@ fn named(angle: bool, name: Bytes) -> Option<HeaderName>
 fn is_plain_string(token: &Token) -> bool
     ensures { result ≡ is_plain_string token.now }
 {
-    is_string(token.kind) && token.text.as_slice().starts_with(b"\"")
-}
-
-// Whether a token is the punctuator with this spelling.
-fn is_mark(token: &Token, spelling: &[u8]) -> bool
-    ensures { result ≡ is_mark spelling.now token.now }
-{
-    is_punctuator(token.kind) && token.text.as_slice() == spelling
-}
-
-fn is_string(kind: Kind) -> bool
-    ensures { result ≡ is_string kind }
-{
-    matches!(kind, Kind::Str)
-}
-
-fn is_punctuator(kind: Kind) -> bool
-    ensures { result ≡ is_punctuator kind }
-{
-    matches!(kind, Kind::Punct)
+    token.is_string() && token.text.as_slice().starts_with(b"\"")
 }
 
 /// What stands between the first byte and the last one.

@@ -3,7 +3,7 @@ use Rattle.std.proofs.Common.{◌≡◌, ℕ, suc, zero, ◌+◌, ◌-◌, ◌<�
 use Rattle.std.specs.Prelude.{not, ◌&&◌, ◌||◌}
 use Rattle.std.proofs.lemmas.List.{take_rest, drop_all}
 use Rattle.pp_tokens.specs.declared.Token.{Token}
-use Rattle.macro_defs.specs.Marks.{is_hash, is_pasting}
+use Rattle.pp_tokens.specs.Marks.{is_hash, is_pasting}
 use Rattle.macro_defs.specs.Defining.{ends_with_pasting, hashes_parameters, begins_with_parameter, is_wrong_hash}
 use Rattle.macro_defs.proofs.Fronts.{front_at}
 

@@ -5,7 +5,7 @@ use Rattle.pp_tokens.specs.declared.Token.{Token}
 use Rattle.macro_defs.specs.declared.definition.Shape.TheVariants.{Object}
 use Rattle.macro_defs.specs.declared.definition.DefineError.{DefineError}
 use Rattle.macro_defs.specs.declared.definition.DefineError.TheVariants.{Name}
-use Rattle.macro_defs.specs.Marks.{is_open}
+use Rattle.pp_tokens.specs.Marks.{is_open}
 use Rattle.macro_defs.specs.MacroDefinition.{MacroDefinition}
 use Rattle.macro_defs.specs.Defining.{Named, Refuses, names_macro, after_name, enclosed_of, up_to_close, with_body, defined_by}
 use Rattle.std.proofs.lemmas.List.{take_rest}

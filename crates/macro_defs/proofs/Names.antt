@@ -10,7 +10,7 @@ use Rattle.std.proofs.lemmas.Slice.Eq.{bytes_eq-Decides}
 use Rattle.std.proofs.lemmas.List.Folds.{list_any-append}
 use Rattle.indexmap.specs.IndexSet.{insert_key}
 use Rattle.pp_tokens.specs.declared.Token.{Token}
-use Rattle.macro_defs.specs.Marks.{is_hash, is_identifier}
+use Rattle.pp_tokens.specs.Marks.{is_hash, is_identifier}
 use Rattle.macro_defs.specs.Defining.{are_distinct, hashes_parameters, begins_with_parameter}
 use Rattle.macro_defs.specs.Stored.{spelled}
 use Rattle.macro_defs.proofs.Fronts.{front_at}

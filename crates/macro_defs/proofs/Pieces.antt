@@ -3,7 +3,7 @@ use Rattle.std.proofs.Common.{◌≡◌, ℕ, Bool, true, false, List, [], ◌�
 use Rattle.std.specs.Prelude.{◌||◌}
 use Rattle.std.specs.List.{list_any}
 use Rattle.pp_tokens.specs.declared.Token.{Token}
-use Rattle.macro_defs.specs.Marks.{is_comma, is_close}
+use Rattle.pp_tokens.specs.Marks.{is_comma, is_close}
 use Rattle.macro_defs.specs.Defining.{Parameters, IsParted, up_to_close, within_more, cut_at_commas, onto_first, listed, before_parameters, last_parameter, behind_names}
 
 -- neither is there

@@ -6,7 +6,7 @@ use Rattle.macro_defs.specs.declared.definition.Shape.{Shape}
 use Rattle.macro_defs.specs.declared.definition.Shape.TheVariants.{Object, Function}
 use Rattle.macro_defs.specs.declared.definition.DefineError.{DefineError}
 use Rattle.macro_defs.specs.declared.definition.DefineError.TheVariants as error
-use Rattle.macro_defs.specs.Marks.{is_identifier, is_comma, is_open, is_close, is_ellipsis, is_hash, is_pasting}
+use Rattle.pp_tokens.specs.Marks.{is_identifier, is_comma, is_open, is_close, is_ellipsis, is_hash, is_pasting}
 use Rattle.macro_defs.specs.MacroDefinition.{MacroDefinition, without_line}
 
 -- a name and its definition

@@ -1,11 +1,9 @@
 -- Macro definitions and tables of them (ISO C 6.10.3).
---     Marks              the punctuators and identifiers that macros are written with
 --     MacroDefinition    what a definition means
 --     Sameness           when two definitions are the same
 --     Defining           what a `#define` line defines, or the first thing that is wrong with it
 --     Table              which definition each name has
 --     Stored             how maps and sets of names are seen
-pub mod Marks
 pub mod MacroDefinition
 pub mod Sameness
 pub mod Defining

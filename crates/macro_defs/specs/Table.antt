@@ -1,5 +1,5 @@
--- Which definition each name has (ISO C 6.10.3.5).
-use Rattle.std.specs.Prelude.{◌≡◌, ℕ, true, List, [], ◌∷◌, if◌then◌else◌, Option, Some, None, codes, bytes_eq}
+-- Which definition each name has (ISO C 6.10.3.5), and which names are defined (6.10.1).
+use Rattle.std.specs.Prelude.{◌≡◌, ℕ, Bool, true, ◌||◌, List, [], ◌∷◌, if◌then◌else◌, Option, Some, None, is_some, codes, bytes_eq}
 use Rattle.pp_tokens.specs.declared.Kind.{Kind}
 use Rattle.pp_tokens.specs.declared.Kind.TheVariants.{Number, Str}
 use Rattle.macro_defs.specs.declared.definition.Shape.TheVariants.{Object}
@@ -14,6 +14,14 @@ Entries = List (List ℕ × Option MacroDefinition)
 unfoldable pub lookup : Entries → List ℕ → Option MacroDefinition
 lookup [] name = None
 lookup (e ∷ es) name = if bytes_eq name e.0 then e.1 else lookup es name
+
+-- the names that are defined in every table, though a `#define` gives them nothing (6.10.1, 6.10.8.1)
+abbrev pub is_always_defined : List ℕ → Bool
+is_always_defined name = bytes_eq name (codes "__FILE__") || (bytes_eq name (codes "__LINE__") || bytes_eq name (codes "__has_include"))
+
+-- whether a name is defined, as `#ifdef`, `#ifndef` and the operator `defined` ask (6.10.1)
+abbrev pub is_defined : Entries → List ℕ → Bool
+is_defined entries name = is_some (lookup entries name) || is_always_defined name
 
 -- a table is another one with this for a name
 abbrev pub Sets : Entries → List ℕ → Option MacroDefinition → Entries → Type 0

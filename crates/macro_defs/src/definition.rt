@@ -7,6 +7,7 @@ use base_types::{Bytes, List};
 use pp_tokens::Token;
 use std::alloc::{AllocError, Global};
 use std::marker::Model;
+use thiserror::Error;
 
 /// The form of a macro (ISO C 6.10.3 paragraphs 9 and 10). `params` are the parameters' names in order. Where `variadic`,
 /// the last is that of the variable argument: `__VA_ARGS__` for `...`, `NAME` for `NAME...`.
@@ -38,7 +39,8 @@ impl Definition {
     ghost use Rattle.macro_defs.specs.Defining.{definition_of};
     ghost use Rattle.macro_defs.specs.MacroDefinition.{without_line};
 
-    /// A definition of this form with this replacement list.
+    /// A definition of this form with this replacement list. Any list is taken: of one that `read_define` refuses, expansion leaves
+    /// out a `#` that no parameter follows and a `##` that stands first or last (ISO C 6.10.3.2 paragraph 1, 6.10.3.3 paragraph 1).
     pub fn new(shape: Shape, body: List<Token>) -> Definition
         ensures { result ≡ definition_of shape body }
     {
@@ -97,13 +99,18 @@ impl Eq for Definition {
 /// (`defined`, `__FILE__`, `__LINE__`, `__VA_ARGS__`, `__has_include`). `Params`: else, a `(` right behind the name begins no
 /// list of distinct parameters (ISO C 6.10.3 paragraphs 5, 6 and 10). `PasteEnd`: else, `##` stands first or last in the
 /// replacement list (6.10.3.3 paragraph 1). `Hash`: else, a `#` of a function-like macro is followed by no parameter (6.10.3.2
-/// paragraph 1). `Memory`: no memory was found.
-#[derive(Clone, Copy, Debug, PartialEq, Eq, Drop)]
+/// paragraph 1). `Memory`: no memory was found. Each is shown by its name.
+#[derive(Clone, Copy, Debug, PartialEq, Eq, Drop, Error)]
 pub enum DefineError {
+    #[error("Name")]
     Name,
+    #[error("Params")]
     Params,
+    #[error("PasteEnd")]
     PasteEnd,
+    #[error("Hash")]
     Hash,
+    #[error("Memory")]
     Memory,
 }
 

@@ -7,7 +7,7 @@ ghost use Rattle.macro_defs.specs.Defining as spec;
 ghost use Rattle.macro_defs.specs.Defining.{Parameters, RefusesParameters, before_parameters, last_parameter, cut_at_commas, is_written_reserved};
 
 use crate::DefineError;
-use crate::marks::{is_identifier, is_mark, parted};
+use crate::marks::parted;
 use base_types::{Bytes, List};
 use indexmap::IndexSet;
 use pp_tokens::Token;
@@ -81,7 +81,7 @@ fn named_before(piece: &[Token]) -> Option<&[u8]>
     let [token] = piece else {
         return None;
     };
-    if !is_identifier(token) {
+    if !token.is_identifier() {
         return None;
     }
     Some(token.text.as_slice())
@@ -102,10 +102,10 @@ fn named_last(piece: &[Token]) -> Option<(&[u8], bool)>
 fn named_alone(token: &Token) -> Option<(&[u8], bool)>
     ensures { MatchOption result (last_parameter (token.now ∷ []) ≡ None) (λ p. last_parameter (token.now ∷ []) ≡ Some (record { names = p.0.now ∷ []; variadic = p.1 })) }
 {
-    if is_mark(token, b"...") {
+    if token.is_mark(b"...") {
         return Some((VARIABLE_ARGUMENT, true));
     }
-    if !is_identifier(token) {
+    if !token.is_identifier() {
         return None;
     }
     Some((token.text.as_slice(), false))
@@ -115,10 +115,10 @@ fn named_alone(token: &Token) -> Option<(&[u8], bool)>
 fn named_variadic<'t>(token: &'t Token, dots: &Token) -> Option<(&'t [u8], bool)>
     ensures { MatchOption result (last_parameter (token.now ∷ dots.now ∷ []) ≡ None) (λ p. last_parameter (token.now ∷ dots.now ∷ []) ≡ Some (record { names = p.0.now ∷ []; variadic = p.1 })) }
 {
-    if !is_identifier(token) {
+    if !token.is_identifier() {
         return None;
     }
-    if !is_mark(dots, b"...") {
+    if !dots.is_mark(b"...") {
         return None;
     }
     Some((token.text.as_slice(), true))

@@ -8,7 +8,7 @@ use crate::params::parameters_of;
 use crate::replacement::{hashes_parameters, with_body};
 use crate::{DefineError, Definition, Shape};
 use base_types::Bytes;
-use pp_tokens::{Kind, Token};
+use pp_tokens::Token;
 use std::alloc::Global;
 
 /// Whether a token may name a macro, in `#define` and in `#undef` (ISO C 6.10.8 paragraph 4): an identifier other than
@@ -16,7 +16,7 @@ use std::alloc::Global;
 pub fn names_macro(token: &Token) -> bool
     ensures { result ≡ spec.names_macro token.now }
 {
-    token.kind == Kind::Ident && !is_reserved(token.text.as_slice())
+    token.is_identifier() && !is_reserved(token.text.as_slice())
 }
 
 // Whether an identifier names no macro of a program.

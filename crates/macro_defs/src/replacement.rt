@@ -5,7 +5,6 @@ ghost use Rattle.macro_defs.specs.Defining as spec;
 ghost use Rattle.macro_defs.specs.Defining.{Refuses};
 
 use crate::copies::copy_tokens;
-use crate::marks::{is_hash, is_identifier, is_pasting};
 use crate::params::{holds, known_names};
 use crate::{DefineError, Definition, Shape};
 use base_types::Bytes;
@@ -40,7 +39,7 @@ fn begins_with_pasting(body: &[Token]) -> bool
     ensures { result ≡ spec.begins_with_pasting body.now }
 {
     match body {
-        [first, ..] => is_pasting(first),
+        [first, ..] => first.is_pasting(),
         [] => false,
     }
 }
@@ -51,7 +50,7 @@ fn ends_with_pasting(body: &[Token]) -> bool
     if body.is_empty() {
         return false;
     }
-    is_pasting(&body[body.len() - 1])
+    body[body.len() - 1].is_pasting()
 }
 
 // Whether a parameter follows each `#`.
@@ -81,14 +80,14 @@ fn hashes_known(known: &IndexSet<&[u8]>, body: &[Token]) -> bool
 fn is_wrong_hash(known: &IndexSet<&[u8]>, token: &Token, behind: &[Token]) -> bool
     ensures { result ≡ spec.is_wrong_hash (spelled known.now.keys) token.now behind.now }
 {
-    is_hash(token) && !begins_with_parameter(known, behind)
+    token.is_hash() && !begins_with_parameter(known, behind)
 }
 
 fn begins_with_parameter(known: &IndexSet<&[u8]>, tokens: &[Token]) -> bool
     ensures { result ≡ spec.begins_with_parameter (spelled known.now.keys) tokens.now }
 {
     match tokens {
-        [first, ..] => is_identifier(first) && holds(known, first.text.as_slice()),
+        [first, ..] => first.is_identifier() && holds(known, first.text.as_slice()),
         [] => false,
     }
 }

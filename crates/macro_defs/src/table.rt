@@ -1,6 +1,6 @@
 // A table of macros.
 ghost use Rattle.std.specs.Prelude.{◌≡◌, IfOk, Some};
-ghost use Rattle.macro_defs.specs.Table.{one_token};
+ghost use Rattle.macro_defs.specs.Table.{one_token, is_always_defined};
 
 use crate::{Definition, Shape};
 use base_types::{Bytes, List};
@@ -27,8 +27,9 @@ impl Model for MacroTable {
 }
 
 impl MacroTable {
-    ghost use Rattle.std.specs.Prelude.{◌≡◌, IfOk, OnOk, OnErr, MatchOption, Some, None};
-    ghost use Rattle.macro_defs.specs.Table.{lookup, with_definition, Sets, one_token, initial_entries};
+    ghost use Rattle.std.specs.Prelude.{◌≡◌, length, slice_get, IfOk, OnOk, OnErr, MatchOption, Some, None};
+    ghost use Rattle.std.specs.Option.{option_map, option_copied};
+    ghost use Rattle.macro_defs.specs.Table.{lookup, is_defined, with_definition, Sets, one_token, initial_entries};
 
     /// The macros that every translation begins with (ISO C 6.10.8.1): `__STDC__`, `__STDC_VERSION__`, `__STDC_HOSTED__`,
     /// `__DATE__` and `__TIME__`, the last two those of the epoch.
@@ -98,6 +99,42 @@ impl MacroTable {
             None => None,
         }
     }
+
+    /// Whether a name is defined, as `#ifdef`, `#ifndef` and `defined` ask (ISO C 6.10.1): it has a definition, or it is
+    /// `__FILE__`, `__LINE__` or `__has_include`, of which `get` knows nothing.
+    pub fn is_defined(&self, name: &[u8]) -> bool
+        ensures { result ≡ is_defined self.now name.now }
+    {
+        match self.get(name) {
+            Some(_definition) => true,
+            None => is_always_defined(name),
+        }
+    }
+
+    /// How many names were ever defined.
+    pub fn len(&self) -> usize
+        ensures { result ≡ length self.now }
+    {
+        self.entries.len()
+    }
+
+    /// The name at a place, in the order of the first definitions, with its definition, or None where it was undefined
+    /// since; None past the last name.
+    pub fn entry_at(&self, place: usize) -> Option<(&[u8], Option<&Definition>)>
+        ensures { option_map (λ e. (e.0.now, option_copied e.1)) result ≡ slice_get self.now place }
+    {
+        let (name, definition) = self.entries.get_index(place)?;
+        Some((name.as_slice(), definition.as_ref()))
+    }
+}
+
+// Whether a name is defined in every table.
+fn is_always_defined(name: &[u8]) -> bool
+    ensures { result ≡ is_always_defined name.now }
+{
+    name == b"__FILE__".as_slice()
+        || name == b"__LINE__".as_slice()
+        || name == b"__has_include".as_slice()
 }
 
 // An object-like macro of one token, written behind white space.

@@ -51,7 +51,7 @@ fn add_line(
 ) -> Result<(), AllocError> {
     match defined(rt, alloc, line) {
         Ok((name, definition)) => add_named(text, &name, &definition),
-        Err(e) => write!(text, "{e:?}"),
+        Err(e) => write!(text, "{e}"),
     }
 }
 
@@ -94,11 +94,35 @@ fn add_macro(text: &mut String, table: &MacroTable, name: &str) -> Result<(), Al
     }
 }
 
-// A `#define` line, or a name in a table, gives this.
+// The names of a table in their order, each with what it stands for.
+fn add_entries(text: &mut String, table: &MacroTable) -> Result<(), AllocError> {
+    for place in 0..table.len() {
+        add_entry(text, table, place)?;
+    }
+    Ok(())
+}
+
+fn add_entry(text: &mut String, table: &MacroTable, place: usize) -> Result<(), AllocError> {
+    match table.entry_at(place) {
+        Some((name, Some(definition))) => {
+            write!(text, "{}", std::str::from_utf8(name).unwrap_or("?"))?;
+            add_definition(text, definition)?;
+            text.push(';')
+        }
+        Some((name, None)) => write!(text, "{};", std::str::from_utf8(name).unwrap_or("?")),
+        None => text.push('!'),
+    }
+}
+
+// A `#define` line, an `#ifdef` line, the names of a table (`*`), or one of them, gives this.
 fn gives(rt: &impl Abort, alloc: Global, table: &MacroTable, given: &str, want: &str) {
     let mut text = String::new(alloc);
     let added = if given.starts_with("#define") {
         add_line(rt, alloc, &mut text, given)
+    } else if let Some(name) = given.strip_prefix("#ifdef ") {
+        write!(text, "{}", table.is_defined(name.as_bytes()))
+    } else if given == "*" {
+        add_entries(&mut text, table)
     } else {
         add_macro(&mut text, table, given)
     };
@@ -281,6 +305,14 @@ __FILE__ => -
 __LINE__ => -
 A => -
  => -
+#ifdef __FILE__ => true
+#ifdef __LINE__ => true
+#ifdef __has_include => true
+#ifdef __STDC__ => true
+#ifdef defined => false
+#ifdef __VA_ARGS__ => false
+#ifdef A => false
+* => __STDC__| 1;__STDC_VERSION__| 201710L;__STDC_HOSTED__| 1;__DATE__| "Jan  1 1970";__TIME__| "00:00:00";
 "#;
 
 const REDEFINED: &str = r#"
@@ -303,6 +335,10 @@ A => -
 B => | 2
 C => -
 __STDC__ => -
+#ifdef A => false
+#ifdef B => true
+#ifdef __STDC__ => false
+* => __STDC__;__STDC_VERSION__| 201710L;__STDC_HOSTED__| 1;__DATE__| "Jan  1 1970";__TIME__| "00:00:00";A;B| 2;
 "#;
 
 const DEFINED_AGAIN: &str = r#"

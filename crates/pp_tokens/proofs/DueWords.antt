@@ -4,7 +4,7 @@ use Rattle.std.proofs.Common.{sym, ◌∙◌, ap, inl, inr}
 use Rattle.std.proofs.lemmas.Slice.Eq.{bytes_eq-Decides}
 use Rattle.pp_tokens.specs.declared.due.Before.{Before}
 use Rattle.pp_tokens.specs.declared.due.Before.TheVariants.{Nothing, Hash, Include, Condition, Probe, Probed, Other}
-use Rattle.pp_tokens.specs.Lines.{is_hash, ends_with_probe, header_due}
+use Rattle.pp_tokens.specs.Lines.{spells_hash, ends_with_probe, header_due}
 use Rattle.pp_tokens.specs.Text.{after_word, is_due}
 
 -- what stands on a line with these words more
@@ -110,18 +110,18 @@ two_words false false = refl
 pub due_is : (ws : List (List ℕ)) → header_due ws ≡ is_due (after_words Nothing ws)
 unfolding header_due after_words after_word
 due_is [] = refl
-due_is (a ∷ []) = by_test (is_hash a)
+due_is (a ∷ []) = by_test (spells_hash a)
   where
     by_test : (t : Bool) → false ≡ is_due (cond t Hash Other)
     by_test true = refl
     by_test false = refl
-due_is (a ∷ b ∷ []) = by_test (is_hash a) refl
+due_is (a ∷ b ∷ []) = by_test (spells_hash a) refl
   where
-    by_test : (t : Bool) → is_hash a ≡ t → (is_hash a && includes b) ≡ is_due (after_word (cond (is_hash a) Hash Other) b)
+    by_test : (t : Bool) → spells_hash a ≡ t → (spells_hash a && includes b) ≡ is_due (after_word (cond (spells_hash a) Hash Other) b)
     by_test true e = rw e (two_words (includes b) (tests b))
     by_test false e = rw e refl
-due_is (a ∷ b ∷ c ∷ ws) = by_test (is_hash a) refl
+due_is (a ∷ b ∷ c ∷ ws) = by_test (spells_hash a) refl
   where
-    by_test : (t : Bool) → is_hash a ≡ t → (is_hash a && (tests b && ends_with_probe (c ∷ ws))) ≡ is_due (after_words (after_word (cond (is_hash a) Hash Other) b) (c ∷ ws))
+    by_test : (t : Bool) → spells_hash a ≡ t → (spells_hash a && (tests b && ends_with_probe (c ∷ ws))) ≡ is_due (after_words (after_word (cond (spells_hash a) Hash Other) b) (c ∷ ws))
     by_test true e = rw e (three_words (includes b) (tests b) c ws (includes_no_test b))
     by_test false e = rw e (sym (ap is_due (other_stays ws)))

@@ -3,6 +3,7 @@ pub mod Examples
 mod Longest
 mod Headers
 pub mod Reading
+mod SliceLemmas
 mod FirstBytes
 mod Numbers
 mod Punctuators

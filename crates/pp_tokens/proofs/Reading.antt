@@ -33,7 +33,7 @@ stands_first false part t after some (inr (no_header, is, longest)) =
     rw found refl
 
 -- what rightly stands somewhere isn't empty
-stands_some : (due : Bool) (part : Part) (after : List ℕ) → Stands due part [] after → ⊥
+pub stands_some : (due : Bool) (part : Part) (after : List ℕ) → Stands due part [] after → ⊥
 unfolding is_header part_of is_comment is_open_comment kind_of is_identifier is_number is_string is_character is_punctuator closes
 stands_some due part after (inl (d, p, header)) = cc
 stands_some due part after (inr (n, is, longest)) = cc

@@ -69,8 +69,8 @@ part_of t =
 -- The words are the spellings of a logical line's tokens so far. A header name is due right behind them
 -- where they are `# include` or `# include_next`, or where they begin with `# if` or `# elif` and end
 -- with `__has_include (` (6.4.7, 6.10.1, 6.10.2).
-abbrev pub is_hash : List ℕ → Bool
-is_hash w = bytes_eq w (codes "#") || bytes_eq w (codes "%:")
+abbrev pub spells_hash : List ℕ → Bool
+spells_hash w = bytes_eq w (codes "#") || bytes_eq w (codes "%:")
 
 abbrev pub ends_with_probe : List (List ℕ) → Bool
 ends_with_probe [] = false
@@ -81,8 +81,8 @@ ends_with_probe (a ∷ b ∷ c ∷ ws) = ends_with_probe (b ∷ c ∷ ws)
 unfoldable pub header_due : List (List ℕ) → Bool
 header_due [] = false
 header_due (a ∷ []) = false
-header_due (a ∷ b ∷ []) = is_hash a && (bytes_eq b (codes "include") || bytes_eq b (codes "include_next"))
-header_due (a ∷ b ∷ c ∷ ws) = is_hash a && ((bytes_eq b (codes "if") || bytes_eq b (codes "elif")) && ends_with_probe (c ∷ ws))
+header_due (a ∷ b ∷ []) = spells_hash a && (bytes_eq b (codes "include") || bytes_eq b (codes "include_next"))
+header_due (a ∷ b ∷ c ∷ ws) = spells_hash a && ((bytes_eq b (codes "if") || bytes_eq b (codes "elif")) && ends_with_probe (c ∷ ws))
 
 -- the words after one more element
 unfoldable pub words_after : List (List ℕ) → Element → List (List ℕ)

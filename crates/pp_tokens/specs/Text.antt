@@ -8,7 +8,7 @@ use Rattle.pp_tokens.specs.declared.part.What.TheVariants.{Newline, White, Comme
 use Rattle.pp_tokens.specs.declared.due.Before.{Before}
 use Rattle.pp_tokens.specs.declared.due.Before.TheVariants.{Nothing, Hash, Include, Condition, Probe, Probed, Other}
 use Rattle.pp_tokens.specs.Grammar.{is_digit}
-use Rattle.pp_tokens.specs.Lines.{Part, newline, white, comment, open_comment, token, is_hash}
+use Rattle.pp_tokens.specs.Lines.{Part, newline, white, comment, open_comment, token, spells_hash}
 use Rattle.pp_tokens.specs.Plain.{is_text_mark}
 
 -- the part that the code's enum tells
@@ -29,7 +29,7 @@ whole_kind (open_comment, n) size = None
 
 -- what stands on a logical line, as far as it says whether a header name is due, after one more word (6.4.7)
 unfoldable pub after_word : Before → List ℕ → Before
-after_word Nothing w = if is_hash w then Hash else Other
+after_word Nothing w = if spells_hash w then Hash else Other
 after_word Hash w =
     if bytes_eq w (codes "include") || bytes_eq w (codes "include_next") then Include
     else (if bytes_eq w (codes "if") || bytes_eq w (codes "elif") then Condition else Other)

@@ -15,7 +15,7 @@ mod token;
 mod unpaired;
 
 pub use base_types::{Bytes, List};
-pub use law::one_reading;
+pub use law::{one_reading, tokens_are_slices};
 pub use lexer::{Lexed, lex};
 pub use plain::{is_plain, is_simple_name};
 pub use single::single_token;

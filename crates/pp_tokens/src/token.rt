@@ -1,5 +1,6 @@
 // A preprocessing token, owned or borrowed.
 ghost use Rattle.std.specs.Prelude.{◌≡◌, IfOk};
+ghost use Rattle.pp_tokens.specs.Marks.{names, is_identifier, is_string, is_literal, is_punctuator, is_mark, is_hash, is_pasting, is_reserved};
 ghost use Rattle.pp_tokens.specs.Tokens.{token_seen};
 
 use base_types::Bytes;
@@ -28,6 +29,71 @@ pub struct Token {
     pub space: bool,
 }
 
+// Whether the kind is that of identifiers.
+fn names(kind: Kind) -> bool
+    ensures { result ≡ names kind }
+{
+    matches!(kind, Kind::Ident)
+}
+
+impl Token {
+    /// Whether it is an identifier (ISO C 6.4.2).
+    pub fn is_identifier(&self) -> bool
+        ensures { result ≡ is_identifier self.now }
+    {
+        names(self.kind)
+    }
+
+    /// Whether it is a string literal (ISO C 6.4.5).
+    pub fn is_string(&self) -> bool
+        ensures { result ≡ is_string self.now }
+    {
+        self.kind == Kind::Str
+    }
+
+    /// Whether it is a string literal or a character constant (ISO C 6.4.5, 6.4.4.4).
+    pub fn is_literal(&self) -> bool
+        ensures { result ≡ is_literal self.now }
+    {
+        matches!(self.kind, Kind::Str | Kind::Char)
+    }
+
+    /// Whether it is a punctuator (ISO C 6.4.6).
+    pub fn is_punctuator(&self) -> bool
+        ensures { result ≡ is_punctuator self.now }
+    {
+        self.kind == Kind::Punct
+    }
+
+    /// Whether it is the punctuator with this spelling (ISO C 6.4.6).
+    pub fn is_mark(&self, spelling: &[u8]) -> bool
+        ensures { result ≡ is_mark spelling.now self.now }
+    {
+        self.is_punctuator() && self.text.as_slice() == spelling
+    }
+
+    /// Whether it is a `#`, or its digraph (ISO C 6.4.6, 6.10.3.2).
+    pub fn is_hash(&self) -> bool
+        ensures { result ≡ is_hash self.now }
+    {
+        self.is_mark(b"#") || self.is_mark(b"%:")
+    }
+
+    /// Whether it is a `##`, or its digraph (ISO C 6.4.6, 6.10.3.3).
+    pub fn is_pasting(&self) -> bool
+        ensures { result ≡ is_pasting self.now }
+    {
+        self.is_mark(b"##") || self.is_mark(b"%:%:")
+    }
+
+    /// Whether it is an identifier that begins with two underscores (ISO C 7.1.3).
+    pub fn is_reserved(&self) -> bool
+        ensures { result ≡ is_reserved self.now }
+    {
+        self.is_identifier() && self.text.as_slice().starts_with(b"__")
+    }
+}
+
 /// A preprocessing token whose spelling is a slice of a file's text.
 #[derive(Clone, Copy, Debug, Drop)]
 pub struct TokenRef<'a> {
@@ -38,6 +104,13 @@ pub struct TokenRef<'a> {
 }
 
 impl<'a> TokenRef<'a> {
+    /// Whether it is an identifier that begins with two underscores (ISO C 7.1.3).
+    pub fn is_reserved(&self) -> bool
+        ensures { result ≡ is_reserved (token_seen self.now) }
+    {
+        names(self.kind) && self.text.starts_with(b"__")
+    }
+
     /// A token that owns a copy of the spelling.
     pub fn to_token(&self, alloc: Global) -> Result<Token, AllocError>
         ensures { IfOk result (λ t. t ≡ token_seen self.now) }

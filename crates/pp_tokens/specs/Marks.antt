@@ -1,11 +1,21 @@
--- The tokens that macros are written with (ISO C 6.4, 6.10.3).
-use Rattle.std.specs.Prelude.{ℕ, Bool, true, false, ◌&&◌, ◌||◌, List, if◌then◌else◌, codes, bytes_eq}
-use Rattle.pp_tokens.specs.declared.Kind.TheVariants.{Ident, Char, Str, Punct}
-use Rattle.pp_tokens.specs.declared.Token.{Token}
+-- The tests of preprocessing tokens that directives and macros are read by (ISO C 6.4, 6.10).
+use Rattle.std.specs.Prelude.{ℕ, Bool, true, false, ◌&&◌, ◌||◌, List, if◌then◌else◌, nat_eq, codes, bytes_eq}
+use Rattle.std.specs.List.{starts_with}
+use Rattle.pp_tokens.specs.declared.token.Kind.{Kind}
+use Rattle.pp_tokens.specs.declared.token.Kind.TheVariants.{Ident, Char, Str, Punct}
+use Rattle.pp_tokens.specs.declared.token.Token.{Token}
+
+-- whether the kind is that of identifiers (6.4.2)
+abbrev pub names : Kind → Bool
+names k = elim k [ Ident ↦ true | _ ↦ false ]
 
 -- whether the token is an identifier (6.4.2)
 abbrev pub is_identifier : Token → Bool
-is_identifier t = elim t.kind [ Ident ↦ true | _ ↦ false ]
+is_identifier t = names t.kind
+
+-- whether the token is a string literal (6.4.5)
+abbrev pub is_string : Token → Bool
+is_string t = elim t.kind [ Str ↦ true | _ ↦ false ]
 
 -- whether the token is a string literal or a character constant (6.4.5, 6.4.4.4)
 abbrev pub is_literal : Token → Bool
@@ -22,6 +32,10 @@ is_mark spelling t = is_punctuator t && bytes_eq t.text spelling
 -- whether the token is this identifier (6.4.2)
 abbrev pub is_word : List ℕ → Token → Bool
 is_word spelling t = is_identifier t && bytes_eq t.text spelling
+
+-- whether the token is an identifier that begins with two underscores, as only the implementation's names do (7.1.3)
+abbrev pub is_reserved : Token → Bool
+is_reserved t = is_identifier t && starts_with nat_eq t.text (codes "__")
 
 abbrev pub is_comma : Token → Bool
 is_comma = is_mark (codes ",")
