@@ -6,6 +6,8 @@ mod errors;
 #[cfg(test)]
 mod notation;
 #[cfg(test)]
+mod places;
+#[cfg(test)]
 mod rules;
 #[cfg(test)]
 mod standard;

@@ -39,6 +39,14 @@ L(b) L(b,1)
 L(1,2)
 => !Paste , 2 2
 
+// Several `##` in a row are one there too.
+#define f(x, V...) g(x , ## ##V)
+f(1) f(1,) f(1,2)
+=> g(1) g(1) g(1 ,2)
+#define f(x, ...) g(x , ## ## __VA_ARGS__)
+f(1) f(1,2)
+=> g(1) g(1 , 2)
+
 // Pastes are made from left to right.
 #define P(x, y) x ## ## y
 P(a,b)

@@ -5,7 +5,7 @@ use Rattle.std.proofs.lemmas.List.{map-append, length-map}
 use Rattle.std.proofs.lemmas.Slice.Eq.{bytes_eq-Decides}
 use Rattle.std.specs.declared.alloc.Global.{Global}
 use Rattle.pp_tokens.specs.declared.Token.{Token}
-use Rattle.macro_defs.specs.Marks.{is_punctuator, is_mark, is_open, is_close, is_comma, is_hash, is_pasting, Mark, Opening, Closing, Comma, Hash, Pasting, NoMark, mark_of}
+use Rattle.pp_tokens.specs.Marks.{is_punctuator, is_mark, is_open, is_close, is_comma, is_hash, is_pasting, Mark, Opening, Closing, Comma, Hash, Pasting, NoMark, mark_of}
 use Rattle.macro_expand.specs.declared.marked.Marked.{Marked as Kept}
 use Rattle.macro_expand.specs.Replacement.{Marked, Call, call_with, call_in, argument_with, cut_at_commas, arguments_of}
 use Rattle.macro_expand.specs.Seen.{marked_of, lists_of}

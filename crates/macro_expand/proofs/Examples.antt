@@ -9,7 +9,7 @@ use Rattle.pp_tokens.specs.declared.Token.{Token}
 use Rattle.macro_defs.specs.declared.definition.Shape.TheVariants.{Object, Function}
 use Rattle.macro_defs.specs.MacroDefinition.{MacroDefinition}
 use Rattle.macro_expand.specs.Asking.{Failure, Count, Unclosed, Paste, Work, then_with}
-use Rattle.macro_defs.specs.Marks.{mark_of}
+use Rattle.pp_tokens.specs.Marks.{mark_of}
 use Rattle.pp_tokens.specs.Grammar.{kind_of, is_identifier, is_number, number_goes_on, is_character, is_string, closes, is_punctuator}
 use Rattle.macro_expand.specs.Replacement.{Marked, unmarked, call_in, arguments_of, replacement, joined, pieces_of, parts_after, one_joins, cut_at_commas, stands_alone, pasted, escaped, spellings}
 use Rattle.macro_expand.specs.Expansion.{Expanded, expansion, expansion_within, expansion_step, role_of, role_expanded, built_in, name_replaced, macro_replaced, function_replaced, called, counted, call_replacement, object_replacement, argument_expanded, charged, go_on, put_out, arguments_expanded, Table, Place, by_table}

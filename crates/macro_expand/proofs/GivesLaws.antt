@@ -1,20 +1,15 @@
 -- An expansion under a table is one where the table answers.
-use Rattle.std.proofs.Common.{◌≡◌, ℕ, List, [], ◌∷◌, map, refl, ap, sym, ◌∙◌, subst, Result, Ok, Err}
+use Rattle.std.proofs.Common.{◌≡◌, ℕ, List, refl, ap, sym, ◌∙◌, subst, Result, Ok, Err}
 use Rattle.pp_tokens.specs.declared.Token.{Token}
 use Rattle.macro_expand.specs.declared.outcome.Mode.{Mode}
-use Rattle.macro_expand.specs.declared.marked.Marked.{Marked as Kept}
 use Rattle.macro_expand.specs.declared.outcome.RunError.{RunError}
 use Rattle.macro_expand.specs.declared.outcome.RunError.TheVariants.{Count as CountError, Unclosed as UnclosedError, Paste as PasteError, Deep as DeepError, Work as WorkError, Presumed as PresumedError, Memory}
 use Rattle.macro_expand.specs.Asking.{Failure, Work}
 use Rattle.macro_expand.specs.Replacement.{Marked}
 use Rattle.macro_expand.specs.Expansion.{Expanded, expansion, Table, Place, expanded_by}
 use Rattle.macro_expand.specs.Answered.{Stop, ByFailure, ByPresumed, Answered, expanded_for, table_answerer}
-use Rattle.macro_expand.specs.Seen.{Gives, marked_of, Stops, ReportsResult, public_of}
+use Rattle.macro_expand.specs.Seen.{Gives, HasTokens, Stops, ReportsResult, public_of}
 use Rattle.macro_expand.proofs.AnsweredLaws.{lifted, answered-table}
-
-tokens_of_marked : (list : List Kept) → map (λ (m : Marked). m.token) (map marked_of list) ≡ map (λ (m : Kept). m.token) list
-tokens_of_marked [] = refl
-tokens_of_marked (m ∷ ms) = ap (λ ts. m.token ∷ ts) (tokens_of_marked ms)
 
 lowered : {A : Type 0} → Result A Stop → Result A Failure
 lowered (Ok x) = Ok x
@@ -39,11 +34,10 @@ module _ {S : Type 0} (table : Table) (here : S → Place) (s : S) (mode : Mode)
       sym (lowered-lifted (expanded_by table (here s) mode 0 units ts))
       ∙ ap (λ (a : Answered Expanded S). lowered a.result) (sym by_is ∙ e)
 
-  pub Gives_from : (list : List Kept) (out : List Token) (left : ℕ) (u : S) →
-      expanded_for (table_answerer (λ _. table) here) s mode 0 units ts ≡ record { result = Ok (record { tokens = map marked_of list; units = left }); state = u } →
-      out ≡ map (λ (m : Kept). m.token) list → Gives (expanded_by table (here s) mode 0 units ts) out left
+  pub Gives_from : (out : List Token) (left : ℕ) (u : S) → HasTokens (expanded_for (table_answerer (λ _. table) here) s mode 0 units ts) out left u →
+      Gives (expanded_by table (here s) mode 0 units ts) out left
   unfolding lowered
-  Gives_from list out left u e f = subst (λ w. Gives w out left) (sym (result_is _ u e)) (tokens_of_marked list ∙ sym f, refl)
+  Gives_from out left u (list, (is, tokens)) = subst (λ w. Gives w out left) (sym (result_is _ u is)) (tokens, refl)
 
   pub Reports_from : (e : RunError) (u : S) → Stops e u (expanded_for (table_answerer (λ _. table) here) s mode 0 units ts) →
       ReportsResult (public_of e) (expanded_by table (here s) mode 0 units ts)

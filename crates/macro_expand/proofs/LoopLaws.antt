@@ -17,6 +17,10 @@ use Rattle.macro_expand.specs.Seen.{marked_of, Reports, Stops, GoesOn, HasTokens
 use Rattle.pp_tokens.specs.declared.Token.{Token}
 use Rattle.macro_expand.proofs.AnsweredLaws.{before-nothing, before-before, expanded_for-nil, expanded_for-ordinary, expanded_for-defined, expanded_for-file_unknown, expanded_for-file_paid, expanded_for-file_work, expanded_for-line_unknown, expanded_for-line_paid, expanded_for-line_work, charged_for-paid, charged_for-work}
 
+tokens_of_marked : (list : List Kept) → map (λ (m : Marked). m.token) (map marked_of list) ≡ map (λ (m : Kept). m.token) list
+tokens_of_marked [] = refl
+tokens_of_marked (m ∷ ms) = ap (λ ts. m.token ∷ ts) (tokens_of_marked ms)
+
 pub on_ok-map : {A E : Type 0} {P Q : Type 0} (r : Result A E) → (P → Q) → OnOk r P → OnOk r Q
 on_ok-map (Ok x) f h = f h
 on_ok-map (Err e) f h = h
@@ -260,4 +264,5 @@ module _ {S : Type 0} (w : Answerer S) (mode : Mode) (depth : ℕ) where
 
     pub keeps_tokens_end : (out : List Token) (s : S) (units : ℕ) (pending : List Kept) → pending ≡ [] → KeepsTokens out s units pending →
         HasTokens whole out units s
-    keeps_tokens_end out s units pending is (list, (keeps, tokens)) = (list, (keeps_end list s units pending is keeps, tokens))
+    keeps_tokens_end out s units pending is (list, (keeps, tokens)) =
+        (map marked_of list, (keeps_end list s units pending is keeps, tokens_of_marked list ∙ sym tokens))

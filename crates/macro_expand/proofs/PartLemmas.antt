@@ -4,7 +4,7 @@ use Rattle.std.proofs.lemmas.List.{map-append}
 use Rattle.std.proofs.lemmas.Slice.Eq.{bytes_eq-Decides}
 use Rattle.pp_tokens.specs.declared.Token.{Token}
 use Rattle.macro_defs.specs.MacroDefinition.{without_line}
-use Rattle.macro_defs.specs.Marks.{is_punctuator, is_open, is_close, is_comma, is_hash, is_pasting, Mark, Opening, Closing, Comma, Hash, Pasting, NoMark, mark_of}
+use Rattle.pp_tokens.specs.Marks.{is_punctuator, is_open, is_close, is_comma, is_hash, is_pasting, Mark, Opening, Closing, Comma, Hash, Pasting, NoMark, mark_of}
 use Rattle.macro_expand.specs.declared.replace.Part.{Part as KeptPart}
 use Rattle.macro_expand.specs.Replacement.{Part, Plain, Argument, Spelling, Join, argument_named, parts_after, is_join, is_alone, stands_alone}
 use Rattle.macro_expand.specs.Parts.{operand_part, part_of, object_part, begins_spelling, Marks}

@@ -12,7 +12,7 @@ use Rattle.macro_expand.specs.declared.marked.Role.{Role}
 use Rattle.macro_expand.specs.declared.marked.Role.TheVariants.{Defined, FileName, LineNumber, Name, Ordinary}
 use Rattle.macro_defs.specs.MacroDefinition.{MacroDefinition}
 use Rattle.macro_expand.specs.Asking.{Failure, Asking, give, fail, ask_definition, ask_file, ask_line, then_with}
-use Rattle.macro_defs.specs.Marks.{Opening, Closing, Comma, mark_of, is_identifier, is_open, is_close}
+use Rattle.pp_tokens.specs.Marks.{Opening, Closing, Comma, mark_of, is_identifier, is_open, is_close}
 use Rattle.macro_expand.specs.Replacement.{Marked, Call, call_with, call_in, after_open, argument_with, cut_at_commas, arguments_of, Part}
 use Rattle.macro_expand.specs.Expansion.{Expanded, ExpandedEach, Expander, put_out, call_replacement, go_on, charged, argument_expanded, arguments_expanded, counted, called, function_replaced, macro_replaced, name_replaced, built_in, operand_of_defined, role_of, role_expanded, expansion_step, expansion_within, expansion}
 use Rattle.macro_expand.proofs.AskingLaws.{Leaves, Leaves-then_with, then_with-agree}

@@ -11,7 +11,7 @@ use Rattle.macro_expand.specs.declared.outcome.Mode.{Mode}
 use Rattle.macro_expand.specs.declared.outcome.Mode.TheVariants.{Text, Condition}
 use Rattle.macro_expand.specs.declared.marked.Role.{Role}
 use Rattle.macro_expand.specs.declared.marked.Role.TheVariants.{Defined, FileName, LineNumber, Name, Ordinary}
-use Rattle.macro_defs.specs.Marks.{is_identifier, is_open, is_close, is_word}
+use Rattle.pp_tokens.specs.Marks.{is_identifier, is_open, is_close, is_word}
 use Rattle.macro_expand.specs.Asking.{Failure, Count, Unclosed, Deep, Work, Asking, give, fail, ask_definition, ask_file, ask_line, then_with}
 use Rattle.macro_expand.specs.Replacement.{with_name, common_names, Marked, Call, call_in, after_open, arguments_of, Part, parts_of, object_parts, stands_alone, replacement}
 
@@ -182,7 +182,9 @@ expansion mode depth units ts = expansion_within (suc (units + length ts)) mode 
 abbrev pub Table : Type 0
 Table = List ℕ → Option MacroDefinition
 
--- Where the tokens stand: the presumed name of the file, and what is added to a physical line (6.10.4).
+-- Where the tokens stand: the presumed name of the file, and what is added to a physical line (6.10.4). The name is the form that
+-- is shown, and stands between quotes as it is: what stands between those of a `#line`, or the path with `\`, `"` and newline
+-- escaped.
 pub record Place : Type 0 where
   pub name : List ℕ
   pub shift : ℤ

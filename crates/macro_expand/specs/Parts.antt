@@ -1,7 +1,7 @@
 -- What one token of a replacement list stands for (6.10.3.1 to 6.10.3.3), as code reads it.
 use Rattle.std.specs.Prelude.{◌≡◌, ◌<◌, ℕ, Bool, true, false, ◌||◌, List, length, get_or, Option, Some, None, if◌then◌else◌}
 use Rattle.pp_tokens.specs.declared.Token.{Token}
-use Rattle.macro_defs.specs.Marks.{Pasting, mark_of, is_hash}
+use Rattle.pp_tokens.specs.Marks.{Pasting, mark_of, is_hash}
 use Rattle.macro_expand.specs.Replacement.{Part, Plain, Argument, Spelling, Join, argument_named, is_alone}
 
 -- a token that is no join, nor a `#` that begins a spelling

@@ -2,7 +2,7 @@
 use Rattle.std.specs.Prelude.{ℕ, zero, suc, ◌-◌, Bool, false, ◌&&◌, List, [], ◌∷◌, ◌==◌, ◌++◌, map, nat_lt, Vec, Option, Some, None}
 use Rattle.std.specs.declared.alloc.Global.{Global}
 use Rattle.pp_tokens.specs.declared.Token.{Token}
-use Rattle.macro_defs.specs.Marks.{is_identifier, is_open, is_close, is_comma, Opening, Closing, mark_of}
+use Rattle.pp_tokens.specs.Marks.{is_identifier, is_open, is_close, is_comma, Opening, Closing, mark_of}
 use Rattle.macro_expand.specs.Replacement.{Marked, Call, call_with, argument_with, cut_at_commas}
 use Rattle.macro_expand.specs.declared.marked.Marked.{Marked as Kept}
 use Rattle.macro_expand.specs.declared.call.Within.{Within}

@@ -2,7 +2,7 @@
 use Rattle.std.specs.Prelude.{ℕ, zero, suc, ◌-◌, Bool, true, false, not, ◌&&◌, ◌||◌, List, [], ◌∷◌, ◌++◌, map, length, ◌==◌, if◌then◌else◌, Option, Some, None, Result, Ok, Err, bytes_eq, slice_index_or, position}
 use Rattle.pp_tokens.specs.declared.Kind.TheVariants.{Str}
 use Rattle.pp_tokens.specs.declared.Token.{Token}
-use Rattle.macro_defs.specs.Marks.{is_identifier, is_literal, is_open, is_comma, Opening, Closing, Comma, Hash, Pasting, mark_of}
+use Rattle.pp_tokens.specs.Marks.{is_identifier, is_literal, is_open, is_comma, Opening, Closing, Comma, Hash, Pasting, mark_of}
 use Rattle.pp_tokens.specs.Grammar.{kind_of}
 use Rattle.macro_expand.specs.Asking.{Failure, Paste}
 

@@ -128,8 +128,8 @@ Gives (Err f) ts left = ⊥
 -- a run that gave these tokens, whatever their hide sets, with these units left, in this state
 abbrev pub HasTokens : {S : Type 0} → Answered Expanded S → List Token → ℕ → S → Type 0
 HasTokens a ts left s =
-    (list : List Kept) × ((a ≡ record { result = Ok (record { tokens = map marked_of list; units = left }); state = s })
-    × (ts ≡ map (λ m. m.token) list))
+    (list : List Marked) × ((a ≡ record { result = Ok (record { tokens = list; units = left }); state = s })
+    × (map (λ m. m.token) list ≡ ts))
 
 -- a public error reports this result
 abbrev pub ReportsResult : {A : Type 0} → ExpandError → Result A Failure → Type 0

@@ -11,7 +11,9 @@ use itoa::Buffer;
 use macro_defs::{Definition, MacroTable};
 use std::alloc::{AllocError, Global};
 
-/// Where the tokens stand (ISO C 6.10.4): the presumed name of the file, and what is added to a physical line.
+/// Where the tokens stand (ISO C 6.10.4): the presumed name of the file, and what is added to a physical line. The name is the form
+/// that is shown, and stands between quotes as it is: what stands between those of a `#line`, or the file's path, in which the
+/// caller escapes `\`, `"` and newline.
 #[derive(Debug, Drop)]
 pub struct Presumed {
     pub name: Bytes,

@@ -10,7 +10,6 @@ ghost use Rattle.macro_expand.specs.Parts.{takes_written};
 ghost use Rattle.macro_expand.specs.Seen.{marked_of, lists_of, part_seen, parts_seen, ReadsCall, RefusesCall, KeepsWritten};
 
 use crate::marked::Marked;
-use crate::operand::is_mark;
 use crate::outcome::RunError;
 use crate::replace::Part;
 use base_types::Bytes;
@@ -182,7 +181,7 @@ fn read_within(alloc: Global, pending: &mut VecDeque<Marked>) -> Result<Option<W
 fn ends_call(nesting: usize, t: &Token) -> bool
     ensures { result ≡ reading.ends_call nesting t.now }
 {
-    nesting == 0 && is_mark(t, b")".as_slice())
+    nesting == 0 && t.is_mark(b")".as_slice())
 }
 
 // How many parentheses deep the tokens stand that follow this one.
@@ -191,10 +190,10 @@ fn nesting_after(nesting: usize, t: &Token) -> usize
     ensures value { result ≡ reading.nesting_after nesting t.now }
     ensures deep { result ≤ nesting + 1 }
 {
-    if is_mark(t, b"(".as_slice()) {
+    if t.is_mark(b"(".as_slice()) {
         return nesting + 1;
     }
-    if is_mark(t, b")".as_slice()) {
+    if t.is_mark(b")".as_slice()) {
         return nesting.saturating_sub(1);
     }
     nesting
@@ -311,7 +310,7 @@ impl Cutting {
 fn is_cut(cuts: usize, nesting: usize, t: &Token) -> bool
     ensures { result ≡ reading.is_cut cuts nesting t.now }
 {
-    cuts > 0 && nesting == 0 && is_mark(t, b",".as_slice())
+    cuts > 0 && nesting == 0 && t.is_mark(b",".as_slice())
 }
 
 // The tokens cut at the first `cuts` commas that stand outside parentheses.
@@ -349,7 +348,7 @@ pub(crate) fn take_open(pending: &mut VecDeque<Marked>) -> bool
     match pending.front() {
         None => return false,
         Some(t) => {
-            if !is_mark(&t.token, b"(".as_slice()) {
+            if !t.token.is_mark(b"(".as_slice()) {
                 return false;
             }
         }

@@ -282,12 +282,10 @@ fn expand_head<S, A: Answers<S>>(
     }
 }
 
-/// The expansion of a list of tokens, rescanned together with the tokens behind each replacement (ISO C 6.10.3.4), whoever
-/// answers what definition a name has. `depth` says how many calls' arguments stand around the list, at most 400; `mode`, whether a
-/// `defined` keeps its operand. `work` has the units that are left afterwards; behind an error, no more than before. The errors are
-/// those of `RunError`, the first that is met from left to right; but for `Memory` the answerer is then in the state of that place.
+// The expansion of a list of tokens, rescanned together with the tokens behind each replacement (6.10.3.4). `depth` says how many
+// calls' arguments stand around the list, at most 400.
 #[cycle(expanding)]
-pub fn expand_list<S, A: Answers<S>>(
+fn expand_list<S, A: Answers<S>>(
     alloc: Global,
     source: &S,
     answers: &mut A,
@@ -320,14 +318,7 @@ pub fn expand_list<S, A: Answers<S>>(
     Ok(out)
 }
 
-/// The tokens, none of them with a hidden name. The one error is `Memory`.
-pub fn marked_run(alloc: Global, run: &[Token]) -> Result<VecDeque<Marked>, RunError>
-    ensures ok { IfOk result (λ q. map marked_of q.items ≡ map unmarked run.now) }
-    ensures err { IfErr result (λ e. e ≡ RunError.Memory) }
-{
-    Ok(marked_list(alloc, run)?)
-}
-
+// The tokens, none of them with a hidden name.
 fn marked_list(alloc: Global, run: &[Token]) -> Result<VecDeque<Marked>, AllocError>
     ensures { IfOk result (λ q. map marked_of q.items ≡ map unmarked run.now) }
 {
@@ -356,22 +347,28 @@ fn keep_tokens(out: &mut Vec<Token>, list: &mut Vec<Marked>) -> Result<(), RunEr
     Ok(())
 }
 
-// The expansion of a list that stands in no argument. What a step puts out is kept without its hide sets, so that those of the
-// pending tokens alone take memory.
-fn expand_whole<S, A: Answers<S>>(
+/// The tokens that a list of tokens becomes (ISO C 6.10.3), whoever answers what definition a name has and what `__FILE__` and
+/// `__LINE__` stand for (6.10.8.1), each with the white space of what it stands for. The list is rescanned together with the tokens
+/// behind each replacement (6.10.3.4), and stands in no argument. `mode` says whether a `defined` keeps its operand. Each replacement
+/// takes its units from `work`: one, and one for each token that it puts in; `work` has what is left afterwards, behind an error no
+/// more than before. The errors are those of `RunError`, the first that is met from left to right: but for `Memory` each exactly where it
+/// says, with the answerer in the state of that place.
+pub fn expand_for<S, A: Answers<S>>(
     alloc: Global,
     source: &S,
     answers: &mut A,
     mode: Mode,
-    mut pending: VecDeque<Marked>,
+    run: &[Token],
     work: &mut Work,
-) -> Result<Vec<Token>, RunError>
-    ensures ok { IfOk result (λ out. HasTokens (expanded_for (A.answerer source.now) answers.old mode 0 work.old.left (map marked_of pending.items))
-        out.items work.new.left answers.new) }
+) -> Result<List<Token>, RunError>
+    ensures ok { IfOk result (λ out. HasTokens (expanded_for (A.answerer source.now) answers.old mode 0 work.old.left (map unmarked run.now))
+        out work.new.left answers.new) }
     ensures spends { work.new.left ≤ work.old.left }
     ensures err { IfErr result (λ e. Stops e answers.new
-        (expanded_for (A.answerer source.now) answers.old mode 0 work.old.left (map marked_of pending.items))) }
+        (expanded_for (A.answerer source.now) answers.old mode 0 work.old.left (map unmarked run.now))) }
 {
+    // What a step puts out is kept without its hide sets, so that those of the pending tokens alone take memory.
+    let mut pending = marked_list(alloc, run)?;
     let mut out = Vec::new(alloc);
     let mut step = Vec::new(alloc);
     while let Some(t) = pending.pop_front() {
@@ -388,7 +385,7 @@ fn expand_whole<S, A: Answers<S>>(
         )?;
         keep_tokens(&mut out, &mut step)?;
     }
-    Ok(out)
+    Ok(List::of(out))
 }
 
 // The public name of an error.
@@ -425,13 +422,9 @@ pub fn expand(
     ensures err { IfErr result (λ e. ReportsResult e
         (expanded_by (lookup table.now) (place_of here.now) mode 0 work.old.left (map unmarked run.now))) }
 {
-    let pending = match marked_run(alloc, run) {
-        Ok(pending) => pending,
-        Err(_) => return Err(ExpandError::Memory),
-    };
     let mut answers = TablePlace { here };
-    match expand_whole(alloc, table, &mut answers, mode, pending, work) {
-        Ok(out) => Ok(List::of(out)),
+    match expand_for(alloc, table, &mut answers, mode, run, work) {
+        Ok(out) => Ok(out),
         Err(e) => Err(public_error(e)),
     }
 }

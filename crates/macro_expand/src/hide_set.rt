@@ -8,10 +8,10 @@ use std::alloc::{AllocError, Global};
 use std::marker::Model;
 use std::rc::Rc;
 
-/// A hide set (ISO C 6.10.3.4 paragraph 2). Sets share what they have in common: a copy takes no memory, and one more name
-/// takes as much as the way to it.
+// A hide set (ISO C 6.10.3.4 paragraph 2). Sets share what they have in common: a copy takes no memory, and one more name
+// takes as much as the way to it.
 #[derive(Drop)]
-pub struct HideSet {
+pub(crate) struct HideSet {
     names: Trie,
     // How many names it has, by which the smaller of two sets is chosen.
     count: usize,

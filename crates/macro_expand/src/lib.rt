@@ -18,10 +18,8 @@ mod replace;
 mod stringize;
 
 pub use answers::{Answers, Presumed, TablePlace};
-pub use expansion::{expand, expand_list};
-pub use hide_set::HideSet;
+pub use expansion::{expand, expand_for};
 pub use laws::{
     choice_fact, expansion_is_frugal, expansion_unfolds, more_definitions, support_decides,
 };
-pub use marked::Marked;
 pub use outcome::{ExpandError, Mode, RunError, Work};

@@ -7,9 +7,9 @@ use base_types::Bytes;
 use pp_tokens::Token;
 use std::alloc::{AllocError, Global};
 
-/// A token with its hide set: the names that don't replace it any more (ISO C 6.10.3.4 paragraph 2).
+// A token with its hide set: the names that don't replace it any more (ISO C 6.10.3.4 paragraph 2).
 #[derive(Drop)]
-pub struct Marked {
+pub(crate) struct Marked {
     pub token: Token,
     pub hidden: HideSet,
 }

@@ -2,8 +2,7 @@
 ghost use Rattle.std.specs.Prelude.{◌≡◌, ◌+◌, ◌≤◌, ◌++◌, ◌∷◌, [], map, length, take, drop, IfOk, IfErr, OnOk};
 ghost use Rattle.std.specs.VecDeque.{deque_len};
 ghost use Rattle.macro_expand.specs.declared.marked.Role.TheVariants.{Defined};
-ghost use Rattle.macro_defs.specs.Marks as marks;
-ghost use Rattle.macro_defs.specs.Marks.{is_identifier, is_mark};
+ghost use Rattle.pp_tokens.specs.Marks.{is_identifier, is_mark};
 ghost use Rattle.macro_expand.specs.Reading.{holds_at, begins_with_name_in_parentheses};
 ghost use Rattle.macro_expand.specs.Expansion as spec;
 ghost use Rattle.macro_expand.specs.Expansion.{role_of, operand_of_defined};
@@ -14,7 +13,6 @@ use crate::answers::Answers;
 use crate::expansion::put;
 use crate::marked::Marked;
 use crate::outcome::{Mode, RunError, Work};
-use pp_tokens::{Kind, Token};
 use std::collections::VecDeque;
 
 // Whether an operand of `defined` stands first.
@@ -52,14 +50,8 @@ fn is_name_at(rest: &VecDeque<Marked>, place: usize) -> bool
 {
     match rest.get(place) {
         None => false,
-        Some(t) => is_name(&t.token),
+        Some(t) => t.token.is_identifier(),
     }
-}
-
-fn is_name(t: &Token) -> bool
-    ensures { result ≡ is_identifier t.now }
-{
-    matches!(t.kind, Kind::Ident)
 }
 
 // Whether the pending token at a place is the punctuator with this spelling.
@@ -68,15 +60,8 @@ fn is_mark_at(rest: &VecDeque<Marked>, place: usize, spelling: &[u8]) -> bool
 {
     match rest.get(place) {
         None => false,
-        Some(t) => is_mark(&t.token, spelling),
+        Some(t) => t.token.is_mark(spelling),
     }
-}
-
-// Whether a token is the punctuator with this spelling.
-pub(crate) fn is_mark(t: &Token, spelling: &[u8]) -> bool
-    ensures { result ≡ marks.is_mark spelling.now t.now }
-{
-    matches!(t.kind, Kind::Punct) && t.text.as_slice() == spelling
 }
 
 // One step: `defined` in a condition, put out with its operand (6.10.1).

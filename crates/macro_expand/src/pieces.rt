@@ -2,7 +2,7 @@
 ghost use Rattle.std.specs.Prelude.{◌≡◌, ◌++◌, ◌∷◌, [], ◌&&◌, ◌||◌, map, ℕ, None, Some, IfOk, OnOk, if◌then◌else◌};
 ghost use Rattle.std.specs.Option.{option_map, option_copied};
 ghost use Rattle.macro_defs.specs.MacroDefinition.{without_line};
-ghost use Rattle.macro_defs.specs.Marks.{is_comma};
+ghost use Rattle.pp_tokens.specs.Marks.{is_comma};
 ghost use Rattle.macro_expand.specs.Replacement as spec;
 ghost use Rattle.macro_expand.specs.Replacement.{unmarked, with_space, as_pieces, argument_at, is_variable, is_comma_part, is_join, first_part, rest_parts, is_empty_argument, pieces_of_part, pieces_of, Real};
 ghost use Rattle.macro_expand.specs.Pieces.{arguments_seen, spaced_at};
@@ -76,20 +76,13 @@ fn has_empty_variable(arguments: &Arguments) -> bool
     }
 }
 
-// Whether a token is a comma.
-fn is_comma(t: &Token) -> bool
-    ensures { result ≡ is_comma t.now }
-{
-    t.kind == Kind::Punct && t.text.as_slice() == b",".as_slice()
-}
-
 // Whether a comma is dropped: `##` and an empty variable argument follow it (GNU).
 fn drops_comma(arguments: &Arguments, t: &Token, rest: &[Part]) -> bool
     ensures { result ≡ (is_comma t.now && is_join (first_part (parts_seen rest.now))
         && is_variable (arguments_seen arguments.now) (first_part (rest_parts (parts_seen rest.now)))
         && is_empty_argument (arguments_seen arguments.now)) }
 {
-    is_comma(t)
+    t.is_mark(b",".as_slice())
         && begins_with_join(rest)
         && second_is_variable(arguments, rest)
         && has_empty_variable(arguments)
@@ -202,7 +195,7 @@ fn is_behind_comma(before: Option<&Part>) -> bool
     ensures { result ≡ is_comma_part (option_map part_seen (option_copied before.entry)) }
 {
     match before {
-        Some(Part::Plain(t)) => is_comma(t),
+        Some(Part::Plain(t)) => t.is_mark(b",".as_slice()),
         _ => false,
     }
 }

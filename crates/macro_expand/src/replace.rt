@@ -1,7 +1,6 @@
 // The replacement of one macro call (ISO C 6.10.3.1 to 6.10.3.3).
 ghost use Rattle.std.specs.Prelude.{◌≡◌, ◌≤◌, ◌<◌, ℕ, List, Some, None, Ok, Err, map, length, get_or, false, ◌++◌, ◌∷◌, [], ◌&&◌, if◌then◌else◌, IfOk, IfErr, OnOk, position, bytes_eq};
 ghost use Rattle.macro_defs.specs.MacroDefinition.{without_line};
-ghost use Rattle.macro_defs.specs.Marks.{is_identifier, is_hash, is_pasting};
 ghost use Rattle.macro_expand.specs.Replacement.{parts_after, parts_of, one_joins, stands_alone, object_parts, argument_named, is_join, first_part, with_name, common_names, replacement};
 ghost use Rattle.macro_expand.specs.Parts.{operand_part, part_of, begins_spelling, object_part, Marks};
 ghost use Rattle.macro_expand.specs.Pieces.{arguments_seen};
@@ -18,7 +17,7 @@ use crate::pieces::{Arguments, read_pieces};
 use crate::placing::put_in_for;
 use base_types::Bytes;
 use macro_defs::Definition;
-use pp_tokens::{Kind, Token};
+use pp_tokens::Token;
 use std::alloc::{AllocError, Global};
 
 // What a token of a replacement list stands for: itself, the argument of a number with the space of its parameter, the
@@ -29,29 +28,6 @@ pub(crate) enum Part<'d> {
     Argument(usize, bool),
     Spelling(usize, bool),
     Join,
-}
-
-// Whether a token is a `#`.
-fn is_hash_mark(t: &Token) -> bool
-    ensures { result ≡ is_hash t.now }
-{
-    t.kind == Kind::Punct
-        && (t.text.as_slice() == b"#".as_slice() || t.text.as_slice() == b"%:".as_slice())
-}
-
-// Whether a token is a `##`.
-fn is_pasting_mark(t: &Token) -> bool
-    ensures { result ≡ is_pasting t.now }
-{
-    t.kind == Kind::Punct
-        && (t.text.as_slice() == b"##".as_slice() || t.text.as_slice() == b"%:%:".as_slice())
-}
-
-// Whether a token is an identifier.
-fn is_name(t: &Token) -> bool
-    ensures { result ≡ is_identifier t.now }
-{
-    matches!(t.kind, Kind::Ident)
 }
 
 // The number of the parameter of this name. It costs a comparison for each parameter before it.
@@ -65,7 +41,7 @@ fn parameter_number(params: &[Bytes], name: &[u8]) -> Option<usize>
 fn parameter_named(params: &[Bytes], t: &Token) -> Option<usize>
     ensures { result ≡ argument_named params.now t.now }
 {
-    if is_name(t) {
+    if t.is_identifier() {
         parameter_number(params, t.text.as_slice())
     } else {
         None
@@ -89,7 +65,7 @@ fn operand_at<'d>(hash: Option<bool>, t: &'d Token, parameter: Option<usize>) ->
 fn unhashed_part<'d>(params: &[Bytes], t: &'d Token) -> Part<'d>
     ensures { part_seen result ≡ part_of None params.now (without_line t.now) }
 {
-    if is_pasting_mark(t) {
+    if t.is_pasting() {
         return Part::Join;
     }
     operand_at(None, t, parameter_named(params, t))
@@ -110,7 +86,7 @@ fn begins_spelling(hash: Option<bool>, t: &Token) -> bool
     ensures { result ≡ begins_spelling hash t.now }
 {
     match hash {
-        None => is_hash_mark(t),
+        None => t.is_hash(),
         Some(_) => false,
     }
 }
@@ -178,7 +154,7 @@ fn put_part<'d>(parts: &mut Vec<Part<'d>>, joined: bool, p: Part<'d>) -> Result<
 fn object_part(t: &Token) -> Part
     ensures { part_seen result ≡ object_part (without_line t.now) }
 {
-    if is_pasting_mark(t) {
+    if t.is_pasting() {
         Part::Join
     } else {
         Part::Plain(t)

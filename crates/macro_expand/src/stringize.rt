@@ -1,6 +1,6 @@
 // The operator `#` (ISO C 6.10.3.2).
 ghost use Rattle.std.specs.Prelude.{◌≡◌, ◌++◌, ◌∷◌, [], ◌&&◌, ◌||◌, ◌==◌, not, map, true, IfOk, OnOk, if◌then◌else◌};
-ghost use Rattle.macro_defs.specs.Marks.{is_literal};
+ghost use Rattle.pp_tokens.specs.Marks.{is_literal};
 ghost use Rattle.macro_expand.specs.Replacement.{escaped, spelling_of, spellings, stringized};
 ghost use Rattle.macro_expand.specs.Seen.{marked_of};
 
@@ -37,18 +37,11 @@ fn put_escaped(text: &mut Vec<u8>, literal: &[u8]) -> Result<(), AllocError>
     Ok(())
 }
 
-// Whether a token is a string literal or a character constant.
-fn is_quoted(t: &Token) -> bool
-    ensures { result ≡ is_literal t.now }
-{
-    matches!(t.kind, Kind::Str | Kind::Char)
-}
-
 // Adds the spelling of a token, as it stands within a literal.
 fn put_token(text: &mut Vec<u8>, t: &Token) -> Result<(), AllocError>
     ensures { OnOk result (text.new.items ≡ text.old.items ++ spelling_of t.now) }
 {
-    if is_quoted(t) {
+    if t.is_literal() {
         return put_escaped(text, t.text.as_slice());
     }
     text.extend_from_slice(t.text.as_slice())

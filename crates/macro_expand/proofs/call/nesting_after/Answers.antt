@@ -1,5 +1,5 @@
 use Rattle.std.proofs.Common.{◌∙◌, sym, ap}
-use Rattle.macro_defs.specs.Marks.{is_mark}
+use Rattle.pp_tokens.specs.Marks.{is_mark}
 use Rattle.macro_expand.proofs.CallLaws.{nesting-open, nesting-close, nesting-else}
 use Rattle.macro_expand.proofs.call.nesting_after.Goals as goal
 

@@ -1,5 +1,5 @@
 use Rattle.std.proofs.Common.{arith, ◌∙◌, refl}
-use Rattle.macro_defs.specs.Marks.{is_mark}
+use Rattle.pp_tokens.specs.Marks.{is_mark}
 use Rattle.macro_expand.proofs.OperandLaws.{holds_at-none, not_below, holds_at-some}
 use Rattle.macro_expand.proofs.operand.is_mark_at.Goals as goal
 

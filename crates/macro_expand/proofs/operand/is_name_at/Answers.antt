@@ -1,5 +1,5 @@
 use Rattle.std.proofs.Common.{arith, ◌∙◌, refl}
-use Rattle.macro_defs.specs.Marks.{is_identifier}
+use Rattle.pp_tokens.specs.Marks.{is_identifier}
 use Rattle.macro_expand.proofs.OperandLaws.{holds_at-none, not_below, holds_at-some}
 use Rattle.macro_expand.proofs.operand.is_name_at.Goals as goal
 
@@ -7,4 +7,4 @@ pub returns-in-None : goal.returns-in-None
 returns-in-None c = holds_at-none is_identifier c.args.place c.args.rest.now.items (not_below c.args.place _ _ c.args.rest.now.ok.0 c.in-None.ensures.variant.1)
 
 pub returns-in-Some : goal.returns-in-Some
-returns-in-Some c = c.is_name.ensures ∙ holds_at-some is_identifier c.args.place c.args.rest.now.items c.in-Some.t.now (let h = c.in-Some.ensures.variant.0 refl in omega (arith, h, c.args.rest.now.ok.0)) c.in-Some.ensures.lookup
+returns-in-Some c = c.is_identifier.ensures ∙ holds_at-some is_identifier c.args.place c.args.rest.now.items c.in-Some.t.now (let h = c.in-Some.ensures.variant.0 refl in omega (arith, h, c.args.rest.now.ok.0)) c.in-Some.ensures.lookup

@@ -4,12 +4,12 @@ use Rattle.macro_expand.specs.Parts.{operand_part}
 use Rattle.macro_expand.proofs.PartLemmas.{part_of-join, part_of-operand}
 use Rattle.macro_expand.proofs.replace.unhashed_part.Goals as goal
 
-pub returns-then-is_pasting_mark : goal.returns-then-is_pasting_mark
-returns-then-is_pasting_mark c =
-    sym (part_of-join c.args.params.now (without_line c.args.t.now) (sym c.is_pasting_mark.ensures ∙ c.if-is_pasting_mark.true))
+pub returns-then-is_pasting : goal.returns-then-is_pasting
+returns-then-is_pasting c =
+    sym (part_of-join c.args.params.now (without_line c.args.t.now) (sym c.is_pasting.ensures ∙ c.if-is_pasting.true))
 
 pub returns : goal.returns
 returns c =
     c.operand_at.ensures
     ∙ ap (operand_part None (without_line c.args.t.now)) c.parameter_named.ensures
-    ∙ sym (part_of-operand c.args.params.now (without_line c.args.t.now) (sym c.is_pasting_mark.ensures ∙ c.if-is_pasting_mark.false))
+    ∙ sym (part_of-operand c.args.params.now (without_line c.args.t.now) (sym c.is_pasting.ensures ∙ c.if-is_pasting.false))

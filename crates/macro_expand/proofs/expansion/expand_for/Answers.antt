@@ -1,12 +1,23 @@
-use Rattle.std.proofs.Common.{[], sym, arith}
+use Rattle.std.proofs.Common.{[], ap, sym, ◌∙◌, arith}
 use Rattle.std.proofs.lemmas.List.{nil_from_length}
 use Rattle.std.proofs.lemmas.Result.{err_from_is_err_and}
+use Rattle.macro_expand.specs.Answered.{expanded_for}
 use Rattle.macro_expand.proofs.AnsweredLaws.{before-nothing}
 use Rattle.macro_expand.proofs.LoopLaws.{keeps_tokens_step, stops_tokens_step, keeps_tokens_end}
-use Rattle.macro_expand.proofs.expansion.expand_whole.Goals as goal
+use Rattle.macro_expand.proofs.expansion.expand_for.Goals as goal
 
 pub loop-t-init : goal.loop-t-init
-loop-t-init g c = (([], (sym (before-nothing _), c.new-out.ensures.items)), (c.new-step.ensures.items, omega arith))
+loop-t-init g c = (
+  (
+    [],
+    (
+      ap (expanded_for (g.A.Answers.answerer c.args.source.now) c.args.answers.now c.args.mode 0 c.args.work.now.left) (sym c.in_ok-pending.ensures)
+          ∙ sym (before-nothing _),
+      c.new-out.ensures.items,
+    ),
+  ),
+  (c.new-step.ensures.items, omega arith),
+)
 
 pub loop-t-preserved : goal.loop-t-preserved
 loop-t-preserved g c = (
@@ -18,12 +29,13 @@ loop-t-preserved g c = (
 
 pub returns-in_err-expand_head-clause-err : goal.returns-in_err-expand_head-clause-err
 returns-in_err-expand_head-clause-err g c =
-    let p = err_from_is_err_and c.from_residual.result c.from_residual.ensures.1 in
+    let p = err_from_is_err_and c.from_residual-in_err-expand_head.result c.from_residual-in_err-expand_head.ensures.1 in
     rw (p.1, p.2)
     (stops_tokens_step (g.A.Answers.answerer c.args.source.now) c.args.mode 0 _ c.loop-t.out.items c.in-Some.t c.loop-t.answers c.expand_head.new.answers
     c.loop-t.work.left c.loop-t.pending.items _ _ c.in-Some.ensures.items c.in_err-expand_head.ensures.err c.loop-t.invariant.0)
 
 pub returns-clause-ok : goal.returns-clause-ok
 returns-clause-ok g c =
-    keeps_tokens_end (g.A.Answers.answerer c.args.source.now) c.args.mode 0 _ c.loop-t.out.items c.loop-t.answers c.loop-t.work.left c.loop-t.pending.items
-    (nil_from_length c.loop-t.pending.items (omega (arith, c.in_default.ensures.cases.0, c.loop-t.pending.ok.0))) c.loop-t.invariant.0
+    rw c.of.ensures
+    (keeps_tokens_end (g.A.Answers.answerer c.args.source.now) c.args.mode 0 _ c.loop-t.out.items c.loop-t.answers c.loop-t.work.left c.loop-t.pending.items
+    (nil_from_length c.loop-t.pending.items (omega (arith, c.in_default.ensures.cases.0, c.loop-t.pending.ok.0))) c.loop-t.invariant.0)

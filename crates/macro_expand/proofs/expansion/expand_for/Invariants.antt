@@ -1,14 +1,14 @@
 use Rattle.std.proofs.Common.{◌≡◌, ◌+◌, ◌≤◌, [], map, deque_len}
+use Rattle.macro_expand.specs.Replacement.{unmarked}
 use Rattle.macro_expand.specs.Answered.{expanded_for}
-use Rattle.macro_expand.specs.Seen.{marked_of}
 use Rattle.macro_expand.proofs.LoopLaws.{KeepsTokens}
-use Rattle.macro_expand.proofs.expansion.expand_whole.Given as goal
+use Rattle.macro_expand.proofs.expansion.expand_for.Given as goal
 
 -- the tokens put out so far, before what the pending tokens become with the work that is left
 abbrev pub invariant-loop-t : goal.invariant-loop-t
 invariant-loop-t g l =
     KeepsTokens (g.A.Answers.answerer l.source) l.mode 0
-    (expanded_for (g.A.Answers.answerer l.source) l.initial.answers l.mode 0 l.initial.work.left (map marked_of l.initial.pending.items))
+    (expanded_for (g.A.Answers.answerer l.source) l.initial.answers l.mode 0 l.initial.work.left (map unmarked l.run))
     l.out.items l.answers l.work.left l.pending.items
     × ((l.step.items ≡ []) × (l.work.left ≤ l.initial.work.left))
 
