@@ -9,7 +9,7 @@ use Rattle.job_words.specs.declared.given.Given.{Given}
 use Rattle.job_words.specs.declared.given.Taker.{Taker}
 use Rattle.job_words.specs.declared.reading.WordError.{WordError}
 use Rattle.job_words.specs.declared.reading.WordError.TheVariants.{Cwd, Limit}
-use Rattle.job_words.specs.Words.{Onward, Word, Takes, Trigraphs, NoEffect, Source, NotKnown, at_source, at_word, read_on, nothing, word_of, word_without_operand, has_no_effect, finished, with_source, job_in, is_directory, are_short, reading, job_of, job_given, IsWord, JobsKeepWords, JobsAreShort}
+use Rattle.job_words.specs.Words.{Onward, Word, Takes, Trigraphs, NoEffect, Source, NotKnown, give, and_then, at_source, at_word, read_on, nothing, word_of, word_without_operand, has_no_effect, finished, with_source, job_in, is_directory, are_short, reading, job_of, job_given, IsWord, JobsKeepWords, JobsAreShort}
 
 -- the reading that a job comes from
 job-read : (r : Result JobData WordError) (job : JobData) → job_given r ≡ Some job → r ≡ Ok job
@@ -53,10 +53,15 @@ keeps-words cwd words job e = kept cwd words (read_on None words nothing) job (p
 
 -- ---- lengths ----
 
+-- an operand that isn't refused is read on behind
+on-given : (onward : Given → Result Given WordError) (given : Result Given WordError) (all : Given) → and_then onward given ≡ Ok all → (more : Given) × (onward more ≡ Ok all)
+on-given onward (Ok more) all e = (more, e)
+on-given onward (Err why) all e = absurd (cc)
+
 -- a step that ends well goes on behind its word
 goes-on : (next : Onward) (word : Word) (given all : Given) → at_word next word given ≡ Ok all → (waiting : Option Taker) × ((more : Given) × (next waiting more ≡ Ok all))
 goes-on next (Takes taker []) given all e = (Some taker, (given, e))
-goes-on next (Takes taker (b ∷ text)) given all e = (None, (_, e))
+goes-on next (Takes taker (b ∷ text)) given all e = (None, on-given (next None) (give taker (b ∷ text) given) all e)
 goes-on next Trigraphs given all e = (None, (_, e))
 goes-on next NoEffect given all e = (None, (given, e))
 goes-on next (Source name) given all e = by_source given.source e
@@ -75,7 +80,9 @@ none-empty (Some taker) ([] ∷ words) given all e = absurd (cc)
 none-empty None ((b ∷ word) ∷ words) given all e =
     let onward = goes-on (λ waiting more. read_on waiting words more) (word_of (b ∷ word)) given all e in
     (omega arith, none-empty onward.0 words onward.1.0 all onward.1.1)
-none-empty (Some taker) ((b ∷ word) ∷ words) given all e = (omega arith, none-empty None words _ all e)
+none-empty (Some taker) ((b ∷ word) ∷ words) given all e =
+    let onward = on-given (λ more. read_on None words more) (give taker (b ∷ word) given) all e in
+    (omega arith, none-empty None words onward.0 all onward.1)
 
 each-word : (words : List Text) → AllByRecursion (λ word. 1 ≤ length word) words → list_all (λ word. nat_le (length word) 4096) words ≡ true → AllByRecursion IsWord words
 each-word [] some short = tt

@@ -2,6 +2,7 @@
 use Rattle.std.specs.Prelude.{List}
 use Rattle.tree_model.specs.Paths.{Text}
 use Rattle.search_path.specs.SetupOf.{SetupData}
+use Rattle.job_words.specs.declared.job.Parts.{Parts}
 
 -- the compile words, the source's name, what the words say of searches, the names of the files that are included in front of the
 -- source, and the name under which the text is put
@@ -11,3 +12,7 @@ pub record JobData : Type 0 where
   pub setup : SetupData
   pub forced : List Text
   pub output : Text
+
+-- the job of these parts
+abbrev pub job_of_parts : Parts → JobData
+job_of_parts parts = record { words = parts.words; source = parts.source; setup = parts.setup; forced = parts.forced; output = parts.output }

@@ -1,4 +1,5 @@
 -- Jobs: what is read from a working directory and compile words.
 pub mod JobOf
 pub mod Words
+pub mod Keys
 pub mod Told

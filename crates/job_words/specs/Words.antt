@@ -3,7 +3,8 @@ use Rattle.std.specs.Prelude.{◌≡◌, ◌≤◌, List, [], ◌∷◌, ◌++�
 use Rattle.std.specs.List.{list_any, list_all, starts_with, before_last, AllByRecursion}
 use Rattle.tree_model.specs.Paths.{Text}
 use Rattle.tree_model.specs.Walk.{is_absolute, components, last_of}
-use Rattle.job_words.specs.JobOf.{JobData}
+use Rattle.search_path.specs.SetupOf.{SetupData, setup_of}
+use Rattle.job_words.specs.JobOf.{JobData, job_of_parts}
 use Rattle.job_words.specs.declared.reading.WordError.{WordError}
 use Rattle.job_words.specs.declared.reading.WordError.TheVariants.{NoSource, TwoSources, Unknown, NoOperand, Limit, Cwd}
 use Rattle.job_words.specs.declared.given.Taker.{Taker}
@@ -67,33 +68,38 @@ word_of word =
 abbrev pub nothing : Given
 nothing = record { source = None; quote = []; directories = []; system = []; after = []; forced = []; output = None; trigraphs = false }
 
--- an operand joins those of its option; of outputs the last holds
-abbrev pub give : Taker → Text → Given → Given
-give Directory text given = record given { directories = given.directories ++ text ∷ [] }
-give QuoteDirectory text given = record given { quote = given.quote ++ text ∷ [] }
-give SystemDirectory text given = record given { system = given.system ++ text ∷ [] }
-give AfterDirectory text given = record given { after = given.after ++ text ∷ [] }
-give Include text given = record given { forced = given.forced ++ text ∷ [] }
-give Output text given = record given { output = Some text }
+-- an operand joins those of its option, or is refused, as none of these options does with its own; of outputs the last holds
+abbrev pub give : Taker → Text → Given → Result Given WordError
+give Directory text given = Ok (record given { directories = given.directories ++ text ∷ [] })
+give QuoteDirectory text given = Ok (record given { quote = given.quote ++ text ∷ [] })
+give SystemDirectory text given = Ok (record given { system = given.system ++ text ∷ [] })
+give AfterDirectory text given = Ok (record given { after = given.after ++ text ∷ [] })
+give Include text given = Ok (record given { forced = given.forced ++ text ∷ [] })
+give Output text given = Ok (record given { output = Some text })
+
+-- what was read so far is read on from, and a refusal stays
+abbrev pub and_then : (Given → Result Given WordError) → Result Given WordError → Result Given WordError
+and_then next (Ok given) = next given
+and_then next (Err why) = Err why
 
 -- what is read behind a word: whether an option waits for its operand, and what was read so far
 abbrev pub Onward : Type 0
 Onward = Option Taker → Given → Result Given WordError
 
--- an operand that is a word of its own
+-- an operand, which may not be empty
 abbrev pub at_operand : Onward → Taker → Text → Given → Result Given WordError
 at_operand next taker [] given = Err NoOperand
-at_operand next taker (b ∷ text) given = next None (give taker (b ∷ text) given)
+at_operand next taker (b ∷ text) given = and_then (next None) (give taker (b ∷ text) given)
 
 -- a source's name, where this one was read before
 abbrev pub at_source : Onward → Text → Option Text → Given → Result Given WordError
 at_source next name None given = next None (record given { source = Some name })
 at_source next name (Some other) given = Err TwoSources
 
--- a word that is no operand; an option whose word ends with it waits for the next word
+-- a word that is no operand; an option whose word ends with it waits for the next word, which is its operand
 abbrev pub at_word : Onward → Word → Given → Result Given WordError
 at_word next (Takes taker []) given = next (Some taker) given
-at_word next (Takes taker (b ∷ text)) given = next None (give taker (b ∷ text) given)
+at_word next (Takes taker (b ∷ text)) given = at_operand next taker (b ∷ text) given
 at_word next Trigraphs given = next None (record given { trigraphs = true })
 at_word next NoEffect given = next None given
 at_word next (Source name) given = at_source next name given.source given
@@ -128,20 +134,19 @@ each_once_behind before (text ∷ texts) = each_once_behind (add_once before tex
 abbrev pub each_once : List Text → List Text
 each_once texts = each_once_behind [] texts
 
--- the job of a source; each directory keeps the first place that it has in its part of the chain
+-- what the words say of searches; each directory keeps the first place that it has in its part of the chain
+abbrev pub setup_in : Text → Given → SetupData
+setup_in cwd given = setup_of cwd (each_once given.quote) (each_once (given.directories ++ (given.system ++ given.after))) given.trigraphs
+
+-- the job of a source
 abbrev pub job_in : Text → List Text → Text → Given → JobData
-job_in cwd words source given = record {
+job_in cwd words source given = job_of_parts (record {
   words = words;
   source = source;
-  setup = record {
-    cwd = cwd;
-    quote = each_once given.quote;
-    bracket = each_once (given.directories ++ (given.system ++ given.after));
-    trigraphs = given.trigraphs;
-  };
+  setup = setup_in cwd given;
   forced = given.forced;
   output = unwrap_or given.output (output_of source);
-}
+})
 
 -- words that were read to their end want a source
 abbrev pub with_source : Text → List Text → Option Text → Given → Result JobData WordError

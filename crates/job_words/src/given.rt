@@ -1,7 +1,9 @@
 // What compile words give.
-ghost use Rattle.std.specs.Prelude.{◌≡◌, OnOk};
+ghost use Rattle.std.specs.Prelude.{◌≡◌, ◌≤◌, ◌+◌, ◌⊎◌, Ok, Err, OnOk, IfErr};
 ghost use Rattle.job_words.specs.Words as compile;
+ghost use Rattle.job_words.specs.Told.{texts_given};
 
+use crate::reading::WordError;
 use base_types::{Bytes, List};
 use std::alloc::{AllocError, Global};
 
@@ -46,11 +48,21 @@ impl Given {
         }
     }
 
-    // Adds an operand to those of its option.
-    pub fn give(&mut self, alloc: Global, taker: Taker, text: &[u8]) -> Result<(), AllocError>
-        ensures { OnOk result (self.new ≡ compile.give taker text.now self.old) }
+    // Adds an operand to those of its option, or refuses it.
+    pub fn give(&mut self, alloc: Global, taker: Taker, text: &[u8]) -> Result<(), WordError>
+        ensures given { OnOk result (compile.give taker text.now self.old ≡ Ok self.new) }
+        ensures few { OnOk result (texts_given self.new ≤ texts_given self.old + 1) }
+        ensures why { IfErr result (λ e. (e ≡ WordError.Memory) ⊎ (compile.give taker text.now self.old ≡ Err e)) }
     {
-        let text = Bytes::copy_of(alloc, text)?;
+        self.add(taker, Bytes::copy_of(alloc, text)?)?;
+        Ok(())
+    }
+
+    // Adds an operand to those of an option that takes any.
+    fn add(&mut self, taker: Taker, text: Bytes) -> Result<(), AllocError>
+        ensures given { OnOk result (compile.give taker text self.old ≡ Ok self.new) }
+        ensures few { OnOk result (texts_given self.new ≤ texts_given self.old + 1) }
+    {
         match taker {
             Taker::Directory => self.directories.push(text)?,
             Taker::QuoteDirectory => self.quote.push(text)?,

@@ -1,4 +1,5 @@
 // Laws of jobs.
+ghost use Rattle.job_words.specs.Keys.{JobsDecide};
 ghost use Rattle.job_words.specs.Words.{JobsKeepWords, JobsAreShort};
 
 /// A job that was read keeps the working directory and the words that it was read from.
@@ -9,4 +10,9 @@ pub fn jobs_keep_words()
 /// A job is read only from a working directory of 1 to 4,096 bytes and at most 1,000 words, each of 1 to 4,096.
 pub fn jobs_are_short()
     ensures { JobsAreShort }
+{}
+
+/// Jobs are equal by `==` exactly where they are the same.
+pub fn equal_jobs_are_same()
+    ensures { JobsDecide }
 {}

@@ -8,26 +8,36 @@ ghost use Rattle.job_words.specs.Told.{IsLast, IsRead, HasTexts, NoneFrom, texts
 
 use crate::Job;
 use crate::given::{Given, Taker};
+use crate::job::Parts;
 use crate::word::{Word, word_of};
 use base_types::{Bytes, List};
 use search_path::Setup;
 use std::alloc::{AllocError, Global};
 use std::collections::HashSet;
+use thiserror::Error;
 
 /// Why words give no job. In this order: the working directory doesn't begin with `/`, or has a byte 0 or more than
 /// 4,096 bytes (`Cwd`); there are more than 1,000 words, or one has more than 4,096 bytes (`Limit`); then the words
 /// from left to right: a second source (`TwoSources`), a word that isn't known (`Unknown`), an option whose operand is
 /// missing or empty (`NoOperand`), a macro that can't be defined so (`BadMacro`, which comes from no word so far); and
 /// at last that no word is a source (`NoSource`). `Memory`: no memory was found.
-#[derive(Clone, Copy, Debug, PartialEq, Eq, Drop)]
+#[derive(Clone, Copy, Debug, PartialEq, Eq, Drop, Error)]
 pub enum WordError {
+    #[error("NoSource")]
     NoSource,
+    #[error("TwoSources")]
     TwoSources,
+    #[error("Unknown")]
     Unknown,
+    #[error("NoOperand")]
     NoOperand,
+    #[error("BadMacro")]
     BadMacro,
+    #[error("Limit")]
     Limit,
+    #[error("Cwd")]
     Cwd,
+    #[error("Memory")]
     Memory,
 }
 
@@ -213,8 +223,17 @@ fn job_of(alloc: Global, cwd: &[u8], words: &[Bytes], given: Given) -> Result<Jo
     let output = output_or(alloc, output, source.as_slice())?;
     let bracket = chain(alloc, directories, system, after)?;
     let quote = each_once(alloc, quote.as_slice())?;
-    let setup = Setup::new(Bytes::copy_of(alloc, cwd)?, quote, bracket, trigraphs);
-    Ok(Job::new(copied(alloc, words)?, source, setup, forced, output))
+    let cwd = Bytes::copy_of(alloc, cwd)?;
+    let setup = Setup::new(alloc, cwd, quote, bracket, trigraphs)?;
+    let words = copied(alloc, words)?;
+    let parts = Parts {
+        words,
+        source,
+        setup,
+        forced,
+        output,
+    };
+    Ok(Job::new(alloc, parts)?)
 }
 
 // A copy of words.

@@ -10,6 +10,8 @@ mod first;
 #[cfg(test)]
 mod included;
 #[cfg(test)]
+mod keys;
+#[cfg(test)]
 mod next;
 #[cfg(test)]
 mod tree;

@@ -48,12 +48,13 @@ pub fn check(rt: &impl Abort, alloc: Global, places: &Places<'_>, rows: &[Row<'_
     }
 }
 
-fn setup_of(rt: &impl Abort, alloc: Global, places: &Places<'_>) -> Setup {
+/// The setup of these directories.
+pub fn setup_of(rt: &impl Abort, alloc: Global, places: &Places<'_>) -> Setup {
     let cwd = Bytes::copy_of(alloc, b"/w").expect(rt, "no memory");
     let quote = texts(rt, alloc, places.quote);
     let bracket = texts(rt, alloc, places.bracket);
     assert!(rt; quote.len() < 100 && bracket.len() < 100);
-    Setup::new(cwd, quote, bracket, false)
+    Setup::new(alloc, cwd, quote, bracket, false).expect(rt, "no memory")
 }
 
 fn texts(rt: &impl Abort, alloc: Global, texts: &[&str]) -> List<Bytes> {
@@ -110,7 +111,10 @@ fn shown<T: Tree>(
     requires { NeedsFrom ask.now.form ask.now.from }
 {
     match search(alloc, tree, setup, ask) {
-        Ok(Some((visit, located))) => shown_place(alloc, &visit, &located.real),
+        Ok(Some((visit, located))) => {
+            let copy = located.copy(alloc)?;
+            shown_place(alloc, &visit, &copy.real)
+        }
         Ok(None) => Ok(String::new(alloc)),
         Err(error) => format!(in alloc; "{error:?}"),
     }
@@ -125,8 +129,8 @@ fn spelled(path: &CanonPath) -> &str {
     std::str::from_utf8(path.bytes()).unwrap_or("?")
 }
 
-// The path that a text spells, or the root where it spells none.
-fn path(alloc: Global, text: &str) -> Result<CanonPath, AllocError> {
+/// The path that a text spells, or the root where it spells none.
+pub fn path(alloc: Global, text: &str) -> Result<CanonPath, AllocError> {
     match CanonPath::read(alloc, text.as_bytes())? {
         Some(path) => Ok(path),
         None => CanonPath::root(alloc),

@@ -1,8 +1,8 @@
 -- The first candidate that locates a file.
-use Rattle.std.proofs.Common.{◌≡◌, ℕ, ◌+◌, [], ◌∷◌, List, Bool, true, false, cond, Option, None, Some, map, inl, inr, refl, sym, ap, subst, ◌∙◌}
+use Rattle.std.proofs.Common.{◌≡◌, ℕ, ◌+◌, [], ◌∷◌, List, Bool, true, false, cond, Option, None, Some, map, inl, inr, refl, sym, ap, ◌∙◌}
 use Rattle.std.specs.List.{AllByRecursion}
 use Rattle.base_types.specs.Members.{Member}
-use Rattle.tree_model.specs.Paths.{Text, Path, parent}
+use Rattle.tree_model.specs.Paths.{Text, Path}
 use Rattle.tree_model.specs.Trees.{FileTree, entry_at, Sub}
 use Rattle.tree_model.specs.Walk.{locate, is_absolute}
 use Rattle.tree_model.specs.Frame.{IsLocatedInPart, IsLocatedInNoPart}

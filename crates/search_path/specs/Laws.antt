@@ -1,5 +1,5 @@
 -- Laws of searches.
-use Rattle.std.specs.Prelude.{◌≡◌, ◌⊎◌, [], Option, None, Some}
+use Rattle.std.specs.Prelude.{◌≡◌, ◌⊎◌, [], None, Some}
 use Rattle.base_types.specs.Members.{Member}
 use Rattle.tree_model.specs.Paths.{Text, Path, parent}
 use Rattle.tree_model.specs.Trees.{FileTree, entry_at, Sub}

@@ -10,6 +10,10 @@ pub record SetupData : Type 0 where
   pub bracket : List Text
   pub trigraphs : Bool
 
+-- the setup of these
+abbrev pub setup_of : Text → List Text → List Text → Bool → SetupData
+setup_of cwd quote bracket trigraphs = record { cwd = cwd; quote = quote; bracket = bracket; trigraphs = trigraphs }
+
 -- a text below a working directory, or itself where it begins with `/`
 abbrev pub absolute : Text → Text → Text
 absolute cwd text = cond (is_absolute text) text (cwd ++ slash ∷ text)

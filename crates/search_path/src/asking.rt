@@ -7,7 +7,7 @@ use tree_model::CanonPath;
 
 /// How a file was found: as the source, by a name that begins with `/`, beside the file that asks (a forced file:
 /// in the working directory), or in the chain's directory of this number, from 0.
-#[derive(Clone, Copy, Debug, PartialEq, Eq, Drop)]
+#[derive(Clone, Copy, Debug, PartialEq, Eq, Hash, Drop)]
 pub enum Found {
     Primary,
     Absolute,
@@ -16,7 +16,7 @@ pub enum Found {
 }
 
 /// A file by its place, and how it was found. `#include_next` goes on behind that.
-#[derive(Drop)]
+#[derive(PartialEq, Eq, Hash, Drop)]
 pub struct Visit {
     pub place: CanonPath,
     pub found: Found,

@@ -1,4 +1,5 @@
 // Laws of searches.
+ghost use Rattle.search_path.specs.Keys.{SetupsDecide, VisitsDecide};
 ghost use Rattle.search_path.specs.Laws.{SearchesLocate, IsFoundInPart, IsFoundInNoPart};
 
 use tree_model::frame_law;
@@ -15,3 +16,9 @@ pub fn search_frame()
 {
     frame_law();
 }
+
+/// Setups, and visits, are equal by `==` exactly where they are the same.
+pub fn equal_are_same()
+    ensures setups { SetupsDecide }
+    ensures visits { VisitsDecide }
+{}

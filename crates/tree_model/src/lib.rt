@@ -2,6 +2,7 @@
 //! POSIX pathname resolution, a tree in memory, and a tree that remembers the nodes of another.
 #![tactic(auto)]
 
+mod body;
 mod cached;
 mod entry;
 mod frame;
@@ -9,9 +10,11 @@ mod laws;
 mod mem_tree;
 mod order;
 mod path;
+mod showing;
 mod tree;
 mod walk;
 
+pub use body::read_body;
 pub use cached::{Cached, Remembers};
 pub use entry::{Entry, Node, copied};
 pub use frame::{frame_law, leads_law, looked_law, walked_law};
@@ -22,5 +25,6 @@ pub use laws::{
 pub use mem_tree::{MemTree, MirrorError, entry_at};
 pub use order::{entry_spelled, judge_entries, judge_path};
 pub use path::CanonPath;
+pub use showing::shown;
 pub use tree::{Frozen, Tree, TreeError, Unnamed};
 pub use walk::{Located, locate};

@@ -25,6 +25,33 @@ pub struct Located {
     pub walked: List<CanonPath>,
 }
 
+impl Located {
+    /// A copy.
+    pub fn copy(&self, alloc: Global) -> Result<Located, AllocError>
+        ensures { IfOk result (λ copy. copy ≡ self.now) }
+    {
+        let place = self.place.copy(alloc)?;
+        let real = self.real.copy(alloc)?;
+        let walked = copies(alloc, self.walked.as_slice())?;
+        Ok(Located {
+            place,
+            real,
+            walked,
+        })
+    }
+}
+
+// Copies of paths.
+fn copies(alloc: Global, paths: &[CanonPath]) -> Result<List<CanonPath>, AllocError>
+    ensures { IfOk result (λ copies. copies ≡ paths.now) }
+{
+    let mut copies = List::new(alloc);
+    for path in paths {
+        copies.push(path.copy(alloc)?)?;
+    }
+    Ok(copies)
+}
+
 // The greatest length of a text that locates a file.
 const TEXT_LIMIT: usize = 4096;
 

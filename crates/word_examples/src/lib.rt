@@ -6,6 +6,8 @@ mod directories;
 #[cfg(test)]
 mod effects;
 #[cfg(test)]
+mod keys;
+#[cfg(test)]
 mod limits;
 #[cfg(test)]
 mod notation;

@@ -27,8 +27,9 @@ pub fn check_text(rt: &impl Abort, row: &str, text: &[u8], expected: &[u8]) {
 pub fn given(rt: &impl Abort, alloc: Global, cwd: &[u8], words: &[Bytes]) -> Vec<u8> {
     match read_words(alloc, cwd, words) {
         Ok(job) => {
+            let copy = job.copy().expect(rt, "memory for a copy");
             check_kept(rt, &job, cwd, words);
-            shown(rt, alloc, &job)
+            shown(rt, alloc, &copy)
         }
         Err(why) => reason(rt, alloc, why),
     }
@@ -44,7 +45,7 @@ fn check_kept(rt: &impl Abort, job: &Job, cwd: &[u8], words: &[Bytes]) {
 // No memory is no reason of the words.
 fn reason(rt: &impl Abort, alloc: Global, why: WordError) -> Vec<u8> {
     assert!(rt; why != WordError::Memory);
-    let text = format!(in alloc; "{why:?}").expect(rt, "memory for a text");
+    let text = format!(in alloc; "{why}").expect(rt, "memory for a text");
     text.into_bytes()
 }
 

@@ -4,8 +4,8 @@ use Rattle.job_words.proofs.EachOnce.{each_once-length}
 use Rattle.job_words.proofs.Jobs.{job-of-parts}
 use Rattle.job_words.proofs.reading.job_of.Goals as goal
 
-pub new-setup-requires : goal.new-setup-requires
-new-setup-requires c =
+pub new-requires : goal.new-requires
+new-requires c =
     let given = c.args.given in
     omega (
       arith,
@@ -19,13 +19,13 @@ new-setup-requires c =
       c.requires.few,
     )
 
-pub new-requires : goal.new-requires
-new-requires c =
+pub new-requires-2 : goal.new-requires-2
+new-requires-2 c =
     job-of-parts c.args.cwd.now c.args.words.now c.in-Some.source c.args.given _ c.requires.read c.in-Some.is
     (rw (
-      c.in_ok-copied.ensures,
-      c.new-setup.ensures,
-      c.in_ok-copy_of.ensures,
+      c.in_ok-words.ensures,
+      c.in_ok-setup.ensures,
+      c.in_ok-cwd.ensures,
       c.in_ok-quote.ensures,
       c.as_slice-2.ensures,
       c.in_ok-bracket.ensures,

@@ -1,0 +1,10 @@
+use Rattle.std.proofs.Common.{[], get_or, ◌∙◌, ap, refl, ◌++◌, ℕ, List}
+use Rattle.tree_model.specs.Shown.{shown_byte}
+use Rattle.tree_model.proofs.ShownLemmas.{one-more}
+use Rattle.tree_model.proofs.showing.shown.Goals as goal
+
+pub loop-byte-preserved : goal.loop-byte-preserved
+loop-byte-preserved c =
+    c.in_ok-add_shown.ensures
+    ∙ ap (λ (bytes : List ℕ). bytes ++ shown_byte (get_or c.args.text.now c.loop-byte.byte-index 0)) c.loop-byte.invariant
+    ∙ one-more shown_byte [] c.args.text.now c.loop-byte.byte-index (get_or c.args.text.now c.loop-byte.byte-index 0) 0 c.loop-byte-test.true refl

@@ -1,0 +1,15 @@
+-- Paths as diagnostics and line markers show them.
+use Rattle.std.specs.Prelude.{ℕ, List, [], ◌∷◌, if◌then◌else◌, ◌==◌, codes}
+use Rattle.std.specs.List.{flat_map}
+use Rattle.tree_model.specs.Paths.{Text, Path, spelled}
+
+-- a byte as it is shown in a name: `\`, `"` and a newline are escaped
+abbrev pub shown_byte : ℕ → Text
+shown_byte b = if b == 92 then codes "\\\\" else (if b == 34 then codes "\\\"" else (if b == 10 then codes "\\n" else b ∷ []))
+
+unfoldable pub shown : Text → Text
+shown text = flat_map shown_byte text
+
+-- the presumed name of a file, as it is before any `#line` (ISO C 6.10.4)
+abbrev pub presumed_name : Path → Text
+presumed_name place = shown (spelled place)
