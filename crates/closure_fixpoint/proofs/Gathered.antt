@@ -16,13 +16,13 @@ use Rattle.search_path.specs.Laws.{IsStart, SearchesLocate}
 use Rattle.search_path.specs.declared.asking.Visit.{Visit}
 use Rattle.job_words.specs.declared.job.Job.{Job}
 use Rattle.job_frames.specs.Request.{HasSpelling, request_bytes, most}
-use Rattle.daemon_cpp.specs.Prep.{source_ask}
+use Rattle.search_path.specs.Asks.{header_ask, source_ask}
 use Rattle.closure_fixpoint.specs.declared.job_analysis.Refusal.{Refusal}
 use Rattle.closure_fixpoint.specs.declared.job_analysis.Refusal.TheVariants as refusal
 use Rattle.closure_fixpoint.specs.declared.job_analysis.Analysed.{Analysed}
 use Rattle.closure_fixpoint.specs.declared.job_analysis.Analysed.TheVariants as analysed
 use Rattle.closure_fixpoint.specs.Simple.{names_asked}
-use Rattle.closure_fixpoint.specs.Analysis.{IsNodeOf, AreEntriesOf, Holds, NothingHolds, AnalysisHolds, source_of, quoted_by, found_files, found_from, target_of, targets_of, body_found, is_unbuilt}
+use Rattle.closure_fixpoint.specs.Analysis.{IsNodeOf, AreEntriesOf, Holds, NothingHolds, AnalysisHolds, source_of, found_files, found_from, target_of, targets_of, body_found, is_unbuilt}
 use Rattle.closure_fixpoint.specs.Gathering.{files_from, upward, all_upward, nodes_of, comes_before, are_rising, with_path, entries_at, request_from, IsAnswerAt}
 use Rattle.closure_fixpoint.proofs.Orders.{left-member, right-member, of-either, at-member, in_order}
 
@@ -126,7 +126,7 @@ source-start job dir (inl e) = e
 source-start job dir (inr (visit, from, e)) = let never : None ≡ Some visit = from in absurd (cc)
 
 -- an included file from there, or from the directory of the file that asks
-target-start : (visit : Visit) (name : Text) (dir : Path) → IsStart (quoted_by visit name) dir → (dir ≡ []) ⊎ (dir ≡ parent visit.place)
+target-start : (visit : Visit) (name : Text) (dir : Path) → IsStart (header_ask visit false false name) dir → (dir ≡ []) ⊎ (dir ≡ parent visit.place)
 target-start visit name dir (inl e) = inl e
 target-start visit name dir (inr (other, from, e)) =
     let is : Some visit ≡ Some other = from in
@@ -146,9 +146,9 @@ module _ (holds : HoldsOfLocated) (locates : SearchesLocate) (tree : FileTree) (
       let facts = (source-holds source e).1 in
       ap (λ (p : Path). entry_at tree (parent p)) (hit.place ∙ facts.below) ∙ facts.dir
 
-  target-holds : (source : Hit) → source_of tree job ≡ Some source → (name : Text) (hit : Hit) → search tree job.setup (quoted_by source.0 name) ≡ Some hit → (text : Text) × LocatedHolds tree text hit.1
+  target-holds : (source : Hit) → source_of tree job ≡ Some source → (name : Text) (hit : Hit) → search tree job.setup (header_ask source.0 false false name) ≡ Some hit → (text : Text) × LocatedHolds tree text hit.1
   target-holds source e name hit is =
-      let found = locates tree job.setup (quoted_by source.0 name) hit is in
+      let found = locates tree job.setup (header_ask source.0 false false name) hit is in
       (found.text, holds tree found.dir found.text hit.1 whole (dir_there found.dir (target-start source.0 name found.dir found.start)) found.located)
     where
       dir_there : (dir : Path) → (dir ≡ []) ⊎ (dir ≡ parent source.0.place) → entry_at tree dir ≡ Some Dir
@@ -161,7 +161,7 @@ module _ (holds : HoldsOfLocated) (locates : SearchesLocate) (tree : FileTree) (
       (source-holds source e).1.nodes met (subst (λ (l : Located). Member met l.walked) (sym same) walked)
   walked-there (Some source) e located (inr m) met walked =
       let asked = of-given (target_of tree job.setup source.0) located (names_asked (body_found tree source.1)) m in
-      let hit = of-hit (search tree job.setup (quoted_by source.0 asked.0)) located asked.2 in
+      let hit = of-hit (search tree job.setup (header_ask source.0 false false asked.0)) located asked.2 in
       (target-holds source e asked.0 hit.0 hit.1).1.nodes met (subst (λ (l : Located). Member met l.walked) (sym hit.2) walked)
 
   node-there : (path : Path) → IsNodeOf tree job path → IsSome (entry_at tree path)

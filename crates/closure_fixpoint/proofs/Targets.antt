@@ -11,7 +11,7 @@ use Rattle.search_path.specs.Search.{Hit}
 use Rattle.search_path.specs.declared.asking.Visit.{Visit}
 use Rattle.job_words.specs.declared.job.Job.{Job}
 use Rattle.directive_scan.specs.declared.Piece.{Piece}
-use Rattle.daemon_cpp.specs.Reading.{body_within}
+use Rattle.tree_model.specs.Bodies.{body_within}
 use Rattle.closure_fixpoint.specs.declared.job_analysis.Refusal.{Refusal}
 use Rattle.closure_fixpoint.specs.declared.job_analysis.Refusal.TheVariants.{Unbuilt}
 use Rattle.closure_fixpoint.specs.Simple.{name_asked, asks, pieces_of, is_simple, is_flat}

@@ -1,22 +1,21 @@
 -- What an analysis sends, and why it is refused. So far a job's files are its source and the files of the source's
 -- includes, whatever conditionals say of them.
-use Rattle.std.specs.Prelude.{◌≡◌, ◌⊎◌, ◌<◌, ℕ, Bool, true, not, ◌&&◌, ◌||◌, ◌==◌, unwrap_or, List, [], ◌∷◌, length, Option, None, Some}
+use Rattle.std.specs.Prelude.{◌≡◌, ◌⊎◌, ◌<◌, ℕ, Bool, true, false, not, ◌&&◌, ◌||◌, ◌==◌, List, [], ◌∷◌, length, Option, None, Some}
 use Rattle.std.specs.List.{list_any, filter_map}
 use Rattle.std.specs.Option.{option_map}
 use Rattle.base_types.specs.Members.{Member}
 use Rattle.tree_model.specs.Paths.{Text, Path, IsAtOrAbove}
 use Rattle.tree_model.specs.Entries.{Entries, Increasing}
-use Rattle.tree_model.specs.Trees.{FileTree, entry_at, body_at, IsTooLarge}
+use Rattle.tree_model.specs.Trees.{FileTree, entry_at, IsTooLarge}
+use Rattle.tree_model.specs.Bodies.{body_at_path}
 use Rattle.tree_model.specs.declared.walk.Located.{Located}
 use Rattle.tree_model.specs.declared.entry.Entry.{Entry}
 use Rattle.search_path.specs.SetupOf.{SetupData}
 use Rattle.search_path.specs.Search.{Hit, search}
 use Rattle.search_path.specs.declared.asking.Visit.{Visit}
-use Rattle.search_path.specs.declared.asking.Form.TheVariants.{Quote}
-use Rattle.search_path.specs.declared.asking.Ask.{Ask}
 use Rattle.job_words.specs.declared.job.Job.{Job}
 use Rattle.job_frames.specs.Request.{request_bytes, most}
-use Rattle.daemon_cpp.specs.Prep.{source_ask}
+use Rattle.search_path.specs.Asks.{header_ask, source_ask}
 use Rattle.closure_fixpoint.specs.Simple.{names_asked, is_simple, is_flat}
 use Rattle.closure_fixpoint.specs.declared.job_analysis.Refusal.{Refusal}
 use Rattle.closure_fixpoint.specs.declared.job_analysis.Refusal.TheVariants as refusal
@@ -25,21 +24,13 @@ use Rattle.closure_fixpoint.specs.declared.job_analysis.Analysed.TheVariants as 
 
 -- ---- the searches ----
 
--- the bytes of the file at a path, none where no file is
-abbrev pub body_at_path : FileTree → Path → Text
-body_at_path tree path = unwrap_or (body_at tree path) []
-
 -- the bytes of a located file
 abbrev pub body_found : FileTree → Located → Text
 body_found tree located = body_at_path tree located.real
 
--- a name in quotes, as a file asks for it
-abbrev pub quoted_by : Visit → Text → Ask
-quoted_by visit name = record { form = Quote; from = Some visit; name = name }
-
 -- the file that a found file's include asks for, where it is found
 abbrev pub target_of : FileTree → SetupData → Visit → Text → Option Located
-target_of tree setup visit name = option_map (λ hit. hit.1) (search tree setup (quoted_by visit name))
+target_of tree setup visit name = option_map (λ hit. hit.1) (search tree setup (header_ask visit false false name))
 
 -- the files that a found file's includes ask for, where they are found
 abbrev pub targets_of : FileTree → SetupData → Hit → List Located

@@ -5,6 +5,7 @@ use Rattle.std.specs.Option.{is_some}
 use Rattle.std.specs.List.{list_any, filter_map}
 use Rattle.pp_tokens.specs.Plain.{is_plain_body}
 use Rattle.pp_tokens.specs.Lines.{lexed, LexedFile}
+use Rattle.pp_tokens.specs.Marks.{is_reserved}
 use Rattle.directive_scan.specs.declared.Target.{Target}
 use Rattle.directive_scan.specs.declared.Target.TheVariants.{Plain, Computed}
 use Rattle.directive_scan.specs.declared.Directive.{Directive}
@@ -13,7 +14,6 @@ use Rattle.directive_scan.specs.declared.Piece.{Piece}
 use Rattle.directive_scan.specs.declared.Piece.TheVariants.{Run, Line}
 use Rattle.directive_scan.specs.Directives.{pieces}
 use Rattle.tree_model.specs.Paths.{Text}
-use Rattle.daemon_cpp.specs.Prep.{is_reserved}
 
 -- ---- the names asked for ----
 

@@ -3,18 +3,18 @@ ghost use Rattle.std.specs.Prelude.{◌≡◌, ◌≢◌, ◌++◌, ◌∷◌, [
 ghost use Rattle.std.specs.Option.{ForSome, option_map};
 ghost use Rattle.base_types.specs.Causes.{HasCause};
 ghost use Rattle.closure_fixpoint.specs.Simple.{is_flat};
-ghost use Rattle.closure_fixpoint.specs.Analysis.{source_of, target_of, body_found, body_at_path, is_plain_job, quoted_by};
+ghost use Rattle.closure_fixpoint.specs.Analysis.{source_of, target_of, body_found, is_plain_job};
+ghost use Rattle.tree_model.specs.Bodies.{body_at_path};
 ghost use Rattle.closure_fixpoint.specs.Gathering.{simple_of, targets_from, are_flat, files_from, with_targets};
 
 use crate::Refusal;
 use crate::simple::{asked, is_flat_file, simple_pieces};
-use base_types::{Bytes, List};
-use daemon_cpp::{CppError, read_body};
+use base_types::List;
 use directive_scan::Piece;
 use job_words::Job;
-use search_path::{Ask, Form, Setup, Visit, search};
-use std::alloc::{AllocError, Global};
-use tree_model::{CanonPath, Located, Tree, TreeError};
+use search_path::{Setup, Visit, header_ask, search, source_ask};
+use std::alloc::Global;
+use tree_model::{CanonPath, Located, Tree, TreeError, read_body};
 
 // The files of a job: its source, and the files of the source's includes; or why there are none.
 pub fn files_found<T: Tree>(
@@ -44,11 +44,7 @@ fn source_found<T: Tree>(
     ensures cause { HasCause TreeError.Fault (T.faults tree.old) (T.faults tree.new) result }
     ensures never_large { IsErrOf result TreeError.Large → ⊥ }
 {
-    let ask = Ask {
-        form: Form::Source,
-        from: None,
-        name: Bytes::copy_of(alloc, job.source())?,
-    };
+    let ask = source_ask(alloc, job.source())?;
     search(alloc, tree, job.setup(), &ask)
 }
 
@@ -166,17 +162,6 @@ fn add_piece<T: Tree>(
     }
 }
 
-// A name in quotes, as a file asks for it.
-fn quoted_by(alloc: Global, visit: &Visit, name: &[u8]) -> Result<Ask, AllocError>
-    ensures { IfOk result (λ ask. ask ≡ quoted_by visit.now name.now) }
-{
-    Ok(Ask {
-        form: Form::Quote,
-        from: Some(visit.copy(alloc)?),
-        name: Bytes::copy_of(alloc, name)?,
-    })
-}
-
 // The file that a file asks for by a name in quotes, if it is found.
 fn target_found<T: Tree>(
     alloc: Global,
@@ -190,7 +175,7 @@ fn target_found<T: Tree>(
     ensures cause { HasCause TreeError.Fault (T.faults tree.old) (T.faults tree.new) result }
     ensures never_large { IsErrOf result TreeError.Large → ⊥ }
 {
-    let ask = quoted_by(alloc, visit, name)?;
+    let ask = header_ask(alloc, visit, false, false, name)?;
     let hit = search(alloc, tree, setup, &ask)?;
     Ok(hit_file(hit))
 }
@@ -234,11 +219,8 @@ fn pieces_at<T: Tree>(
     ensures cause { HasCause TreeError.Fault (T.faults tree.old) (T.faults tree.new) result }
     ensures never_large { IsErrOf result TreeError.Large → ⊥ }
 {
-    let body = match read_body(alloc, tree, path) {
-        Ok(Some(body)) => body,
-        Ok(None) => return Ok(None),
-        Err(CppError::Fault) => return Err(TreeError::Fault),
-        Err(CppError::Memory) => return Err(TreeError::Memory),
-    };
-    Ok(simple_pieces(alloc, body.as_slice())?)
+    match read_body(alloc, tree, path)? {
+        Some(body) => Ok(simple_pieces(alloc, body.as_slice())?),
+        None => Ok(None),
+    }
 }

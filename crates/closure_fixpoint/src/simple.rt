@@ -1,14 +1,14 @@
 // The files that the analysis takes so far, and the names that their pieces ask for.
-ghost use Rattle.std.specs.Prelude.{◌≡◌, ◌==◌, ◌&&◌, [], count_by, codes, nat_eq, IfOk, unwrap_or, option_map};
-ghost use Rattle.std.specs.List.{list_any, slice_get, starts_with};
-ghost use Rattle.daemon_cpp.specs.Prep.{is_identifier, is_reserved};
+ghost use Rattle.std.specs.Prelude.{◌≡◌, ◌==◌, [], count_by, IfOk, unwrap_or, option_map};
+ghost use Rattle.std.specs.List.{list_any, slice_get};
+ghost use Rattle.pp_tokens.specs.Marks.{is_reserved};
 ghost use Rattle.closure_fixpoint.specs.Simple.{name_in_form, name_asked, asks, has_reserved, is_next_or_angle};
 ghost use Rattle.closure_fixpoint.specs.Gathering as gathering;
 ghost use Rattle.closure_fixpoint.specs.Gathering.{simple_of, taken_pieces};
 
 use base_types::List;
 use directive_scan::{Directive, HeaderName, Piece, Target, scan};
-use pp_tokens::{Kind, Lexed, is_plain, lex};
+use pp_tokens::{Lexed, is_plain, lex};
 use std::alloc::{AllocError, Global};
 
 // The largest file that is taken, in bytes and in lines.
@@ -65,19 +65,12 @@ fn is_reserved_in(file: &Lexed, line: usize) -> bool
 {
     for place in 0..file.token_count(line) {
         if let Some(token) = file.token(line, place) {
-            if is_reserved_name(token.kind, token.text) {
+            if token.is_reserved() {
                 return true;
             }
         }
     }
     false
-}
-
-// An identifier that begins with two underscores.
-fn is_reserved_name(kind: Kind, text: &[u8]) -> bool
-    ensures { result ≡ (is_identifier kind && starts_with nat_eq text.now (codes "__")) }
-{
-    kind == Kind::Ident && text.starts_with(b"__")
 }
 
 fn has_next_or_angle(pieces: &[Piece]) -> bool

@@ -3,7 +3,7 @@ use Rattle.std.proofs.Common.{◌≡◌, ◌≤◌, ◌+◌, ℕ, suc, List, [],
 use Rattle.std.specs.Prelude.{if◌then◌else◌}
 use Rattle.std.specs.List.{flat_map}
 use Rattle.pp_tokens.specs.declared.Token.{Token}
-use Rattle.pp_tokens.specs.Lines.{is_hash}
+use Rattle.pp_tokens.specs.Lines.{spells_hash}
 use Rattle.directive_scan.specs.declared.Directive.{Directive}
 use Rattle.directive_scan.specs.declared.Piece.{Piece}
 use Rattle.directive_scan.specs.declared.Piece.TheVariants.{Run, Line}
@@ -39,7 +39,7 @@ at_most_one (Line at what ∷ ps) = omega arith
 
 one_line : (line : List Token) (ps : List Piece) (tokens all : ℕ) → length ps ≤ first_runs ps + (tokens + tokens) → length line + tokens ≤ all → length (line_before line ps) ≤ first_runs (line_before line ps) + (all + all)
 one_line [] ps tokens all few more = text_line [] ps tokens all few (omega arith)
-one_line (t ∷ ts) ps tokens all few more = by_hash (is_hash t.text)
+one_line (t ∷ ts) ps tokens all few more = by_hash (spells_hash t.text)
   where
     by_hash : (b : Bool) → length (if b then Line t.line (directive_of ts) ∷ ps else onto_run (t ∷ ts) ps) ≤ first_runs (if b then Line t.line (directive_of ts) ∷ ps else onto_run (t ∷ ts) ps) + (all + all)
     by_hash true = directive_line t.line (directive_of ts) ps tokens all (at_most_one ps) few (omega arith)

@@ -9,10 +9,12 @@ use Rattle.tree_model.specs.Paths.{Text, Path, spelled}
 use Rattle.tree_model.specs.Trees.{body_limit}
 use Rattle.search_path.specs.Search.{Hit}
 use Rattle.daemon_cpp.specs.Diagnostics.{TooLarge, WorkLimit, TextLimit, diagnostic_text}
-use Rattle.daemon_cpp.specs.Prep.{World, Entering, State, Step, and_then, say, presumed_name, run_file, opening_cost, open_file}
+use Rattle.daemon_cpp.specs.Prep.{World, Entering, State, Step, and_then, say, run_file, opening_cost, open_file}
+use Rattle.tree_model.specs.Shown.{presumed_name}
 use Rattle.daemon_cpp.specs.declared.opening.Opened.{Opened}
 use Rattle.daemon_cpp.specs.declared.opening.Opened.TheVariants.{Pieces, Refused}
-use Rattle.daemon_cpp.specs.Reading.{body_within, StopsWith, Opens, inside, front_events, run_pieces, work_after, HasAtMost}
+use Rattle.daemon_cpp.specs.Reading.{StopsWith, Opens, inside, front_events, run_pieces, work_after, HasAtMost}
+use Rattle.tree_model.specs.Bodies.{body_within}
 use Rattle.daemon_cpp.proofs.Limits.{say-full}
 
 pub refuses : (world : World) (entering : Entering) (after : State) (opened : Opened) (words : Text) (step : Step) → opened ≡ Refused words → StopsWith words step → Opens world entering after opened step

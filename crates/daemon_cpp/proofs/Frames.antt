@@ -7,7 +7,8 @@ use Rattle.tree_model.specs.Paths.{Text}
 use Rattle.search_path.specs.Search.{Hit}
 use Rattle.daemon_cpp.specs.declared.outcome.Outcome.TheVariants as outcome
 use Rattle.daemon_cpp.specs.Diagnostics.{Diagnostic, TooNested, TextLimit}
-use Rattle.daemon_cpp.specs.Prep.{World, Here, State, Step, Go, Stop, and_then, complain, complain_of_job, presumed_name, piece_step, open_file, enter_file, back_in, depth_limit, prepared}
+use Rattle.daemon_cpp.specs.Prep.{World, Here, State, Step, Go, Stop, and_then, complain, complain_of_job, piece_step, open_file, enter_file, back_in, depth_limit, prepared}
+use Rattle.tree_model.specs.Shown.{presumed_name}
 use Rattle.daemon_cpp.specs.Reading.{Frame, run_pieces, entering_at, resumed, StopsWith}
 use Rattle.daemon_cpp.specs.Files.{After, outcome_behind}
 use Rattle.daemon_cpp.proofs.Limits.{say-one, say-full}

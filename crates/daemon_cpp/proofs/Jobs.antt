@@ -12,7 +12,9 @@ use Rattle.search_path.specs.declared.asking.Ask.{Ask}
 use Rattle.job_words.specs.JobOf.{JobData}
 use Rattle.daemon_cpp.specs.declared.outcome.Outcome.TheVariants as outcome
 use Rattle.daemon_cpp.specs.Diagnostics.{NoSource, TextLimit, diagnostic_text}
-use Rattle.daemon_cpp.specs.Prep.{World, Step, and_then, limited, presumed_name, world_of, source_ask, open_source, run_forced, enter_file, depth_limit, prepared, first_state, run_job, prep, outcome_over}
+use Rattle.daemon_cpp.specs.Prep.{World, Step, and_then, limited, world_of, open_source, run_forced, enter_file, depth_limit, prepared, first_state, run_job, prep, outcome_over}
+use Rattle.tree_model.specs.Shown.{presumed_name}
+use Rattle.search_path.specs.Asks.{source_ask}
 use Rattle.daemon_cpp.specs.Files.{begun_outcome, source_outcome}
 use Rattle.daemon_cpp.proofs.Limits.{within, past}
 

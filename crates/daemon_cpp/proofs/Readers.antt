@@ -17,7 +17,9 @@ use Rattle.daemon_cpp.specs.declared.cpp.OpenFile.{OpenFile}
 use Rattle.daemon_cpp.specs.declared.cpp.Left.{Left}
 use Rattle.daemon_cpp.specs.declared.cpp.Reader.{Reader}
 use Rattle.daemon_cpp.specs.Diagnostics.{TooNested, TextLimit, NotFound, diagnostic_text}
-use Rattle.daemon_cpp.specs.Prep.{World, State, Step, Go, Stop, and_then, complain, complain_of_job, touch, visit_of, found, forced_ask, Entering, presumed_name, piece_step, open_file, enter_file, back_in, depth_limit, run_forced, open_source, prepared}
+use Rattle.daemon_cpp.specs.Prep.{World, State, Step, Go, Stop, and_then, complain, complain_of_job, touch, visit_of, found, Entering, piece_step, open_file, enter_file, back_in, depth_limit, run_forced, open_source, prepared}
+use Rattle.tree_model.specs.Shown.{presumed_name}
+use Rattle.search_path.specs.Asks.{forced_ask}
 use Rattle.daemon_cpp.specs.Reading.{Frame, run_pieces, entering_at, StopsWith, Leads, Opens, inside, Shortens}
 use Rattle.daemon_cpp.specs.Moving.{Marked, StaysWithin}
 use Rattle.daemon_cpp.specs.Files.{After, here_of, rest_of, frame_of, frames_of, state_of, outcome_behind, LeadsTo, EntersTo, ComesTo, opened_file, GoesInto, OpensTo, BeginsTo, GoesOn, ReadsTo, AllRead, EndsRead, work_ahead, Advances, source_behind}

@@ -2,7 +2,8 @@
 use Rattle.std.proofs.Common.{◌≡◌, ◌<◌, ◌≤◌, ◌+◌, ℕ, List, length, get_or, drop, Bool, true, false, None, Some, cond, sym, ◌∙◌, ap}
 use Rattle.std.proofs.lemmas.List.{at_drop_more, at_drop_all}
 use Rattle.pp_tokens.specs.declared.Token.{Token}
-use Rattle.daemon_cpp.specs.Prep.{is_reserved, reserved_line}
+use Rattle.pp_tokens.specs.Marks.{is_reserved}
+use Rattle.daemon_cpp.specs.Prep.{reserved_line}
 
 -- it is this token
 pub reserved-here : (ts : List Token) (i : ℕ) (t : Token) → i < length ts → t ≡ get_or ts i t → true ≡ is_reserved t → reserved_line (drop i ts) ≡ Some t.line

@@ -4,6 +4,7 @@ use Rattle.std.specs.List.{flat_map}
 use Rattle.std.specs.Fmt.{decimal}
 use Rattle.pp_tokens.specs.declared.Token.{Token}
 use Rattle.tree_model.specs.Paths.{Text}
+use Rattle.tree_model.specs.Shown.{shown}
 use Rattle.directive_scan.specs.declared.BranchName.{BranchName}
 use Rattle.directive_scan.specs.declared.BranchName.TheVariants.{Elif, Else, Endif}
 
@@ -28,13 +29,6 @@ pub record Diagnostic : Type 0 where
   pub place : Text
   pub at : ℕ
   pub complaint : Complaint
-
--- a byte as it is shown in a name: `\`, `"` and a newline are escaped
-abbrev pub shown_byte : ℕ → Text
-shown_byte b = if b == 92 then codes "\\\\" else (if b == 34 then codes "\\\"" else (if b == 10 then codes "\\n" else b ∷ []))
-
-unfoldable pub shown : Text → Text
-shown text = flat_map shown_byte text
 
 -- the name of a directive that goes on with a conditional or ends it (6.10.1)
 abbrev pub branch_name : BranchName → Text

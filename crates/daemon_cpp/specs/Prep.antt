@@ -1,10 +1,9 @@
 -- Preprocessing a job: translation phases 1 to 4 (ISO C 5.1.1.2, 6.10), as a recursion on the groups of a file, with what
 -- entering an included file does as a parameter, and on the depth of includes left.
-use Rattle.std.specs.Prelude.{◌≤◌, ℕ, zero, suc, ◌+◌, ◌-◌, Bool, true, false, ◌&&◌, List, [], ◌∷◌, ◌++◌, length, map, Option, None, Some, cond, nat_le, nat_eq, unwrap_or, pos, codes}
-use Rattle.std.specs.List.{starts_with, flat_map}
-use Rattle.pp_tokens.specs.declared.Kind.{Kind}
-use Rattle.pp_tokens.specs.declared.Kind.TheVariants as kind
+use Rattle.std.specs.Prelude.{◌≤◌, ℕ, zero, suc, ◌+◌, ◌-◌, Bool, true, false, List, [], ◌∷◌, ◌++◌, length, map, Option, None, Some, cond, nat_le, unwrap_or, pos}
+use Rattle.std.specs.List.{flat_map}
 use Rattle.pp_tokens.specs.declared.Token.{Token}
+use Rattle.pp_tokens.specs.Marks.{is_reserved}
 use Rattle.pp_tokens.specs.Lines.{lexed, LexedFile}
 use Rattle.directive_scan.specs.declared.Target.{Target}
 use Rattle.directive_scan.specs.declared.Target.TheVariants.{Plain, Computed}
@@ -19,20 +18,21 @@ use Rattle.directive_scan.specs.Groups.{Group, nothing, one, conditional, Outlin
 use Rattle.cpp_output.specs.Layout.{Event, enter, back, put, pragma, text_limit}
 use Rattle.cpp_output.specs.Laid.{Laid, begun, after_events, finished}
 use Rattle.tree_model.specs.Paths.{Text, Path, spelled}
-use Rattle.tree_model.specs.Trees.{FileTree, body_at, body_limit}
+use Rattle.tree_model.specs.Trees.{FileTree, body_limit}
+use Rattle.tree_model.specs.Bodies.{body_at_path}
+use Rattle.tree_model.specs.Shown.{presumed_name}
 use Rattle.tree_model.specs.declared.walk.Located.{Located}
 use Rattle.search_path.specs.SetupOf.{SetupData, absolute}
+use Rattle.search_path.specs.Asks.{header_ask, forced_ask, source_ask}
 use Rattle.search_path.specs.Search.{Hit, search}
 use Rattle.search_path.specs.declared.asking.Found.{Found}
 use Rattle.search_path.specs.declared.asking.Visit.{Visit}
-use Rattle.search_path.specs.declared.asking.Form.{Form}
-use Rattle.search_path.specs.declared.asking.Form.TheVariants.{Source, Forced, Quote, Angle, NextQuote, NextAngle}
 use Rattle.search_path.specs.declared.asking.Ask.{Ask}
 use Rattle.job_words.specs.JobOf.{JobData}
 use Rattle.daemon_cpp.specs.declared.outcome.Outcome.{Outcome}
 use Rattle.daemon_cpp.specs.declared.outcome.Outcome.TheVariants as outcome
 use Rattle.daemon_cpp.specs.Diagnostics as complaint
-use Rattle.daemon_cpp.specs.Diagnostics.{Complaint, NoSource, TooLarge, OpenComment, NotFound, TooNested, ErrorLine, UnknownDirective, WorkLimit, TextLimit, NotBuilt, Diagnostic, shown, diagnostic_text}
+use Rattle.daemon_cpp.specs.Diagnostics.{Complaint, NoSource, TooLarge, OpenComment, NotFound, TooNested, ErrorLine, UnknownDirective, WorkLimit, TextLimit, NotBuilt, Diagnostic, diagnostic_text}
 
 -- ---- the world: all that preprocessing asks of a tree ----
 
@@ -44,7 +44,7 @@ pub record World : Type 0 where
 
 -- a tree, with what a job's words say of searches
 abbrev pub world_of : FileTree → SetupData → World
-world_of tree setup = record { find = search tree setup; body = λ path. unwrap_or (body_at tree path) []; trigraphs = setup.trigraphs }
+world_of tree setup = record { find = search tree setup; body = body_at_path tree; trigraphs = setup.trigraphs }
 
 -- ---- the state ----
 
@@ -99,30 +99,13 @@ say events state = limited (record state { output = after_events state.output ev
 abbrev pub touch : Located → State → State
 touch located state = record state { touched = state.touched ++ located ∷ [] }
 
--- the presumed name of a file, as it is first
-abbrev pub presumed_name : Path → Text
-presumed_name place = shown (spelled place)
-
 -- what entering a file does, from an include on a line
 abbrev pub Entering : Type 0
 Entering = ℕ → Hit → State → Step
 
 -- ---- text ----
 
-abbrev pub is_identifier : Kind → Bool
-is_identifier kind.Ident = true
-is_identifier kind.Number = false
-is_identifier kind.Char = false
-is_identifier kind.Str = false
-is_identifier kind.Punct = false
-is_identifier kind.Header = false
-is_identifier kind.Other = false
-
--- an identifier that begins with two underscores, as only the implementation's names do (7.1.3); not built so far
-abbrev pub is_reserved : Token → Bool
-is_reserved t = is_identifier t.kind && starts_with nat_eq t.text (codes "__")
-
--- the line of the first such identifier
+-- the line of the first identifier that begins with two underscores; not built so far
 abbrev pub reserved_line : List Token → Option ℕ
 reserved_line [] = None
 reserved_line (t ∷ ts) = cond (is_reserved t) (Some t.line) (reserved_line ts)
@@ -134,24 +117,6 @@ text_step tokens (Some line) state = complain line NotBuilt state
 
 -- ---- a file ----
 
--- the form of an include, and of an include_next; in angles or else in quotes
-abbrev pub form_of : (next : Bool) → (angle : Bool) → Form
-form_of false false = Quote
-form_of false true = Angle
-form_of true false = NextQuote
-form_of true true = NextAngle
-
--- what a file asks for by such a name
-abbrev pub asked_by : Here → Bool → Bool → Text → Ask
-asked_by here next angle name = record { form = form_of next angle; from = Some (visit_of here); name = name }
-
--- what a file of the job's words asks for, and the source
-abbrev pub forced_ask : Text → Ask
-forced_ask name = record { form = Forced; from = None; name = name }
-
-abbrev pub source_ask : Text → Ask
-source_ask name = record { form = Source; from = None; name = name }
-
 module _ (world : World) (entering : Entering) where
   -- a name on a line, in angles or else in quotes, whose search gave this
   abbrev pub found : ℕ → Bool → Text → State → Option Hit → Step
@@ -160,7 +125,7 @@ module _ (world : World) (entering : Entering) where
 
   -- an include, or an include_next, on a line (6.10.2)
   abbrev pub include : Bool → ℕ → Target → State → Step
-  include next at (Plain header) state = found at header.angle header.name state (world.find (asked_by state.here next header.angle header.name))
+  include next at (Plain header) state = found at header.angle header.name state (world.find (header_ask (visit_of state.here) next header.angle header.name))
   include next at (Computed tokens) state = complain at NotBuilt state
 
   -- a directive on a line (6.10)

@@ -1,5 +1,5 @@
 -- What is left to do where files are read: of the file that is read, and of those that were left at an include. The code
--- keeps these as a stack. Of all this, `body_within` alone stands in a public contract.
+-- keeps these as a stack.
 use Rattle.std.specs.Prelude.{◌≡◌, ◌≤◌, ◌+◌, ℕ, suc, ◌-◌, Bool, true, false, List, [], ◌∷◌, ◌++◌, Option, None, Some, length, cond, nat_le}
 use Rattle.std.specs.List.{flat_map}
 use Rattle.pp_tokens.specs.declared.Token.{Token}
@@ -7,18 +7,14 @@ use Rattle.directive_scan.specs.declared.Piece.{Piece}
 use Rattle.cpp_output.specs.Layout.{Event, enter, text_limit}
 use Rattle.cpp_output.specs.Laid.{Laid}
 use Rattle.tree_model.specs.Paths.{Text, Path}
-use Rattle.tree_model.specs.Trees.{body_limit}
 use Rattle.search_path.specs.Search.{Hit}
 use Rattle.daemon_cpp.specs.Diagnostics.{diagnostic_text}
 use Rattle.daemon_cpp.specs.declared.pieces.Move.{Move}
 use Rattle.daemon_cpp.specs.declared.pieces.Move.TheVariants.{Onward, Enter, Ended}
 use Rattle.daemon_cpp.specs.declared.opening.Opened.{Opened}
 use Rattle.daemon_cpp.specs.declared.opening.Opened.TheVariants.{Pieces, Refused}
-use Rattle.daemon_cpp.specs.Prep.{World, Here, State, Step, Go, Stop, and_then, touch, here_at, Entering, presumed_name, piece_step, enter_file, back_in, depth_limit}
-
--- a body, where it isn't too large
-abbrev pub body_within : Text → Option Text
-body_within body = cond (nat_le (length body) body_limit) (Some body) None
+use Rattle.daemon_cpp.specs.Prep.{World, Here, State, Step, Go, Stop, and_then, touch, here_at, Entering, piece_step, enter_file, back_in, depth_limit}
+use Rattle.tree_model.specs.Shown.{presumed_name}
 
 -- pieces one after another
 unfoldable pub run_pieces : World → Entering → List Piece → State → Step

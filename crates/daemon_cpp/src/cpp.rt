@@ -10,13 +10,13 @@ ghost use Rattle.search_path.specs.Search.{Hit};
 ghost use Rattle.daemon_cpp.specs.Diagnostics.{NoSource, TextLimit, diagnostic_text};
 ghost use Rattle.daemon_cpp.specs.Problems.{complaint_of};
 ghost use Rattle.daemon_cpp.specs.declared.outcome.Outcome.{Outcome};
-ghost use Rattle.daemon_cpp.specs.Prep as prep;
-ghost use Rattle.daemon_cpp.specs.Prep.{World, Go, world_of, presumed_name, outcome_of_text, outcome_over, OutcomeFits};
+ghost use Rattle.daemon_cpp.specs.Prep.{World, Go, world_of, outcome_of_text, outcome_over, OutcomeFits};
+ghost use Rattle.tree_model.specs.Shown.{presumed_name};
 ghost use Rattle.daemon_cpp.specs.Reading.{KeepsLimit, Shortens};
 ghost use Rattle.daemon_cpp.specs.Moving.{Marked};
 ghost use Rattle.daemon_cpp.specs.Files.{opened_file, GoesInto, OpensTo, BeginsTo, After, LeadsTo, EntersTo, ComesTo, GoesOn, ReadsTo, AllRead, EndsRead, work_ahead, Advances, source_behind, begun_outcome, source_outcome};
 
-use crate::diagnostic::{Diagnostic, Problem, shown};
+use crate::diagnostic::{Diagnostic, Problem};
 use crate::opening::{Opened, open_file, refused};
 use crate::pieces::{Move, Places, run_piece};
 use crate::tree::{absolute_text, find_file};
@@ -25,10 +25,10 @@ use base_types::{Bytes, List};
 use cpp_output::{LayError, Layout};
 use directive_scan::Piece;
 use job_words::Job;
-use search_path::{Ask, Form, Setup, Visit};
+use search_path::{Setup, Visit, forced_ask, source_ask};
 use std::alloc::{AllocError, Global};
 use std::mem::replace;
-use tree_model::{CanonPath, Located, Tree};
+use tree_model::{CanonPath, Located, Tree, shown};
 
 // How many levels of includes there may be.
 const DEPTH_LIMIT: usize = 200;
@@ -48,31 +48,11 @@ pub fn preprocess<T: Tree>(alloc: Global, tree: &mut T, job: &Job) -> Result<Out
     ensures fits { IfOk result OutcomeFits }
     ensures cause { HasCause CppError.Fault (T.faults tree.old) (T.faults tree.new) result }
 {
-    let ask = source_ask(alloc, job)?;
+    let ask = source_ask(alloc, job.source())?;
     match find_file(alloc, tree, job.setup(), ask)? {
         Some(source) => preprocess_source(alloc, tree, job, &source),
         None => Ok(no_source(alloc, job)?),
     }
-}
-
-fn source_ask(alloc: Global, job: &Job) -> Result<Ask, AllocError>
-    ensures { IfOk result (λ ask. ask ≡ prep.source_ask job.now.source) }
-{
-    Ok(Ask {
-        form: Form::Source,
-        from: None,
-        name: Bytes::copy_of(alloc, job.source())?,
-    })
-}
-
-fn forced_ask(alloc: Global, name: &[u8]) -> Result<Ask, AllocError>
-    ensures { IfOk result (λ ask. ask ≡ prep.forced_ask name.now) }
-{
-    Ok(Ask {
-        form: Form::Forced,
-        from: None,
-        name: Bytes::copy_of(alloc, name)?,
-    })
 }
 
 // The source isn't found: the diagnostic is at the text that was searched.

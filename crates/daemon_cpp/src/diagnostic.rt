@@ -2,7 +2,7 @@
 ghost use Rattle.std.specs.Prelude.{◌≡◌, ◌≤◌, ◌++◌, ◌∷◌, [], length, codes, IfOk, OnOk};
 ghost use Rattle.std.specs.List.{flat_map};
 ghost use Rattle.std.specs.Fmt.{decimal};
-ghost use Rattle.daemon_cpp.specs.Diagnostics.{NotFound, ErrorLine, shown, shown_byte, branch_name, error_token, diagnostic_text, words_of};
+ghost use Rattle.daemon_cpp.specs.Diagnostics.{NotFound, ErrorLine, branch_name, error_token, diagnostic_text, words_of};
 ghost use Rattle.daemon_cpp.specs.Problems.{complaint_of};
 
 use base_types::Bytes;
@@ -10,6 +10,7 @@ use directive_scan::BranchName;
 use pp_tokens::Token;
 use std::alloc::{AllocError, Global};
 use std::marker::Model;
+use tree_model::shown;
 
 // The longest diagnostic, in bytes.
 const LENGTH_LIMIT: usize = 65_536;
@@ -168,27 +169,4 @@ fn add_between(text: &mut Vec<u8>, first: u8, name: &[u8], last: u8) -> Result<(
     text.push(first)?;
     text.extend_from_slice(name)?;
     Ok(text.push(last)?)
-}
-
-// A name as it is shown: `\`, `"` and a newline are escaped.
-#[tactic(auto, unfolding(crate::specs::Diagnostics::shown))]
-pub fn shown(alloc: Global, text: &[u8]) -> Result<Vec<u8>, AllocError>
-    ensures { IfOk result (λ bytes. bytes.items ≡ shown text.now) }
-{
-    let mut bytes = Vec::with_capacity(alloc, text.len())?;
-    for byte in text {
-        add_shown(&mut bytes, *byte)?;
-    }
-    Ok(bytes)
-}
-
-fn add_shown(bytes: &mut Vec<u8>, byte: u8) -> Result<(), AllocError>
-    ensures { OnOk result (bytes.new.items ≡ bytes.old.items ++ shown_byte byte) }
-{
-    match byte {
-        b'\\' => bytes.extend_from_slice(b"\\\\"),
-        b'"' => bytes.extend_from_slice(b"\\\""),
-        b'\n' => bytes.extend_from_slice(b"\\n"),
-        _ => Ok(bytes.push(byte)?),
-    }
 }

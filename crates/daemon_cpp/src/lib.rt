@@ -11,4 +11,3 @@ mod tree;
 pub use cpp::preprocess;
 pub use outcome::{CppError, Outcome};
 pub use pieces::reserved_line;
-pub use tree::read_body;

@@ -11,7 +11,7 @@ ghost use Rattle.daemon_cpp.specs.Prep.{World, State, Entering, world_of, and_th
 ghost use Rattle.daemon_cpp.specs.Reading.{Opens, inside, front_events, run_pieces, token_count, work_after, Shortens, KeepsLimit, HasAtMost};
 
 use crate::CppError;
-use crate::diagnostic::{Diagnostic, Problem, shown};
+use crate::diagnostic::{Diagnostic, Problem};
 use crate::tree::read_body;
 use base_types::List;
 use cpp_output::{LayError, Layout};
@@ -19,7 +19,7 @@ use directive_scan::{Malformed, Piece, malformed, nesting_told, one_outline, sca
 use pp_tokens::{Lexed, lex};
 use search_path::{Setup, Visit};
 use std::alloc::Global;
-use tree_model::{CanonPath, Located, Tree};
+use tree_model::{CanonPath, Located, Tree, shown};
 
 // What opening a file leads to.
 #[derive(Drop)]

@@ -7,19 +7,18 @@ ghost use Rattle.tree_model.specs.Paths.{spelled};
 ghost use Rattle.directive_scan.specs.declared.Target.TheVariants.{Plain};
 ghost use Rattle.daemon_cpp.specs.Diagnostics.{diagnostic_text};
 ghost use Rattle.daemon_cpp.specs.Problems.{complaint_of};
-ghost use Rattle.daemon_cpp.specs.Prep.{State, Entering, world_of, visit_of, form_of, piece_step, text_step, directive_step, include, reserved_line, is_reserved};
+ghost use Rattle.daemon_cpp.specs.Prep.{State, Entering, world_of, visit_of, piece_step, text_step, directive_step, include, reserved_line};
 ghost use Rattle.daemon_cpp.specs.Reading.{Leads};
 ghost use Rattle.daemon_cpp.specs.Moving.{LaidOut, StaysWithin};
 
 use crate::CppError;
 use crate::diagnostic::{Diagnostic, Problem};
 use crate::tree::find_file;
-use base_types::Bytes;
 use cpp_output::{LayError, Layout};
 use directive_scan::{Directive, HeaderName, Piece, Target};
-use pp_tokens::{Kind, Token};
-use search_path::{Ask, Form, Setup, Visit};
-use std::alloc::{AllocError, Global};
+use pp_tokens::Token;
+use search_path::{Setup, Visit, header_ask};
+use std::alloc::Global;
 use tree_model::{CanonPath, Located, Tree};
 
 // What a piece leads to.
@@ -87,21 +86,11 @@ pub fn reserved_line(tokens: &[Token]) -> Option<u32>
     ensures { result ≡ reserved_line tokens.now }
 {
     for token in tokens {
-        if is_reserved(token) {
+        if token.is_reserved() {
             return Some(token.line);
         }
     }
     None
-}
-
-// Whether a token is an identifier that begins with two underscores.
-fn is_reserved(token: &Token) -> bool
-    ensures { result ≡ is_reserved token.now }
-{
-    match token.kind {
-        Kind::Ident => token.text.as_slice().starts_with(b"__"),
-        _ => false,
-    }
 }
 
 // A diagnostic at a line of the file at a place.
@@ -180,28 +169,6 @@ fn run_include<T: Tree>(
     }
 }
 
-fn form_of(next: bool, angle: bool) -> Form
-    ensures { result ≡ form_of next angle }
-{
-    match (next, angle) {
-        (false, false) => Form::Quote,
-        (false, true) => Form::Angle,
-        (true, false) => Form::NextQuote,
-        (true, true) => Form::NextAngle,
-    }
-}
-
-// What the file that is read asks for by a header's name.
-fn ask_of(alloc: Global, here: &Visit, next: bool, header: &HeaderName) -> Result<Ask, AllocError>
-    ensures { IfOk result (λ ask. ask ≡ record { form = form_of next header.now.angle; from = Some here.now; name = header.now.name }) }
-{
-    Ok(Ask {
-        form: form_of(next, header.angle),
-        from: Some(here.copy(alloc)?),
-        name: Bytes::copy_of(alloc, header.name.as_slice())?,
-    })
-}
-
 // The file of a header's name.
 fn find_header<T: Tree>(
     alloc: Global,
@@ -215,11 +182,12 @@ fn find_header<T: Tree>(
     ensures leads { ForSome (T.told tree.old) (λ told. IfOk result (λ move. (entering : Entering) (state : State) → visit_of state.here ≡ places.entry.here.now → Leads entering state move (include (world_of told places.entry.setup.now) entering next at (Plain header.now) state))) }
     ensures cause { HasCause CppError.Fault (T.faults tree.old) (T.faults tree.new) result }
 {
-    let ask = ask_of(alloc, places.here, next, header)?;
+    let name = header.name.as_slice();
+    let ask = header_ask(alloc, places.here, next, header.angle, name)?;
     match find_file(alloc, tree, places.setup, ask)? {
         Some(file) => Ok(Move::Enter { at, file }),
         None => {
-            let problem = Problem::NotFound(header.angle, header.name.as_slice());
+            let problem = Problem::NotFound(header.angle, name);
             ended(alloc, &places.here.place, at, problem)
         }
     }

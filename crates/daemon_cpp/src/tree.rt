@@ -2,11 +2,10 @@
 ghost use Rattle.std.specs.Prelude.{◌≡◌, ◌≢◌, ◌≤◌, length, IfOk, IfSome};
 ghost use Rattle.std.specs.Option.{ForSome};
 ghost use Rattle.base_types.specs.Causes.{HasCause};
+ghost use Rattle.tree_model.specs.Bodies.{body_at_path, body_within};
 ghost use Rattle.search_path.specs.Search.{NeedsFrom};
 ghost use Rattle.search_path.specs.SetupOf as setups;
-ghost use Rattle.search_path.specs.SetupOf.{SetupData};
 ghost use Rattle.daemon_cpp.specs.Prep.{world_of};
-ghost use Rattle.daemon_cpp.specs.Reading.{body_within};
 
 use crate::CppError;
 use base_types::Bytes;
@@ -64,14 +63,12 @@ pub fn read_body<T: Tree>(
     path: &CanonPath,
 ) -> Result<Option<Bytes>, CppError>
     ensures same { T.told tree.new ≡ T.told tree.old }
-    ensures body { ForSome (T.told tree.old) (λ told. IfOk result (λ body. (setup : SetupData) → body ≡ body_within ((world_of told setup).body path.now))) }
+    ensures body { ForSome (T.told tree.old) (λ told. IfOk result (λ body. body ≡ body_within (body_at_path told path.now))) }
     ensures within { IfOk result (λ body. IfSome body (λ bytes. length bytes ≤ 16777216)) }
     ensures cause { HasCause CppError.Fault (T.faults tree.old) (T.faults tree.new) result }
 {
-    match tree.read(path) {
-        Ok(Some(body)) => Ok(Some(body)),
-        Ok(None) => Ok(Some(Bytes::new(alloc))),
-        Err(TreeError::Large) => Ok(None),
+    match tree_model::read_body(alloc, tree, path) {
+        Ok(body) => Ok(body),
         Err(error) => Err(cause_of(error)),
     }
 }

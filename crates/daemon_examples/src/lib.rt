@@ -2,4 +2,6 @@
 #![tactic(auto)]
 
 #[cfg(test)]
+mod repliers;
+#[cfg(test)]
 mod served;

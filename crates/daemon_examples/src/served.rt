@@ -8,7 +8,7 @@ use std::alloc::{AllocError, Global};
 use std::process::Abort;
 
 // The request of a source that includes a header, 180 bytes.
-const REQUEST: &str = "DIST00000103CDIR00000002/wARGC00000001ARGV00000003a.cNFIL00000003\
+pub const REQUEST: &str = "DIST00000103CDIR00000002/wARGC00000001ARGV00000003a.cNFIL00000003\
                        NAME00000002/wMDIR00000000\
                        NAME00000006/w/a.cFILE00000016#include \"b.h\"\nint x;\n\
                        NAME00000006/w/b.hFILE00000007int y;\n";
@@ -34,7 +34,7 @@ fn replies(rt: &impl Abort, alloc: Global, bytes: &[u8], pieces: Vec<u32>, reply
     check_reply(rt, got.as_slice(), reply);
 }
 
-fn check_reply(rt: &impl Abort, got: &[u8], reply: &str) {
+pub fn check_reply(rt: &impl Abort, got: &[u8], reply: &str) {
     let text = std::str::from_utf8(got).unwrap_or("?");
     assert!(rt; text == reply, "{text} is replied in place of {reply}");
 }

@@ -1,17 +1,22 @@
 -- Replies that were put, and the refusals' spellings.
-use Rattle.std.proofs.Common.{◌≡◌, ℕ, List, length, refl, sym, ◌∙◌, ap, subst, inl, inr, Option}
+use Rattle.std.proofs.Common.{◌≡◌, ℕ, List, length, refl, sym, ◌∙◌, ap, subst, Option, Some, Result, Ok, Err}
 use Rattle.std.specs.Prelude.{codes}
 use Rattle.std.proofs.Math.Seq.{take-length}
+use Rattle.tree_model.specs.Entries.{Entries}
+use Rattle.job_words.specs.declared.job.Job.{Job}
+use Rattle.io_edges.specs.declared.sink.WriteFault.{WriteFault}
 use Rattle.job_frames.specs.declared.FrameError.{FrameError}
 use Rattle.job_frames.specs.declared.FrameError.TheVariants as why
+use Rattle.job_frames.specs.declared.answer.Answer.{Answer}
 use Rattle.job_frames.specs.declared.answer.Answer.TheVariants as answer
 use Rattle.job_frames.specs.Fields.{digits}
 use Rattle.job_frames.specs.Outcomes.{number_of}
 use Rattle.job_frames.specs.Reply.{reply_bytes}
+use Rattle.job_frames.specs.Daemon.{IsAnswerTo}
 use Rattle.daemon_serve.specs.declared.serving.Served.{Served}
 use Rattle.daemon_serve.specs.declared.serving.Served.TheVariants.{Replied, Memory}
 use Rattle.daemon_serve.specs.Serving.{IsFront}
-use Rattle.daemon_serve.specs.Parts.{PutTells, IsReplyPut}
+use Rattle.daemon_serve.specs.Parts.{AnswersBy, OnlyReply, PutTells, IsReplyPut}
 
 abbrev pub refusal_text : FrameError → List ℕ
 refusal_text why.Memory = codes "RFSE00000001"
@@ -43,12 +48,24 @@ refusal-of e f is = refusal-spelled f ∙ ap (λ (x : FrameError). reply_bytes (
 pub whole-front : (front whole : List ℕ) → front ≡ whole → IsFront front whole
 whole-front front whole is = (length whole, is ∙ sym (take-length whole))
 
--- the refusal for want of memory, or a front of it, in the place of a reply
-no_memory_tells : (reply : List ℕ → Type 0) (served : Served) (written : List ℕ) → PutTells (λ bytes. bytes ≡ reply_bytes (answer.Refused 1)) Memory served written → PutTells reply Replied served written
-no_memory_tells reply served written (inl whole) = inr (inr whole.0, inr (whole-front written (reply_bytes (answer.Refused 1)) whole.1))
-no_memory_tells reply served written (inr (why, inl front)) = inr (why, inr (subst (IsFront written) front.1 front.2))
-no_memory_tells reply served written (inr (why, inr front)) = inr (why, inr front)
+tells-as : (P Q : Served → List ℕ → Type 0) → ((served : Served) (bytes : List ℕ) → P served bytes → Q served bytes) → (ended : Result Served WriteFault) (written : List ℕ) → PutTells P ended written → PutTells Q ended written
+tells-as P Q gives (Ok served) written t = gives served written t
+tells-as P Q gives (Err e) written t = (t.0, t.1, gives t.0 t.1 t.2, t.3)
 
-pub put-no_memory : (reply : List ℕ → Type 0) (held held' : Option (List ℕ)) (puts puts' : ℕ) (served : Served) → IsReplyPut (λ bytes. bytes ≡ reply_bytes (answer.Refused 1)) Memory held held' puts puts' served
-    → IsReplyPut reply Replied held held' puts puts' served
-put-no_memory reply held held' puts puts' served p = record { written = p.written; put = p.put; later = p.later; cause = p.cause; tells = no_memory_tells reply served p.written p.tells }
+-- a reply of some is a reply of more
+put-as : (P Q : Served → List ℕ → Type 0) → ((served : Served) (bytes : List ℕ) → P served bytes → Q served bytes) → {held held' : Option (List ℕ)} {puts puts' : ℕ} {ended : Result Served WriteFault} → IsReplyPut P held held' puts puts' ended
+    → IsReplyPut Q held held' puts puts' ended
+put-as P Q gives {ended = ended} p = record { written = p.written; put = p.put; cause = p.cause; tells = tells-as P Q gives ended p.written p.tells }
+
+module _ (may : Job → Entries → Answer → Type 0) (job : Job) (entries : Entries) {held held' : Option (List ℕ)} {puts puts' : ℕ} {ended : Result Served WriteFault} where
+  -- an answer was put
+  pub put-answer : (reply : List ℕ) → IsAnswerTo may (Some job) entries reply → IsReplyPut (OnlyReply Replied reply) held held' puts puts' ended → IsReplyPut (AnswersBy may job entries) held held' puts puts' ended
+  put-answer reply a p =
+      put-as (OnlyReply Replied reply) (AnswersBy may job entries)
+      (λ served bytes is. subst (λ (s : Served). AnswersBy may job entries s bytes) (sym is.0) (subst (IsAnswerTo may (Some job) entries) (sym is.1) a)) p
+
+  -- the refusal for want of memory was put in the place of an answer
+  pub put-no_memory : IsReplyPut (OnlyReply Memory (reply_bytes (answer.Refused 1))) held held' puts puts' ended → IsReplyPut (AnswersBy may job entries) held held' puts puts' ended
+  put-no_memory p =
+      put-as (OnlyReply Memory (reply_bytes (answer.Refused 1))) (AnswersBy may job entries)
+      (λ served bytes is. subst (λ (s : Served). AnswersBy may job entries s bytes) (sym is.0) is.1) p

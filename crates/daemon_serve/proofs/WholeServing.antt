@@ -1,102 +1,38 @@
 -- One request served: what was read, and the reply that was put.
-use Rattle.std.proofs.Common.{◌≡◌, ℕ, List, [], take, refl, sym, ◌∙◌, ap, subst, arith, append-nil, inl, inr, Option, None, Some, Ok, Err}
+use Rattle.std.proofs.Common.{◌≡◌, ℕ, List, [], refl, sym, ◌∙◌, ap, subst, arith, append-nil, inl, inr, Option, None, Some, Result, Ok, Err}
 use Rattle.std.specs.Prelude.{◌⊎◌}
 use Rattle.base_types.specs.Told.{added}
 use Rattle.tree_model.specs.Entries.{Entries}
 use Rattle.job_words.specs.declared.job.Job.{Job}
+use Rattle.io_edges.specs.declared.sink.WriteFault as sink
+use Rattle.io_edges.specs.declared.sink.WriteFault.TheVariants as fault
 use Rattle.job_frames.specs.declared.FrameError.{FrameError}
 use Rattle.job_frames.specs.declared.FrameError.TheVariants as why
+use Rattle.job_frames.specs.declared.answer.Answer.{Answer}
 use Rattle.job_frames.specs.declared.answer.Answer.TheVariants as answer
 use Rattle.job_frames.specs.Outcomes.{Verdict, going, done, reason, number_of}
 use Rattle.job_frames.specs.Request.{Got}
 use Rattle.job_frames.specs.Reply.{reply_bytes}
-use Rattle.job_frames.specs.Daemon.{IsAnswerTo, IsReply}
+use Rattle.job_frames.specs.Daemon.{IsReply}
 use Rattle.job_frames.specs.Laws.{RequestsAreFirm}
 use Rattle.daemon_serve.specs.declared.reading.NoRequest.{NoRequest}
 use Rattle.daemon_serve.specs.declared.reading.NoRequest.TheVariants as no
 use Rattle.daemon_serve.specs.declared.serving.Served.{Served}
-use Rattle.daemon_serve.specs.declared.serving.Served.TheVariants.{Replied, ReadFault, WriteFault, Memory}
-use Rattle.daemon_serve.specs.Served.{Answers}
-use Rattle.daemon_serve.specs.Serving.{verdict_on, IsReplyTo, IsPartOfReply, IsReasonOf, IsCut, Tells, IsServed}
-use Rattle.daemon_serve.specs.Parts.{IsFrontOf, PutTells, refusal_served, IsReplyPut, IsRequestRead, IsUnserved}
+use Rattle.daemon_serve.specs.declared.serving.Served.TheVariants.{Replied, Refused, ReadFault, WriteFault, Memory}
+use Rattle.daemon_serve.specs.Serving.{verdict_on, IsReplyTo, IsFront, IsPartOfReply, IsReasonOf, IsCut, TellsWhole, TellsExactly, Tells, IsServedExactly, IsServed}
+use Rattle.daemon_serve.specs.Parts.{AnswersBy, OnlyReply, PutTells, refusal_served, fault_served, IsReplyPut, IsRequestRead, IsUnserved}
 use Rattle.daemon_serve.proofs.ReplyPuts.{whole-front}
 use Rattle.daemon_serve.proofs.WholeRequests.{got_of}
-
--- a front of one of the replies to what was read
-part : (reply : List ℕ → Type 0) (read : List ℕ) (left : Option (List ℕ)) (written : List ℕ) → ((bytes : List ℕ) → reply bytes → IsReplyTo read left bytes) → IsFrontOf reply written → IsPartOfReply read left written
-part reply read left written gives (inl front) = inl (front.0, gives front.0 front.1, front.2)
-part reply read left written gives (inr front) = inr front
-
--- where the sink failed or memory was wanting
-stopped-tells : (served : Served) (read : List ℕ) (left : Option (List ℕ)) (written : List ℕ) → (served ≡ WriteFault) ⊎ (served ≡ Memory) → IsPartOfReply read left written → Tells served read left written
-stopped-tells served read left written (inl is) front = subst (λ (s : Served). Tells s read left written) (sym is) front
-stopped-tells served read left written (inr is) front = subst (λ (s : Served). Tells s read left written) (sym is) front
-
-stopped-reads : (served : Served) → (served ≡ WriteFault) ⊎ (served ≡ Memory) → served ≡ ReadFault → ⊥
-stopped-reads served (inl is) e = cc
-stopped-reads served (inr is) e = cc
-
--- A REQUEST WAS READ
-
-replied-tells : (job : Job) (entries : Entries) (read : List ℕ) (left : Option (List ℕ)) (served : Served) (written : List ℕ) → verdict_on read ≡ done (got_of job entries)
-    → PutTells (IsAnswerTo Answers (Some job) entries) Replied served written → Tells served read left written
-replied-tells job entries read left served written is (inl whole) = subst (λ (s : Served). Tells s read left written) (sym whole.0) (got_of job entries, is, whole.1)
-replied-tells job entries read left served written is (inr stopped) =
-    stopped-tells served read left written stopped.0 (part (IsAnswerTo Answers (Some job) entries) read left written gives stopped.1)
-  where
-    gives : (bytes : List ℕ) → IsAnswerTo Answers (Some job) entries bytes → IsReplyTo read left bytes
-    gives bytes a = (subst (λ (v : Verdict Got). IsReply Answers v bytes) (sym is) a, λ e. absurd (let never : done (got_of job entries) ≡ going = sym is ∙ e in cc))
-
-put-reads : (reply : List ℕ → Type 0) (whole served : Served) (written : List ℕ) → (whole ≡ ReadFault → ⊥) → PutTells reply whole served written → served ≡ ReadFault → ⊥
-put-reads reply whole served written never (inl is) e = never (sym is.0 ∙ e)
-put-reads reply whole served written never (inr stopped) e = stopped-reads served stopped.0 e
-
-replied-never : Replied ≡ ReadFault → ⊥
-replied-never e = cc
-
-pub served-reply : RequestsAreFirm → {left left' held held' : Option (List ℕ)} {reads reads' puts puts' : ℕ} {served : Served} (job : Job) (entries : Entries) → IsRequestRead left left' reads reads' (Ok (job, entries))
-    → IsReplyPut (IsAnswerTo Answers (Some job) entries) Replied held held' puts puts' served → IsServed left left' reads reads' held held' puts puts' served
-served-reply firm {left' = left'} {served = served} job entries r p = record {
-  read = r.read;
-  written = p.written;
-  taken = r.taken;
-  put = p.put;
-  in_time = r.in_time;
-  firm = λ due more. firm r.read more due;
-  tells = replied-tells job entries r.read left' served p.written r.tells.0 p.tells;
-  later_reads = r.later;
-  later_puts = p.later;
-  read_cause = λ e. absurd (put-reads (IsAnswerTo Answers (Some job) entries) Replied served p.written replied-never p.tells e);
-  write_cause = p.cause;
-}
-
--- THE SOURCE FAILED
 
 added-nothing : (held : Option (List ℕ)) → held ≡ added [] held
 added-nothing None = refl
 added-nothing (Some bytes) = ap Some (sym (append-nil bytes))
 
-served-fault : RequestsAreFirm → {left left' : Option (List ℕ)} {reads reads' : ℕ} → IsRequestRead left left' reads reads' (Err no.Fault) → (held : Option (List ℕ)) (puts : ℕ) → IsServed left left' reads reads' held held puts puts ReadFault
-served-fault firm r held puts = record {
-  read = r.read;
-  written = [];
-  taken = r.taken;
-  put = added-nothing held;
-  in_time = r.in_time;
-  firm = λ due more. firm r.read more due;
-  tells = (refl, r.tells.0);
-  later_reads = r.later;
-  later_puts = omega arith;
-  read_cause = λ e. r.tells.1;
-  write_cause = λ (e : ReadFault ≡ WriteFault). absurd (cc);
-}
-
--- THE BYTES WERE REFUSED
-
+-- the bytes were refused by a reason
 abbrev Reasoned : FrameError → List ℕ → Option (List ℕ) → Type 0
 Reasoned e read left = (e ≡ why.Memory) ⊎ (IsReasonOf read (number_of e) ⊎ IsCut read left (number_of e))
 
-refusal-reads : (e : FrameError) → refusal_served e ≡ ReadFault → ⊥
+refusal-reads : (e : FrameError) → ReadFault ≡ refusal_served e → ⊥
 refusal-reads why.Memory is = cc
 refusal-reads why.Version is = cc
 refusal-reads why.Token is = cc
@@ -111,61 +47,165 @@ not-one : (read : List ℕ) (left : Option (List ℕ)) → IsReasonOf read 1 ⊎
 not-one read left (inl is) = omega (arith, is.1)
 not-one read left (inr is) = omega (arith, is.0)
 
--- the refusal of a reason of the bytes
-refusal-tells : (e : FrameError) (read : List ℕ) (left : Option (List ℕ)) (written : List ℕ) → IsReasonOf read (number_of e) ⊎ IsCut read left (number_of e) → written ≡ reply_bytes (answer.Refused (number_of e))
-    → Tells (refusal_served e) read left written
-refusal-tells why.Memory read left written is w = absurd (not-one read left is)
-refusal-tells why.Version read left written is w = (w, is)
-refusal-tells why.Token read left written is w = (w, is)
-refusal-tells why.Digits read left written is w = (w, is)
-refusal-tells why.Limit read left written is w = (w, is)
-refusal-tells why.Order read left written is w = (w, is)
-refusal-tells why.Parent read left written is w = (w, is)
-refusal-tells why.Words read left written is w = (w, is)
-refusal-tells why.Cut read left written is w = (w, is)
+module _ (may : Job → Entries → Answer → Type 0) (firm : RequestsAreFirm) where
+  -- A REQUEST WAS READ
 
-refusal-reply : (n : ℕ) (read : List ℕ) (left : Option (List ℕ)) (bytes : List ℕ) → IsReasonOf read n ⊎ IsCut read left n → bytes ≡ reply_bytes (answer.Refused n) → IsReplyTo read left bytes
-refusal-reply n read left bytes (inl is) b = (subst (λ (v : Verdict Got). IsReply Answers v bytes) (sym is.0) b, λ e. absurd (let never : reason n ≡ going = sym is.0 ∙ e in cc))
-refusal-reply n read left bytes (inr is) b = (subst (λ (v : Verdict Got). IsReply Answers v bytes) (sym is.1) (b ∙ ap (λ (k : ℕ). reply_bytes (answer.Refused k)) is.0), λ e. is.2)
+  answer-whole : (job : Job) (entries : Entries) (read : List ℕ) (left : Option (List ℕ)) (written : List ℕ) → verdict_on read ≡ done (got_of job entries) → (served : Served) → AnswersBy may job entries served written → TellsWhole may served read left written
+  answer-whole job entries read left written is Replied a = (got_of job entries, is, a)
+  answer-whole job entries read left written is (Refused n) a = absurd a
+  answer-whole job entries read left written is ReadFault a = absurd a
+  answer-whole job entries read left written is WriteFault a = a
+  answer-whole job entries read left written is Memory a = a
 
-no_memory-part : (read : List ℕ) (left : Option (List ℕ)) (written : List ℕ) → IsFrontOf (λ bytes. bytes ≡ reply_bytes (answer.Refused 1)) written → IsPartOfReply read left written
-no_memory-part read left written (inl front) = inr (subst (λ (bytes : List ℕ). (k : ℕ) × (written ≡ take k bytes)) front.1 front.2)
-no_memory-part read left written (inr front) = inr front
+  answer-part : (job : Job) (entries : Entries) (read : List ℕ) (left : Option (List ℕ)) (written bytes : List ℕ) → verdict_on read ≡ done (got_of job entries) → IsFront written bytes → (served : Served) → AnswersBy may job entries served bytes → IsPartOfReply may read left written
+  answer-part job entries read left written bytes is front Replied a =
+      inl (bytes, (subst (λ (v : Verdict Got). IsReply may v bytes) (sym is) a, λ e. absurd (let never : done (got_of job entries) ≡ going = sym is ∙ e in cc)), front)
+  answer-part job entries read left written bytes is front (Refused n) a = absurd a
+  answer-part job entries read left written bytes is front ReadFault a = absurd a
+  answer-part job entries read left written bytes is front WriteFault a = absurd a
+  answer-part job entries read left written bytes is front Memory a = inr (subst (IsFront written) a front)
 
-refused-tells : (e : FrameError) (read : List ℕ) (left : Option (List ℕ)) (served : Served) (written : List ℕ) → Reasoned e read left → PutTells (λ bytes. bytes ≡ reply_bytes (answer.Refused (number_of e))) (refusal_served e) served written
-    → Tells served read left written
-refused-tells e read left served written (inl memory) (inl whole) =
-    let is : served ≡ Memory = whole.0 ∙ ap refusal_served memory in
-    let bytes : written ≡ reply_bytes (answer.Refused 1) = whole.1 ∙ ap (λ (x : FrameError). reply_bytes (answer.Refused (number_of x))) memory in
-    stopped-tells served read left written (inr is) (inr (whole-front written (reply_bytes (answer.Refused 1)) bytes))
-refused-tells e read left served written (inl memory) (inr stopped) =
-    stopped-tells served read left written stopped.0
-    (no_memory-part read left written (subst (λ (x : FrameError). IsFrontOf (λ bytes. bytes ≡ reply_bytes (answer.Refused (number_of x))) written) memory stopped.1))
-refused-tells e read left served written (inr is) (inl whole) = subst (λ (s : Served). Tells s read left written) (sym whole.0) (refusal-tells e read left written is whole.1)
-refused-tells e read left served written (inr is) (inr stopped) =
-    stopped-tells served read left written stopped.0
-    (part (λ bytes. bytes ≡ reply_bytes (answer.Refused (number_of e))) read left written (λ bytes b. refusal-reply (number_of e) read left bytes is b) stopped.1)
+  answer-tells : (job : Job) (entries : Entries) (read : List ℕ) (left : Option (List ℕ)) (written : List ℕ) → verdict_on read ≡ done (got_of job entries) → (ended : Result Served sink.WriteFault) → PutTells (AnswersBy may job entries) ended written → TellsExactly may ended read left written
+  answer-tells job entries read left written is (Ok served) t = answer-whole job entries read left written is served t
+  answer-tells job entries read left written is (Err e) t = answer-part job entries read left written t.1 is t.3 t.0 t.2
 
-served-refusal : RequestsAreFirm → {left left' held held' : Option (List ℕ)} {reads reads' puts puts' : ℕ} {served : Served} (e : FrameError) → IsRequestRead left left' reads reads' (Err (no.Refused e))
-    → IsReplyPut (λ bytes. bytes ≡ reply_bytes (answer.Refused (number_of e))) (refusal_served e) held held' puts puts' served → IsServed left left' reads reads' held held' puts puts' served
-served-refusal firm {left' = left'} {served = served} e r p = record {
-  read = r.read;
-  written = p.written;
-  taken = r.taken;
-  put = p.put;
-  in_time = r.in_time;
-  firm = λ due more. firm r.read more due;
-  tells = refused-tells e r.read left' served p.written r.tells p.tells;
-  later_reads = r.later;
-  later_puts = p.later;
-  read_cause = λ is. absurd (put-reads (λ bytes. bytes ≡ reply_bytes (answer.Refused (number_of e))) (refusal_served e) served p.written (refusal-reads e) p.tells is);
-  write_cause = p.cause;
-}
+  pub served-reply : {left left' held held' : Option (List ℕ)} {reads reads' puts puts' : ℕ} {ended : Result Served sink.WriteFault} (job : Job) (entries : Entries) → IsRequestRead left left' reads reads' (Ok (job, entries))
+      → IsReplyPut (AnswersBy may job entries) held held' puts puts' ended → IsServedExactly may left left' reads reads' held held' puts puts' ended
+  served-reply {left' = left'} {ended = ended} job entries r p = record {
+    read = r.read;
+    written = p.written;
+    taken = r.taken;
+    put = p.put;
+    in_time = r.in_time;
+    firm = λ due more. firm r.read more due;
+    tells = answer-tells job entries r.read left' p.written r.tells.0 ended p.tells;
+    later_reads = r.later;
+    later_puts = p.cause.later;
+    read_cause = λ is. absurd (subst (λ (x : Result Served sink.WriteFault). PutTells (AnswersBy may job entries) x p.written) is p.tells);
+    write_cause = p.cause.rose;
+  }
 
-pub served-none : RequestsAreFirm → {left left' held held' : Option (List ℕ)} {reads reads' puts puts' : ℕ} {served : Served} (e : NoRequest) → IsRequestRead left left' reads reads' (Err e) → IsUnserved e held held' puts puts' served
-    → IsServed left left' reads reads' held held' puts puts' served
-served-none firm {left} {left'} {held} {held'} {reads} {reads'} {puts} {puts'} no.Fault r u =
-    subst (λ (s : Served). IsServed left left' reads reads' held held' puts puts' s) (sym u.0)
-    (subst (λ (h : Option (List ℕ)). IsServed left left' reads reads' held h puts puts' ReadFault) (sym u.1)
-    (subst (λ (p : ℕ). IsServed left left' reads reads' held held puts p ReadFault) (sym u.2) (served-fault firm r held puts)))
-served-none firm (no.Refused e) r u = served-refusal firm e r u
+  -- THE SOURCE FAILED
+
+  served-fault : {left left' : Option (List ℕ)} {reads reads' : ℕ} → IsRequestRead left left' reads reads' (Err no.Fault) → (held : Option (List ℕ)) (puts : ℕ) → IsServedExactly may left left' reads reads' held held puts puts (Ok ReadFault)
+  served-fault r held puts = record {
+    read = r.read;
+    written = [];
+    taken = r.taken;
+    put = added-nothing held;
+    in_time = r.in_time;
+    firm = λ due more. firm r.read more due;
+    tells = (refl, r.tells.0);
+    later_reads = r.later;
+    later_puts = omega arith;
+    read_cause = λ is. r.tells.1;
+    write_cause = λ (is : ◌≡◌ {A = Result Served sink.WriteFault} (Ok ReadFault) (Err fault.Fault)). absurd (cc);
+  }
+
+  -- THE BYTES WERE REFUSED
+
+  -- the refusal of a reason of the bytes
+  refusal-tells : (e : FrameError) (read : List ℕ) (left : Option (List ℕ)) (written : List ℕ) → IsReasonOf read (number_of e) ⊎ IsCut read left (number_of e) → written ≡ reply_bytes (answer.Refused (number_of e)) → TellsWhole may (refusal_served e) read left written
+  refusal-tells why.Memory read left written is w = absurd (not-one read left is)
+  refusal-tells why.Version read left written is w = (w, is)
+  refusal-tells why.Token read left written is w = (w, is)
+  refusal-tells why.Digits read left written is w = (w, is)
+  refusal-tells why.Limit read left written is w = (w, is)
+  refusal-tells why.Order read left written is w = (w, is)
+  refusal-tells why.Parent read left written is w = (w, is)
+  refusal-tells why.Words read left written is w = (w, is)
+  refusal-tells why.Cut read left written is w = (w, is)
+
+  refusal-whole : (e : FrameError) (read : List ℕ) (left : Option (List ℕ)) (written : List ℕ) → Reasoned e read left → written ≡ reply_bytes (answer.Refused (number_of e)) → TellsWhole may (refusal_served e) read left written
+  refusal-whole e read left written (inl memory) w =
+      subst (λ (x : FrameError). TellsWhole may (refusal_served x) read left written) (sym memory) (w ∙ ap (λ (x : FrameError). reply_bytes (answer.Refused (number_of x))) memory)
+  refusal-whole e read left written (inr is) w = refusal-tells e read left written is w
+
+  refusal-reply : (n : ℕ) (read : List ℕ) (left : Option (List ℕ)) (bytes : List ℕ) → IsReasonOf read n ⊎ IsCut read left n → bytes ≡ reply_bytes (answer.Refused n) → IsReplyTo may read left bytes
+  refusal-reply n read left bytes (inl is) b = (subst (λ (v : Verdict Got). IsReply may v bytes) (sym is.0) b, λ e. absurd (let never : reason n ≡ going = sym is.0 ∙ e in cc))
+  refusal-reply n read left bytes (inr is) b = (subst (λ (v : Verdict Got). IsReply may v bytes) (sym is.1) (b ∙ ap (λ (k : ℕ). reply_bytes (answer.Refused k)) is.0), λ e. is.2)
+
+  refusal-part : (e : FrameError) (read : List ℕ) (left : Option (List ℕ)) (written bytes : List ℕ) → Reasoned e read left → bytes ≡ reply_bytes (answer.Refused (number_of e)) → IsFront written bytes → IsPartOfReply may read left written
+  refusal-part e read left written bytes (inl memory) b front = inr (subst (IsFront written) (b ∙ ap (λ (x : FrameError). reply_bytes (answer.Refused (number_of x))) memory) front)
+  refusal-part e read left written bytes (inr is) b front = inl (bytes, refusal-reply (number_of e) read left bytes is b, front)
+
+  refused-tells : (e : FrameError) (read : List ℕ) (left : Option (List ℕ)) (written : List ℕ) → Reasoned e read left → (ended : Result Served sink.WriteFault) → PutTells (OnlyReply (refusal_served e) (reply_bytes (answer.Refused (number_of e)))) ended written
+      → TellsExactly may ended read left written
+  refused-tells e read left written is (Ok served) t = subst (λ (s : Served). TellsWhole may s read left written) (sym t.0) (refusal-whole e read left written is t.1)
+  refused-tells e read left written is (Err x) t = refusal-part e read left written t.1 is t.2.1 t.3
+
+  served-refusal : {left left' held held' : Option (List ℕ)} {reads reads' puts puts' : ℕ} {ended : Result Served sink.WriteFault} (e : FrameError) → IsRequestRead left left' reads reads' (Err (no.Refused e))
+      → IsReplyPut (OnlyReply (refusal_served e) (reply_bytes (answer.Refused (number_of e)))) held held' puts puts' ended → IsServedExactly may left left' reads reads' held held' puts puts' ended
+  served-refusal {left' = left'} {ended = ended} e r p = record {
+    read = r.read;
+    written = p.written;
+    taken = r.taken;
+    put = p.put;
+    in_time = r.in_time;
+    firm = λ due more. firm r.read more due;
+    tells = refused-tells e r.read left' p.written r.tells ended p.tells;
+    later_reads = r.later;
+    later_puts = p.cause.later;
+    read_cause = λ is. absurd (refusal-reads e ((subst (λ (x : Result Served sink.WriteFault). PutTells (OnlyReply (refusal_served e) (reply_bytes (answer.Refused (number_of e)))) x p.written) is p.tells).0));
+    write_cause = p.cause.rose;
+  }
+
+  pub served-none : {left left' held held' : Option (List ℕ)} {reads reads' puts puts' : ℕ} {ended : Result Served sink.WriteFault} (e : NoRequest) → IsRequestRead left left' reads reads' (Err e) → IsUnserved e held held' puts puts' ended
+      → IsServedExactly may left left' reads reads' held held' puts puts' ended
+  served-none {left} {left'} {held} {held'} {reads} {reads'} {puts} {puts'} no.Fault r u =
+      subst (λ (x : Result Served sink.WriteFault). IsServedExactly may left left' reads reads' held held' puts puts' x) (sym u.0)
+      (subst (λ (h : Option (List ℕ)). IsServedExactly may left left' reads reads' held h puts puts' (Ok ReadFault)) (sym u.1)
+      (subst (λ (p : ℕ). IsServedExactly may left left' reads reads' held held puts p (Ok ReadFault)) (sym u.2) (served-fault r held puts)))
+  served-none (no.Refused e) r u = served-refusal e r u
+
+-- WHERE THE SINK'S ERRORS ARE AMONG THE ENDS
+
+front-reads : (e : sink.WriteFault) → fault_served e ≡ ReadFault → ⊥
+front-reads fault.Fault is = cc
+front-reads fault.Memory is = cc
+
+front-writes : (e : sink.WriteFault) → fault_served e ≡ WriteFault → e ≡ fault.Fault
+front-writes fault.Fault is = refl
+front-writes fault.Memory is = absurd (cc)
+
+module _ (may : Job → Entries → Answer → Type 0) where
+  whole-tells : (served : Served) (read : List ℕ) (left : Option (List ℕ)) (written : List ℕ) → TellsWhole may served read left written → Tells may served read left written
+  whole-tells Replied read left written t = t
+  whole-tells (Refused n) read left written t = t
+  whole-tells ReadFault read left written t = t
+  whole-tells WriteFault read left written t = absurd t
+  whole-tells Memory read left written t = inr (whole-front written (reply_bytes (answer.Refused 1)) t)
+
+  front-tells : (e : sink.WriteFault) (read : List ℕ) (left : Option (List ℕ)) (written : List ℕ) → IsPartOfReply may read left written → Tells may (fault_served e) read left written
+  front-tells fault.Fault read left written t = t
+  front-tells fault.Memory read left written t = t
+
+  pub whole-served : {left left' held held' : Option (List ℕ)} {reads reads' puts puts' : ℕ} (served : Served) → IsServedExactly may left left' reads reads' held held' puts puts' (Ok served) → IsServed may left left' reads reads' held held' puts puts' served
+  whole-served {left' = left'} served s = record {
+    read = s.read;
+    written = s.written;
+    taken = s.taken;
+    put = s.put;
+    in_time = s.in_time;
+    firm = s.firm;
+    tells = whole-tells served s.read left' s.written s.tells;
+    later_reads = s.later_reads;
+    later_puts = s.later_puts;
+    read_cause = λ is. s.read_cause (ap Ok is);
+    write_cause = λ is. absurd (subst (λ (x : Served). TellsWhole may x s.read left' s.written) is s.tells);
+  }
+
+  pub front-served : {left left' held held' : Option (List ℕ)} {reads reads' puts puts' : ℕ} (e : sink.WriteFault) → IsServedExactly may left left' reads reads' held held' puts puts' (Err e) → IsServed may left left' reads reads' held held' puts puts' (fault_served e)
+  front-served {left' = left'} e s = record {
+    read = s.read;
+    written = s.written;
+    taken = s.taken;
+    put = s.put;
+    in_time = s.in_time;
+    firm = s.firm;
+    tells = front-tells e s.read left' s.written s.tells;
+    later_reads = s.later_reads;
+    later_puts = s.later_puts;
+    read_cause = λ is. absurd (front-reads e is);
+    write_cause = λ is. s.write_cause (ap Err (front-writes e is));
+  }

@@ -1,22 +1,24 @@
 -- The parts of serving a request: reading it, and putting the reply.
 use Rattle.std.specs.Prelude.{◌≡◌, ◌⊎◌, ◌≤◌, ℕ, List, [], ◌++◌, Option, Some, Result, Ok, Err, IsTrue}
 use Rattle.std.specs.Io.KnownBytes.{prepend_known}
-use Rattle.base_types.specs.Causes.{Rose}
+use Rattle.base_types.specs.Causes.{Rose, HasCause}
 use Rattle.base_types.specs.Told.{added}
 use Rattle.tree_model.specs.Entries.{Entries, makes_tree, bodies_fit}
 use Rattle.job_words.specs.declared.job.Job.{Job}
 use Rattle.job_frames.specs.declared.FrameError.{FrameError}
 use Rattle.job_frames.specs.declared.FrameError.TheVariants as why
+use Rattle.job_frames.specs.declared.answer.Answer.{Answer}
 use Rattle.job_frames.specs.declared.answer.Answer.TheVariants as answer
 use Rattle.job_frames.specs.Outcomes.{Left, going, done, number_of}
 use Rattle.job_frames.specs.Request.{Got}
 use Rattle.job_frames.specs.Reply.{reply_bytes}
+use Rattle.job_frames.specs.Daemon.{IsAnswerTo}
 use Rattle.io_edges.specs.declared.sink.WriteFault as sink
 use Rattle.io_edges.specs.declared.sink.WriteFault.TheVariants as fault
 use Rattle.daemon_serve.specs.declared.reading.NoRequest.{NoRequest}
 use Rattle.daemon_serve.specs.declared.reading.NoRequest.TheVariants as no
 use Rattle.daemon_serve.specs.declared.serving.Served.{Served}
-use Rattle.daemon_serve.specs.declared.serving.Served.TheVariants.{Refused, ReadFault, WriteFault, Memory}
+use Rattle.daemon_serve.specs.declared.serving.Served.TheVariants.{Replied, Refused, ReadFault, WriteFault, Memory}
 use Rattle.daemon_serve.specs.Serving.{verdict_on, StopsInTime, IsReasonOf, IsCut, IsFront}
 
 -- While a request is read: nothing is wrong with the bytes read, and the reader says of each text that may come what is to
@@ -78,22 +80,28 @@ abbrev pub fault_served : sink.WriteFault → Served
 fault_served fault.Fault = WriteFault
 fault_served fault.Memory = Memory
 
--- a front of a reply, or of the refusal for want of memory
-abbrev pub IsFrontOf : (List ℕ → Type 0) → List ℕ → Type 0
-IsFrontOf reply written = ((bytes : List ℕ) × reply bytes × IsFront written bytes) ⊎ IsFront written (reply_bytes (answer.Refused 1))
+-- the replies to a whole request, by how serving ends where they are put: an answer, or the refusal for want of memory
+abbrev pub AnswersBy : (Job → Entries → Answer → Type 0) → Job → Entries → Served → List ℕ → Type 0
+AnswersBy may job entries Replied bytes = IsAnswerTo may (Some job) entries bytes
+AnswersBy may job entries Memory bytes = bytes ≡ reply_bytes (answer.Refused 1)
+AnswersBy may job entries _ bytes = ⊥
 
--- a whole reply was put; or the sink failed or found no memory, or none was found for the reply
-abbrev pub PutTells : (List ℕ → Type 0) → Served → Served → List ℕ → Type 0
-PutTells reply whole served written = ((served ≡ whole) × reply written) ⊎ (((served ≡ WriteFault) ⊎ (served ≡ Memory)) × IsFrontOf reply written)
+-- the one reply that is put, and how serving ends then
+abbrev pub OnlyReply : Served → List ℕ → Served → List ℕ → Type 0
+OnlyReply whole reply served bytes = (served ≡ whole) × (bytes ≡ reply)
 
-pub record IsReplyPut (reply : List ℕ → Type 0) (whole : Served) (held held' : Option (List ℕ)) (puts puts' : ℕ) (served : Served) : Type 0 where
+-- a reply was put whole; or, where the sink didn't take it, a front of one
+abbrev pub PutTells : (Served → List ℕ → Type 0) → Result Served sink.WriteFault → List ℕ → Type 0
+PutTells reply (Ok served) written = reply served written
+PutTells reply (Err e) written = (served : Served) × (bytes : List ℕ) × reply served bytes × IsFront written bytes
+
+pub record IsReplyPut (reply : Served → List ℕ → Type 0) (held held' : Option (List ℕ)) (puts puts' : ℕ) (ended : Result Served sink.WriteFault) : Type 0 where
   pub written : List ℕ
   pub put : held' ≡ added written held
-  pub later : puts ≤ puts'
-  pub cause : served ≡ WriteFault → Rose puts puts'
-  pub tells : PutTells reply whole served written
+  pub cause : HasCause fault.Fault puts puts' ended
+  pub tells : PutTells reply ended written
 
 -- where no request was read: nothing is put where the source failed, else a refusal
-abbrev pub IsUnserved : NoRequest → Option (List ℕ) → Option (List ℕ) → ℕ → ℕ → Served → Type 0
-IsUnserved no.Fault held held' puts puts' served = (served ≡ ReadFault) × (held' ≡ held) × (puts' ≡ puts)
-IsUnserved (no.Refused e) held held' puts puts' served = IsReplyPut (λ bytes. bytes ≡ reply_bytes (answer.Refused (number_of e))) (refusal_served e) held held' puts puts' served
+abbrev pub IsUnserved : NoRequest → Option (List ℕ) → Option (List ℕ) → ℕ → ℕ → Result Served sink.WriteFault → Type 0
+IsUnserved no.Fault held held' puts puts' ended = (ended ≡ Ok ReadFault) × (held' ≡ held) × (puts' ≡ puts)
+IsUnserved (no.Refused e) held held' puts puts' ended = IsReplyPut (OnlyReply (refusal_served e) (reply_bytes (answer.Refused (number_of e)))) held held' puts puts' ended

@@ -1,8 +1,13 @@
 -- What serving one request does: what was read and written, and what the answer tells of them.
-use Rattle.std.specs.Prelude.{◌≡◌, ◌⊎◌, ◌≤◌, ℕ, List, [], ◌∷◌, ◌++◌, length, take, Option, Some, None, codes, bytes_eq, if◌then◌else◌}
+use Rattle.std.specs.Prelude.{◌≡◌, ◌⊎◌, ◌≤◌, ℕ, List, [], ◌∷◌, ◌++◌, length, take, Option, Some, None, Result, Ok, Err, codes, bytes_eq, if◌then◌else◌}
 use Rattle.std.specs.Io.KnownBytes.{prepend_known, IsAtEnd}
 use Rattle.base_types.specs.Causes.{Rose}
 use Rattle.base_types.specs.Told.{added}
+use Rattle.tree_model.specs.Entries.{Entries}
+use Rattle.job_words.specs.declared.job.Job.{Job}
+use Rattle.io_edges.specs.declared.sink.WriteFault as sink
+use Rattle.io_edges.specs.declared.sink.WriteFault.TheVariants as fault
+use Rattle.job_frames.specs.declared.answer.Answer.{Answer}
 use Rattle.job_frames.specs.declared.answer.Answer.TheVariants as answer
 use Rattle.job_frames.specs.Outcomes.{Verdict, going, done, reason, whatever_follows}
 use Rattle.job_frames.specs.Request.{Got, request_at}
@@ -12,7 +17,6 @@ use Rattle.daemon_serve.specs.declared.serving.Served.{Served}
 use Rattle.daemon_serve.specs.declared.serving.Served.TheVariants.{Replied, Refused, ReadFault, WriteFault, Memory}
 use Rattle.daemon_serve.specs.declared.daemon.Serve.{Serve}
 use Rattle.daemon_serve.specs.declared.daemon.Serve.TheVariants.{Inetd}
-use Rattle.daemon_serve.specs.Served.{Answers}
 
 -- the greatest length of a piece that is read at once
 abbrev pub piece_limit : ℕ
@@ -34,17 +38,19 @@ pub record StopsInTime (read : List ℕ) : Type 0 where
 abbrev pub IsFirm : List ℕ → Type 0
 IsFirm read = (verdict_on read ≡ going → ⊥) → (more : List ℕ) → verdict_on (read ++ more) ≡ verdict_on read
 
--- the reply to these bytes; that they are too few is replied only where the source gave its end
-abbrev pub IsReplyTo : List ℕ → Option (List ℕ) → List ℕ → Type 0
-IsReplyTo read left reply = IsReply Answers (verdict_on read) reply × (verdict_on read ≡ going → IsAtEnd left)
+-- the reply to these bytes, by what may be answered to a whole request; that they are too few is replied only where the
+-- source gave its end
+abbrev pub IsReplyTo : (Job → Entries → Answer → Type 0) → List ℕ → Option (List ℕ) → List ℕ → Type 0
+IsReplyTo may read left reply = IsReply may (verdict_on read) reply × (verdict_on read ≡ going → IsAtEnd left)
 
--- a front of that reply, or of the refusal for want of memory
+-- a front of a text
 abbrev pub IsFront : List ℕ → List ℕ → Type 0
 IsFront front whole = (k : ℕ) × (front ≡ take k whole)
 
-abbrev pub IsPartOfReply : List ℕ → Option (List ℕ) → List ℕ → Type 0
-IsPartOfReply read left written =
-    ((reply : List ℕ) × IsReplyTo read left reply × IsFront written reply) ⊎ IsFront written (reply_bytes (answer.Refused 1))
+-- a front of that reply, or of the refusal for want of memory
+abbrev pub IsPartOfReply : (Job → Entries → Answer → Type 0) → List ℕ → Option (List ℕ) → List ℕ → Type 0
+IsPartOfReply may read left written =
+    ((reply : List ℕ) × IsReplyTo may read left reply × IsFront written reply) ⊎ IsFront written (reply_bytes (answer.Refused 1))
 
 -- a reason of the bytes that were read
 abbrev pub IsReasonOf : List ℕ → ℕ → Type 0
@@ -54,27 +60,47 @@ IsReasonOf read n = (verdict_on read ≡ reason n) × (2 ≤ n) × (n ≤ 8)
 abbrev pub IsCut : List ℕ → Option (List ℕ) → ℕ → Type 0
 IsCut read left n = (n ≡ 9) × (verdict_on read ≡ going) × IsAtEnd left
 
--- what an answer tells of the bytes read, of what the source has left, and of the bytes written
-abbrev pub Tells : Served → List ℕ → Option (List ℕ) → List ℕ → Type 0
-Tells Replied read left written = (got : Got) × (verdict_on read ≡ done got) × IsAnswerTo Answers got.job got.entries written
-Tells (Refused n) read left written = (written ≡ reply_bytes (answer.Refused n)) × (IsReasonOf read n ⊎ IsCut read left n)
-Tells ReadFault read left written = (written ≡ []) × (verdict_on read ≡ going)
-Tells WriteFault read left written = IsPartOfReply read left written
-Tells Memory read left written = IsPartOfReply read left written
+-- what serving tells of the bytes read, of what the source has left, and of all the bytes written, where the sink took them
+abbrev pub TellsWhole : (Job → Entries → Answer → Type 0) → Served → List ℕ → Option (List ℕ) → List ℕ → Type 0
+TellsWhole may Replied read left written = (got : Got) × (verdict_on read ≡ done got) × IsAnswerTo may got.job got.entries written
+TellsWhole may (Refused n) read left written = (written ≡ reply_bytes (answer.Refused n)) × (IsReasonOf read n ⊎ IsCut read left n)
+TellsWhole may ReadFault read left written = (written ≡ []) × (verdict_on read ≡ going)
+TellsWhole may WriteFault read left written = ⊥
+TellsWhole may Memory read left written = written ≡ reply_bytes (answer.Refused 1)
 
--- One request served, by what the source has left, what the sink holds and the counts of their faults, before and after.
-pub record IsServed (left left' : Option (List ℕ)) (reads reads' : ℕ) (held held' : Option (List ℕ)) (puts puts' : ℕ) (served : Served) : Type 0 where
+-- where the sink didn't take them, a front of the reply may have been written
+abbrev pub TellsExactly : (Job → Entries → Answer → Type 0) → Result Served sink.WriteFault → List ℕ → Option (List ℕ) → List ℕ → Type 0
+TellsExactly may (Ok served) read left written = TellsWhole may served read left written
+TellsExactly may (Err e) read left written = IsPartOfReply may read left written
+
+-- what is told where the sink's want of memory is told as any other
+abbrev pub Tells : (Job → Entries → Answer → Type 0) → Served → List ℕ → Option (List ℕ) → List ℕ → Type 0
+Tells may WriteFault read left written = IsPartOfReply may read left written
+Tells may Memory read left written = IsPartOfReply may read left written
+Tells may served read left written = TellsWhole may served read left written
+
+-- One request served, by what the source has left, what the sink holds and the counts of their faults, before and after; and
+-- by an end that tells of the bytes read and written, and stands for a fault of the source or of the sink.
+pub record Serves {E : Type 0} (tells_of : E → List ℕ → Option (List ℕ) → List ℕ → Type 0) (read_fault write_fault : E) (left left' : Option (List ℕ)) (reads reads' : ℕ) (held held' : Option (List ℕ)) (puts puts' : ℕ) (ended : E) : Type 0 where
   pub read : List ℕ
   pub written : List ℕ
   pub taken : left ≡ prepend_known read left'
   pub put : held' ≡ added written held
   pub in_time : StopsInTime read
   pub firm : IsFirm read
-  pub tells : Tells served read left' written
+  pub tells : tells_of ended read left' written
   pub later_reads : reads ≤ reads'
   pub later_puts : puts ≤ puts'
-  pub read_cause : served ≡ ReadFault → Rose reads reads'
-  pub write_cause : served ≡ WriteFault → Rose puts puts'
+  pub read_cause : ended ≡ read_fault → Rose reads reads'
+  pub write_cause : ended ≡ write_fault → Rose puts puts'
+
+-- One request served, where an end other than the sink's error says exactly what was written.
+abbrev pub IsServedExactly : (Job → Entries → Answer → Type 0) → Option (List ℕ) → Option (List ℕ) → ℕ → ℕ → Option (List ℕ) → Option (List ℕ) → ℕ → ℕ → Result Served sink.WriteFault → Type 0
+IsServedExactly may = Serves (TellsExactly may) (Ok ReadFault) (Err fault.Fault)
+
+-- One request served, where the sink's errors are among the ends.
+abbrev pub IsServed : (Job → Entries → Answer → Type 0) → Option (List ℕ) → Option (List ℕ) → ℕ → ℕ → Option (List ℕ) → Option (List ℕ) → ℕ → ℕ → Served → Type 0
+IsServed may = Serves (Tells may) ReadFault WriteFault
 
 -- the exit status of a program that served one request
 abbrev pub status_of : Served → ℕ

@@ -1,6 +1,7 @@
 // A daemon that is started for one request.
 ghost use Rattle.std.specs.Prelude.{◌≡◌, map};
 ghost use Rattle.daemon_serve.specs.declared.serving.Served.{Served};
+ghost use Rattle.daemon_answers.specs.Answers.{Answers};
 ghost use Rattle.daemon_serve.specs.Serving.{IsServed, serve_of, status_of};
 
 use crate::serving::{Served, serve};
@@ -30,7 +31,7 @@ pub fn daemon_words(words: &[&str]) -> Option<Serve>
 /// Serves one request, and answers the exit status that tells how it ended: 0 replied, 1 refused, 3 the read failed, 4 the
 /// write failed, 5 out of memory.
 pub fn inetd<S: Source, K: Sink>(alloc: Global, source: &mut S, sink: &mut K) -> u8
-    ensures { (served : Served) × IsServed (S.left source.old) (S.left source.new) (S.Source.faults source.old) (S.Source.faults source.new) (K.held sink.old) (K.held sink.new) (K.Sink.faults sink.old) (K.Sink.faults sink.new) served × (result ≡ status_of served) }
+    ensures { (served : Served) × IsServed Answers (S.left source.old) (S.left source.new) (S.Source.faults source.old) (S.Source.faults source.new) (K.held sink.old) (K.held sink.new) (K.Sink.faults sink.old) (K.Sink.faults sink.new) served × (result ≡ status_of served) }
 {
     status(serve(alloc, source, sink))
 }

@@ -5,38 +5,42 @@ ghost use Rattle.job_frames.specs.declared.answer.Answer.TheVariants.{Refused};
 ghost use Rattle.job_frames.specs.Daemon.{IsAnswerTo};
 ghost use Rattle.job_frames.specs.Outcomes.{number_of};
 ghost use Rattle.job_frames.specs.Reply.{reply_bytes};
-ghost use Rattle.daemon_serve.specs.Served.{Answers, carried};
-ghost use Rattle.daemon_serve.specs.Parts.{fault_served, refusal_served, IsReplyPut};
+ghost use Rattle.daemon_answers.specs.Answers.{Answers};
+ghost use Rattle.daemon_serve.specs.Parts.{refusal_served, AnswersBy, OnlyReply, IsReplyPut};
 
+use crate::replier::Replier;
 use crate::serving::Served;
 use base_types::{Bytes, List};
-use daemon_cpp::{CppError, Outcome, preprocess};
+use daemon_answers::answer_of;
+use daemon_cpp::{CppError, preprocess};
 use io_edges::{Sink, WriteFault};
-use job_frames::{Answer, FrameError, write_reply};
+use job_frames::{FrameError, write_reply};
 use job_words::Job;
 use mirror_tree::Mirror;
 use std::alloc::Global;
 use tree_model::{CanonPath, Entry};
 
-// Puts the reply to a request. A mirror has no call that fails, so that each error is want of memory.
-pub(crate) fn reply_to<K: Sink>(
+// Puts the reply to a request.
+pub(crate) fn reply_to<K: Sink, R: Replier>(
     alloc: Global,
+    replier: &mut R,
     sink: &mut K,
     job: &Job,
     entries: List<(CanonPath, Entry)>,
-) -> Served
+) -> Result<Served, WriteFault>
     requires made { IsTrue (makes_tree entries) }
     requires bodies { IsTrue (bodies_fit entries) }
-    ensures { IsReplyPut (IsAnswerTo Answers (Some job.now) entries) Served.Replied (K.held sink.old) (K.held sink.new) (K.faults sink.old) (K.faults sink.new) result }
+    ensures { IsReplyPut (AnswersBy R.may job.now entries) (K.held sink.old) (K.held sink.new) (K.faults sink.old) (K.faults sink.new) result }
 {
-    match preprocessed(alloc, job, entries) {
+    match replier.reply(alloc, job, entries) {
         Ok(reply) => return put_whole(sink, reply.as_slice(), Served::Replied),
         Err(_) => return refuse(sink, FrameError::Memory),
     }
 }
 
-// The reply that carries what preprocessing gives over the tree of the entries alone.
-fn preprocessed(
+// The reply that carries what preprocessing gives over the tree of the entries alone. A mirror has no call that fails, so
+// that each error is want of memory.
+pub(crate) fn preprocessed(
     alloc: Global,
     job: &Job,
     entries: List<(CanonPath, Entry)>,
@@ -48,45 +52,24 @@ fn preprocessed(
     let Ok(mut tree) = Mirror::build(alloc, entries) else {
         unreachable!()
     };
-    let answer = carrying(preprocess(alloc, &mut tree, job)?);
+    let answer = answer_of(preprocess(alloc, &mut tree, job)?);
     Ok(write_reply(alloc, &answer)?)
 }
 
-// The answer that carries an outcome.
-fn carrying(outcome: Outcome) -> Answer
-    ensures { result ≡ carried outcome }
-{
-    match outcome {
-        Outcome::Text(text) => Answer::Text(text),
-        Outcome::Diag(words) => Answer::Diag(words),
-    }
-}
-
 // Puts the refusal of a reason, which takes no memory.
-pub(crate) fn refuse<K: Sink>(sink: &mut K, why: FrameError) -> Served
-    ensures { IsReplyPut (λ bytes. bytes ≡ reply_bytes (Refused (number_of why))) (refusal_served why) (K.held sink.old) (K.held sink.new) (K.faults sink.old) (K.faults sink.new) result }
+pub(crate) fn refuse<K: Sink>(sink: &mut K, why: FrameError) -> Result<Served, WriteFault>
+    ensures { IsReplyPut (OnlyReply (refusal_served why) (reply_bytes (Refused (number_of why)))) (K.held sink.old) (K.held sink.new) (K.faults sink.old) (K.faults sink.new) result }
 {
     put_whole(sink, refusal_bytes(why), refused(why))
 }
 
 // Puts a whole reply, and answers how serving ends then, if the sink takes it.
-fn put_whole<K: Sink>(sink: &mut K, reply: &[u8], served: Served) -> Served
-    requires { served ≡ Served.WriteFault → ⊥ }
-    ensures { IsReplyPut (λ bytes. bytes ≡ reply.now) served (K.held sink.old) (K.held sink.new) (K.faults sink.old) (K.faults sink.new) result }
+fn put_whole<K: Sink>(sink: &mut K, reply: &[u8], served: Served) -> Result<Served, WriteFault>
+    ensures { IsReplyPut (OnlyReply served reply.now) (K.held sink.old) (K.held sink.new) (K.faults sink.old) (K.faults sink.new) result }
 {
     match sink.put(reply) {
-        Ok(()) => return served,
-        Err(fault) => return stopped(fault),
-    }
-}
-
-// How serving ends where the sink doesn't take the reply.
-fn stopped(fault: WriteFault) -> Served
-    ensures { result ≡ fault_served fault }
-{
-    match fault {
-        WriteFault::Fault => Served::WriteFault,
-        WriteFault::Memory => Served::Memory,
+        Ok(()) => return Ok(served),
+        Err(fault) => return Err(fault),
     }
 }
 

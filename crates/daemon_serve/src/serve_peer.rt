@@ -1,7 +1,7 @@
 // The daemon as the other side of a wire in memory.
 ghost use Rattle.std.specs.Prelude.{IfOk};
 ghost use Rattle.job_frames.specs.Daemon.{Daemon};
-ghost use Rattle.daemon_serve.specs.Served.{Answers};
+ghost use Rattle.daemon_answers.specs.Answers.{Answers};
 
 use crate::answerer::Answerer;
 use crate::buffer_sink::BufferSink;

@@ -14,7 +14,8 @@ use Rattle.search_path.specs.declared.asking.Visit.{Visit}
 use Rattle.search_path.specs.declared.asking.Ask.{Ask}
 use Rattle.cpp_output.specs.Layout.{Event, put, pragma}
 use Rattle.daemon_cpp.specs.Diagnostics.{Complaint, NotBuilt, ErrorLine, UnknownDirective}
-use Rattle.daemon_cpp.specs.Prep.{World, State, Step, Go, complain, say, visit_of, form_of, Entering, found, include, directive_step, text_step, piece_step, reserved_line}
+use Rattle.daemon_cpp.specs.Prep.{World, State, Step, Go, complain, say, visit_of, Entering, found, include, directive_step, text_step, piece_step, reserved_line}
+use Rattle.search_path.specs.Asks.{form_of}
 use Rattle.closure_fixpoint.specs.Simple.{name_asked, name_in_form, is_next_or_angle}
 
 -- what a piece asks for: the file of an include or of an include_next, in angle form or else in quote form, by its name

@@ -14,10 +14,11 @@ use Rattle.tree_model.specs.declared.walk.Located.{Located}
 use Rattle.search_path.specs.Search.{Hit, search}
 use Rattle.search_path.specs.Laws.{SearchesLocate, IsFoundInPart, IsFoundInNoPart}
 use Rattle.job_words.specs.declared.job.Job.{Job}
-use Rattle.daemon_cpp.specs.Prep.{World, State, Step, Go, Stop, world_of, source_ask, limited, first_state, open_file, enter_file, run_forced, run_job, prepared, Prepared, and_then, prep, depth_limit}
+use Rattle.daemon_cpp.specs.Prep.{World, State, Step, Go, Stop, world_of, limited, first_state, open_file, enter_file, run_forced, run_job, prepared, Prepared, and_then, prep, depth_limit}
+use Rattle.search_path.specs.Asks.{header_ask, source_ask}
 use Rattle.closure_fixpoint.specs.declared.job_analysis.Refusal.TheVariants.{NoSource, Unbuilt}
 use Rattle.closure_fixpoint.specs.Simple.{names_asked, pieces_of, is_simple, is_flat}
-use Rattle.closure_fixpoint.specs.Analysis.{AreEntriesOf, Holds, found_files, found_from, source_of, quoted_by, target_of, targets_of, body_found, is_plain_job, has_unbuilt, is_unbuilt}
+use Rattle.closure_fixpoint.specs.Analysis.{AreEntriesOf, Holds, found_files, found_from, source_of, target_of, targets_of, body_found, is_plain_job, has_unbuilt, is_unbuilt}
 use Rattle.mirror_soundness.specs.Mirror.{MirrorIsEnough}
 use Rattle.mirror_soundness.proofs.MadeTree.{any_of_member, makes_tree_of, part_of_whole}
 use Rattle.mirror_soundness.proofs.SameSearches.{source_walked, target_walked, same_found, same_none, same_body}
@@ -96,7 +97,7 @@ module _ (lists : ListsMakeTrees) (nodes : EntriesAreNodes) (found_in_part : IsF
   source_found : Member source.1 (found_files tree job)
   source_found = subst (λ (o : Option Hit). Member source.1 (found_from tree job.setup o)) (sym source_is) (inl refl)
 
-  target_found : (name : Text) (target : Hit) → Member name (names_asked (body_found tree source.1)) → search tree job.setup (quoted_by source.0 name) ≡ Some target
+  target_found : (name : Text) (target : Hit) → Member name (names_asked (body_found tree source.1)) → search tree job.setup (header_ask source.0 false false name) ≡ Some target
       → Member target.1 (targets_of tree job.setup source)
   target_found name target asked e =
       given_by_member (target_of tree job.setup source.0) (names_asked (body_found tree source.1)) name target.1 asked (ap (λ (o : Option Hit). option_map (λ h. h.1) o) e)
@@ -104,7 +105,7 @@ module _ (lists : ListsMakeTrees) (nodes : EntriesAreNodes) (found_in_part : IsF
   among_found : (target : Located) → Member target (targets_of tree job.setup source) → Member target (found_files tree job)
   among_found target m = subst (λ (o : Option Hit). Member target (found_from tree job.setup o)) (sym source_is) (inr m)
 
-  same_target : (name : Text) (target : Hit) → Member name (names_asked (body_found tree source.1)) → search tree job.setup (quoted_by source.0 name) ≡ Some target → SameFile mirrored all target
+  same_target : (name : Text) (target : Hit) → Member name (names_asked (body_found tree source.1)) → search tree job.setup (header_ask source.0 false false name) ≡ Some target → SameFile mirrored all target
   same_target name target asked e =
       let m = target_found name target asked e in
       record {
@@ -112,15 +113,15 @@ module _ (lists : ListsMakeTrees) (nodes : EntriesAreNodes) (found_in_part : IsF
         flat = built.flat target.1 m;
       }
 
-  same_search : (name : Text) → Member name (names_asked (body_found tree source.1)) → (got : Option Hit) → search tree job.setup (quoted_by source.0 name) ≡ got
-      → search (tree_of entries) job.setup (quoted_by source.0 name) ≡ got
-  same_search name asked None e = same_none lists nodes found_in_part none_in_part tree job entries whole are makes sub (quoted_by source.0 name) e
+  same_search : (name : Text) → Member name (names_asked (body_found tree source.1)) → (got : Option Hit) → search tree job.setup (header_ask source.0 false false name) ≡ got
+      → search (tree_of entries) job.setup (header_ask source.0 false false name) ≡ got
+  same_search name asked None e = same_none lists nodes found_in_part none_in_part tree job entries whole are makes sub (header_ask source.0 false false name) e
   same_search name asked (Some target) e =
-      same_found lists nodes found_in_part none_in_part tree job entries whole are makes sub (quoted_by source.0 name) target (among_found target.1 (target_found name target asked e)) e
+      same_found lists nodes found_in_part none_in_part tree job entries whole are makes sub (header_ask source.0 false false name) target (among_found target.1 (target_found name target asked e)) e
 
   quoted_agree : (name : Text) → Member name (names_asked (body_found tree source.1)) → Agrees mirrored all source.0 (quoted name)
   quoted_agree name asked = record {
-    search = same_search name asked (search tree job.setup (quoted_by source.0 name)) refl;
+    search = same_search name asked (search tree job.setup (header_ask source.0 false false name)) refl;
     file = λ target e. same_target name target asked e;
   }
 

@@ -1,5 +1,5 @@
 -- The searches of a job give the same over the tree of its entries as over the whole tree.
-use Rattle.std.proofs.Common.{◌≡◌, ◌⊎◌, ◌∷◌, [], Option, Some, None, IsTrue, inl, inr, sym, ap, ◌∙◌, unwrap_or}
+use Rattle.std.proofs.Common.{◌≡◌, ◌⊎◌, ◌∷◌, [], Option, Some, None, IsTrue, inl, inr, sym, ap, ◌∙◌, unwrap_or, false}
 use Rattle.base_types.specs.Members.{Member}
 use Rattle.tree_model.specs.Paths.{Text, Path, parent}
 use Rattle.tree_model.specs.Entries.{Entries, makes_tree}
@@ -14,9 +14,9 @@ use Rattle.search_path.specs.Laws.{IsStart, SearchesLocate, IsFoundInPart, IsFou
 use Rattle.search_path.specs.declared.asking.Visit.{Visit}
 use Rattle.search_path.specs.declared.asking.Ask.{Ask}
 use Rattle.job_words.specs.declared.job.Job.{Job}
-use Rattle.daemon_cpp.specs.Prep.{source_ask}
+use Rattle.search_path.specs.Asks.{header_ask, source_ask}
 use Rattle.mirror_soundness.proofs.MadeTree.{at_itself}
-use Rattle.closure_fixpoint.specs.Analysis.{AreEntriesOf, IsNodeOf, found_files, source_of, quoted_by}
+use Rattle.closure_fixpoint.specs.Analysis.{AreEntriesOf, IsNodeOf, found_files, source_of}
 
 -- WHAT IS LOCATED
 
@@ -26,7 +26,7 @@ source_start job dir (inl e) = e
 source_start job dir (inr (visit, from, e)) = let never : None ≡ Some visit = from in absurd (cc)
 
 -- an included file from there, or from the directory of the file that asks
-target_start : (visit : Visit) (name : Text) (dir : Path) → IsStart (quoted_by visit name) dir → (dir ≡ []) ⊎ (dir ≡ parent visit.place)
+target_start : (visit : Visit) (name : Text) (dir : Path) → IsStart (header_ask visit false false name) dir → (dir ≡ []) ⊎ (dir ≡ parent visit.place)
 target_start visit name dir (inl e) = inl e
 target_start visit name dir (inr (other, from, e)) =
     let is : Some visit ≡ Some other = from in
@@ -50,9 +50,9 @@ module _ (holds : HoldsOfLocated) (locates : SearchesLocate) (tree : FileTree) (
   pub source_walked : Member source.1.real source.1.walked
   source_walked = source_holds.1.real
 
-  pub target_walked : (name : Text) (hit : Hit) → search tree job.setup (quoted_by source.0 name) ≡ Some hit → Member hit.1.real hit.1.walked
+  pub target_walked : (name : Text) (hit : Hit) → search tree job.setup (header_ask source.0 false false name) ≡ Some hit → Member hit.1.real hit.1.walked
   target_walked name hit is =
-      let found = locates tree job.setup (quoted_by source.0 name) hit is in
+      let found = locates tree job.setup (header_ask source.0 false false name) hit is in
       (holds tree found.dir found.text hit.1 whole (dir_there found.dir (target_start source.0 name found.dir found.start)) found.located).real
     where
       dir_there : (dir : Path) → (dir ≡ []) ⊎ (dir ≡ parent source.0.place) → entry_at tree dir ≡ Some Dir

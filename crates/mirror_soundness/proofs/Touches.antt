@@ -19,10 +19,12 @@ use Rattle.job_words.specs.declared.job.Job.{Job}
 use Rattle.cpp_output.specs.Layout.{Event, enter}
 use Rattle.cpp_output.specs.Laid.{after_events}
 use Rattle.daemon_cpp.specs.Diagnostics.{Diagnostic, TooLarge, WorkLimit}
-use Rattle.daemon_cpp.specs.Prep.{World, visit_of, State, Step, Go, Stop, and_then, complain, complain_of_job, limited, say, touch, Entering, found, piece_step, run_group, malformed_step, run_outline, run_file, open_file, back_in, enter_file, presumed_name, world_of, first_state, Prepared, prepared, prep, run_job, depth_limit}
+use Rattle.daemon_cpp.specs.Prep.{World, visit_of, State, Step, Go, Stop, and_then, complain, complain_of_job, limited, say, touch, Entering, found, piece_step, run_group, malformed_step, run_outline, run_file, open_file, back_in, enter_file, world_of, first_state, Prepared, prepared, prep, run_job, depth_limit}
+use Rattle.tree_model.specs.Shown.{presumed_name}
 use Rattle.closure_fixpoint.specs.declared.job_analysis.Refusal.TheVariants.{Unbuilt}
 use Rattle.closure_fixpoint.specs.Simple.{names_asked, pieces_of, is_flat}
-use Rattle.closure_fixpoint.specs.Analysis.{Holds, found_files, found_from, source_of, quoted_by, target_of, targets_of, body_found, is_unbuilt}
+use Rattle.search_path.specs.Asks.{header_ask}
+use Rattle.closure_fixpoint.specs.Analysis.{Holds, found_files, found_from, source_of, target_of, targets_of, body_found, is_unbuilt}
 use Rattle.mirror_soundness.specs.Mirror.{TouchesNodesAlone}
 use Rattle.mirror_soundness.proofs.MadeTree.{at_itself}
 use Rattle.mirror_soundness.proofs.Deeds.{Asked, quoted, ask_by, Deed, pass, lay, refuse, ask, found_by, run_deed, asked_in_deed, deed_of, asked_in, piece_does, in_front, behind, quoted_alone}
@@ -182,7 +184,7 @@ module _ (holds : OutlineHolds) (tree : FileTree) (job : Job) (source : Hit) (so
   abbrev files : List Located
   files = found_files tree job
 
-  may_enter : (name : Text) → Member name (names_asked (body_found tree source.1)) → (hit : Hit) → search tree job.setup (quoted_by source.0 name) ≡ Some hit
+  may_enter : (name : Text) → Member name (names_asked (body_found tree source.1)) → (hit : Hit) → search tree job.setup (header_ask source.0 false false name) ≡ Some hit
       → MayEnter files world hit
   may_enter name asked hit e =
       let m : Member hit.1 (targets_of tree job.setup source) =

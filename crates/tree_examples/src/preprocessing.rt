@@ -2,13 +2,13 @@
 use crate::checks::{check, check_text};
 use crate::files::{Placed, job, place, tree_of};
 use base_types::Bytes;
-use daemon_cpp::{Outcome, preprocess, read_body, reserved_line};
+use daemon_cpp::{Outcome, preprocess, reserved_line};
 use job_words::Job;
 use pp_tokens::{Kind, Token};
 use std::alloc::{AllocError, Global};
 use std::process::Abort;
 use std::test::Fail;
-use tree_model::{MemTree, Tree, Unnamed};
+use tree_model::{MemTree, Tree, Unnamed, read_body};
 
 // An outcome's bytes, with T before a text and D before a diagnostic.
 fn shown(alloc: Global, outcome: Outcome) -> Result<Vec<u8>, AllocError> {

@@ -1,7 +1,7 @@
 use Rattle.std.proofs.Common.{◌<◌, length, List, sym, ◌∙◌, arith}
 use Rattle.std.specs.List.{list_any}
 use Rattle.pp_tokens.specs.declared.Token.{Token}
-use Rattle.daemon_cpp.specs.Prep.{is_reserved}
+use Rattle.pp_tokens.specs.Marks.{is_reserved}
 use Rattle.closure_fixpoint.proofs.Tokens.{line_at, any-here, any-next, line-next}
 use Rattle.closure_fixpoint.proofs.simple.has_reserved.Goals as goal
 

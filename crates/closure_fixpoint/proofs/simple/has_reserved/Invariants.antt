@@ -1,6 +1,6 @@
 use Rattle.std.proofs.Common.{◌≡◌, drop}
 use Rattle.std.specs.List.{list_any}
-use Rattle.daemon_cpp.specs.Prep.{is_reserved}
+use Rattle.pp_tokens.specs.Marks.{is_reserved}
 use Rattle.closure_fixpoint.proofs.simple.has_reserved.Given as goal
 
 abbrev pub invariant-loop-line : goal.invariant-loop-line

@@ -4,10 +4,11 @@ use Rattle.cpp_output.specs.Layout.{enter}
 use Rattle.cpp_output.specs.Laid.{after_event}
 use Rattle.cpp_output.specs.declared.LayError.{LayError}
 use Rattle.tree_model.specs.Paths.{Text, spelled}
-use Rattle.daemon_cpp.specs.Diagnostics as diagnostics
+use Rattle.tree_model.specs.Shown as showing
 use Rattle.daemon_cpp.specs.Diagnostics.{TextLimit, diagnostic_text}
 use Rattle.daemon_cpp.specs.declared.opening.Opened.TheVariants.{Refused}
-use Rattle.daemon_cpp.specs.Prep.{World, Entering, State, Step, and_then, say, presumed_name}
+use Rattle.daemon_cpp.specs.Prep.{World, Entering, State, Step, and_then, say}
+use Rattle.tree_model.specs.Shown.{presumed_name}
 use Rattle.daemon_cpp.specs.Reading.{Opens, front_events, run_pieces}
 use Rattle.daemon_cpp.proofs.FileSteps.{refuses, marker-full}
 use Rattle.daemon_cpp.proofs.Limits.{say-none, say-one}
@@ -23,7 +24,7 @@ pub returns-in-Ok-clause-opens : goal.returns-in-Ok-clause-opens
 returns-in-Ok-clause-opens c =
     λ world entering state source output.
     let named : c.deref.result.now ≡ presumed_name c.args.place.now =
-    c.deref.ensures.value ∙ c.in_ok-name.ensures ∙ ap (λ (text : Text). diagnostics.shown text) c.bytes.ensures.value in
+    c.deref.ensures.value ∙ c.in_ok-name.ensures ∙ ap (λ (text : Text). showing.shown text) c.bytes.ensures.value in
     let grown : c.enter.new.self ≡ after_event c.args.layout.now (enter (presumed_name c.args.place.now)) =
     c.in-Ok.ensures.ok.0 ∙ ap (λ (name : Text). after_event c.args.layout.now (enter name)) named in
     ap (λ (b : Bool). and_then (λ after. run_pieces world entering c.args.pieces after) (say (front_events b c.args.place.now) state)) c.if-not-included.false
@@ -33,7 +34,7 @@ returns-in-Ok-clause-opens c =
 pub returns-in-Err-Full-clause-opens : goal.returns-in-Err-Full-clause-opens
 returns-in-Err-Full-clause-opens c =
     let named : c.deref.result.now ≡ presumed_name c.args.place.now =
-    c.deref.ensures.value ∙ c.in_ok-name.ensures ∙ ap (λ (text : Text). diagnostics.shown text) c.bytes.ensures.value in
+    c.deref.ensures.value ∙ c.in_ok-name.ensures ∙ ap (λ (text : Text). showing.shown text) c.bytes.ensures.value in
     IfOk-weaker c.refused.result
     (λ opened. opened ≡ Refused (diagnostic_text (record { place = spelled c.args.source.now; at = 0; complaint = TextLimit })))
     (λ opened. (world : World) (entering : Entering) (state : State) → state.source ≡ c.args.source.now → state.output ≡ c.args.layout.now → Opens world entering (record state { output = c.enter.new.self }) opened (and_then (λ after. run_pieces world entering c.args.pieces after) (say (front_events c.args.included c.args.place.now) state)))

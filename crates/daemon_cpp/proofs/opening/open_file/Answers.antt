@@ -20,7 +20,7 @@ returns-in_default-clause-opens g c =
     (diagnostic_text (record { place = spelled c.args.file.now.0.place; at = 0; complaint = TooLarge }))
     (open_file (world_of told c.args.setup.now) entering (front_events c.args.included c.args.file.now.0.place) c.args.file.now state)
     same
-    (too-large (world_of told c.args.setup.now) entering (front_events c.args.included c.args.file.now.0.place) c.args.file.now state (sym c.in_default.is ∙ c.in_ok-body.ensures.body told is c.args.setup.now)))
+    (too-large (world_of told c.args.setup.now) entering (front_events c.args.included c.args.file.now.0.place) c.args.file.now state (sym c.in_default.is ∙ c.in_ok-body.ensures.body told is)))
     c.refused.ensures.words
 
 pub returns-in_default-pay-clause-opens : goal.returns-in_default-pay-clause-opens
@@ -35,7 +35,7 @@ returns-in_default-pay-clause-opens g c =
     (open_file (world_of told c.args.setup.now) entering (front_events c.args.included c.args.file.now.0.place) c.args.file.now state)
     same
     (lexed-no-work (world_of told c.args.setup.now) entering (front_events c.args.included c.args.file.now.0.place) c.args.file.now state c.args.source.now c.in-Some.body c.in_ok-lexed.lexed c.args.left.now source left
-    (sym c.in-Some.is ∙ c.in_ok-body.ensures.body told is c.args.setup.now)
+    (sym c.in-Some.is ∙ c.in_ok-body.ensures.body told is)
     (c.in_ok-lexed.ensures ∙ ap (λ (t : Bool). lexed t c.as_slice.result.now) c.trigraphs.ensures ∙ ap (λ (b : Text). lexed c.args.setup.now.trigraphs b) c.as_slice.ensures)
     (sym c.in_default-pay.is ∙ c.pay.ensures)))
     c.refused-in_default-pay.ensures.words
@@ -49,7 +49,7 @@ returns-clause-opens g c =
     (λ opened all entering state source output left.
     subst (λ (step : Step). Opens (world_of told c.args.setup.now) entering (inside c.args.file.now (record state { output = c.open_lexed.new.layout; left = c.in-Some-pay.rest })) opened step)
     (lexed-paid (world_of told c.args.setup.now) entering (front_events c.args.included c.args.file.now.0.place) c.args.file.now state c.in-Some.body c.in_ok-lexed.lexed c.args.left.now c.in-Some-pay.rest left
-    (sym c.in-Some.is ∙ c.in_ok-body.ensures.body told is c.args.setup.now)
+    (sym c.in-Some.is ∙ c.in_ok-body.ensures.body told is)
     (c.in_ok-lexed.ensures ∙ ap (λ (t : Bool). lexed t c.as_slice.result.now) c.trigraphs.ensures ∙ ap (λ (b : Text). lexed c.args.setup.now.trigraphs b) c.as_slice.ensures)
     (sym c.in-Some-pay.is ∙ c.pay.ensures))
     (all (world_of told c.args.setup.now) entering (record (inside c.args.file.now state) { left = c.in-Some-pay.rest }) source refl output))

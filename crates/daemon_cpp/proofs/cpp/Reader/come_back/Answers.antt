@@ -4,7 +4,8 @@ use Rattle.cpp_output.specs.Layout.{back}
 use Rattle.cpp_output.specs.Laid.{after_event}
 use Rattle.daemon_cpp.specs.declared.outcome.Outcome.{Outcome}
 use Rattle.daemon_cpp.specs.declared.cpp.Reader.{Reader}
-use Rattle.daemon_cpp.specs.Prep.{World, presumed_name}
+use Rattle.daemon_cpp.specs.Prep.{World}
+use Rattle.tree_model.specs.Shown.{presumed_name}
 use Rattle.daemon_cpp.specs.Moving.{Marked}
 use Rattle.daemon_cpp.specs.Files.{After, LeadsTo, GoesOn}
 use Rattle.daemon_cpp.proofs.Readers.{returned}

@@ -6,7 +6,8 @@ use Rattle.search_path.specs.declared.asking.Ask.{Ask}
 use Rattle.daemon_cpp.specs.declared.outcome.Outcome.{Outcome}
 use Rattle.daemon_cpp.specs.declared.outcome.Outcome.TheVariants as outcome
 use Rattle.daemon_cpp.specs.Diagnostics.{NotFound, diagnostic_text}
-use Rattle.daemon_cpp.specs.Prep.{world_of, forced_ask}
+use Rattle.daemon_cpp.specs.Prep.{world_of}
+use Rattle.search_path.specs.Asks.{forced_ask}
 use Rattle.daemon_cpp.specs.Files.{After, EntersTo, ComesTo, ReadsTo, source_behind}
 use Rattle.daemon_cpp.proofs.Readers.{not-found, found-named}
 use Rattle.daemon_cpp.proofs.cpp.Reader.read_named.Goals as goal

@@ -1,0 +1,26 @@
+// The answer that preprocessing gives.
+ghost use Rattle.daemon_answers.specs.Answers.{Answers};
+
+use crate::replier::Replier;
+use crate::replying::preprocessed;
+use base_types::{Bytes, List};
+use job_words::Job;
+use std::alloc::{AllocError, Global};
+use tree_model::{CanonPath, Entry};
+
+// Answers a request by preprocessing its job over the tree of its entries alone.
+#[derive(Drop)]
+pub(crate) struct Preprocessing;
+
+impl Replier for Preprocessing {
+    ghost may = { Answers };
+
+    fn reply(
+        &mut self,
+        alloc: Global,
+        job: &Job,
+        entries: List<(CanonPath, Entry)>,
+    ) -> Result<Bytes, AllocError> {
+        preprocessed(alloc, job, entries).map_err(|_| AllocError)
+    }
+}
