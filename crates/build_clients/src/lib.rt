@@ -1,16 +1,8 @@
-//! What a client does with a job: it is analysed, sent to a host and answered there, or done locally.
+//! The clients of a build. So far a run has one client and one job, and all of it stands in `job_ends`; this crate is the
+//! path under which the top call and the programs know it.
 #![tactic(auto)]
 
-mod asking;
-mod laws;
-mod one_job;
-mod record;
-mod steps;
-mod talking;
-
-pub use asking::{Replied, ask_host};
-pub use laws::records_agree;
-pub use one_job::do_job;
-pub use record::{Cause, Done, End, JobOutcome, Way};
-pub use steps::{Prepared, conclude, do_locally, prepare, put_text};
-pub use talking::{Reply, exchange};
+pub use job_ends::{
+    Cause, Done, End, JobOutcome, Prepared, Replied, Reply, Way, ask_host, ask_wire, conclude,
+    do_job, do_locally, exchange, prepare, put_text, records_agree,
+};

@@ -9,16 +9,15 @@ use Rattle.tree_model.specs.Trees.{FileTree, IsTree}
 use Rattle.io_edges.specs.declared.wire.Host.{Host}
 use Rattle.io_edges.specs.Talk.{EachAnswered}
 use Rattle.job_words.specs.declared.job.Job.{Job}
-use Rattle.build_clients.specs.declared.record.Done.{Done}
-use Rattle.build_clients.specs.declared.record.Way.{Way}
-use Rattle.build_clients.specs.declared.record.Way.TheVariants.{Remote, Local, Broken}
-use Rattle.build_clients.specs.declared.record.Cause.TheVariants as cause
-use Rattle.build_clients.specs.declared.record.JobOutcome.{JobOutcome}
-use Rattle.build_clients.specs.declared.record.JobOutcome.TheVariants as end
-use Rattle.build_clients.specs.Outside.{EndSeen}
-use Rattle.build_clients.specs.Record.{Known, known, Deeds, DidJob, WayHolds, OutcomeHolds, deeds_of}
-use Rattle.pump_run.specs.Report.{Work, is_tree_fault, is_out_fault}
-use Rattle.pump_run.specs.Run.{EachEnd, EndHolds, AtMost, is_link, works_of}
+use Rattle.job_ends.specs.declared.record.Done.{Done}
+use Rattle.job_ends.specs.declared.record.Way.{Way}
+use Rattle.job_ends.specs.declared.record.Way.TheVariants.{Remote, Local, Broken}
+use Rattle.job_ends.specs.declared.record.Cause.TheVariants as cause
+use Rattle.job_ends.specs.declared.record.JobOutcome.{JobOutcome}
+use Rattle.job_ends.specs.declared.record.JobOutcome.TheVariants as end
+use Rattle.job_ends.specs.Outside.{EndSeen}
+use Rattle.job_ends.specs.Record.{Known, known, Deeds, DidJob, WayHolds, OutcomeHolds, deeds_of}
+use Rattle.job_ends.specs.Works.{EachEnd, EndHolds, AtMost, is_link, works_of, Work, is_tree_fault, is_out_fault}
 use Rattle.pump_run.specs.Steps.{FirstDid}
 use Rattle.pump_run.proofs.Still.{still-end}
 

@@ -7,17 +7,19 @@ use Rattle.tree_model.specs.Trees.{FileTree}
 use Rattle.io_edges.specs.declared.wire.Exchange.{Exchange}
 use Rattle.io_edges.specs.declared.wire.Host.{Host}
 use Rattle.job_words.specs.declared.job.Job.{Job}
-use Rattle.build_clients.specs.declared.record.Done.{Done}
-use Rattle.build_clients.specs.declared.record.Way.{Way}
-use Rattle.build_clients.specs.declared.record.JobOutcome.{JobOutcome}
-use Rattle.build_clients.specs.declared.record.JobOutcome.TheVariants as end
-use Rattle.build_clients.specs.Agree.{RecordsAgree, RecordsAreCalm, Served, AreServed}
-use Rattle.build_clients.specs.Outside.{EndSeen}
-use Rattle.build_clients.specs.Record.{known, Deeds, IsRecord}
-use Rattle.pump_run.specs.Asked.{settings_of, settings_with, host_of}
-use Rattle.pump_run.specs.Report.{Work, Ran}
-use Rattle.pump_run.specs.Run.{IsRun, Outside, Given, IsFresh, EachServed, EachCalm, EachAnsweredBy, EachEnd, StatusIs}
-use Rattle.pump_run.specs.Steps.{ListGives, FirstDid, JobIsTold, status_for}
+use Rattle.job_ends.specs.declared.record.Done.{Done}
+use Rattle.job_ends.specs.declared.record.Way.{Way}
+use Rattle.job_ends.specs.declared.record.JobOutcome.{JobOutcome}
+use Rattle.job_ends.specs.declared.record.JobOutcome.TheVariants as end
+use Rattle.job_ends.specs.Agree.{RecordsAgree, NoPeers, RecordsAreCalm, Served, AreServed}
+use Rattle.job_ends.specs.Outside.{EndSeen}
+use Rattle.job_ends.specs.Record.{known, Deeds, IsRecord}
+use Rattle.run_words.specs.Asked.{settings_with, host_of}
+use Rattle.pump_run.specs.Report.{Ran}
+use Rattle.pump_run.specs.Run.{IsRun, Outside, Given, IsFresh, EachAnsweredBy, StatusIs, asked_for}
+use Rattle.job_ends.specs.Works.{EachServed, EachCalm, EachEnd, Work}
+use Rattle.pump_run.specs.Steps.{FirstDid, JobIsTold, status_for}
+use Rattle.compile_list.specs.Steps.{ListGives}
 use Rattle.pump_run.proofs.Still.{fresh-answered}
 use Rattle.pump_run.proofs.OneEnd.{first_deeds, first_work, first-ends}
 
@@ -87,9 +89,9 @@ module _ (given : Given) (before : Outside) (fresh : AllByRecursion IsFresh befo
   calm-first : EachCalm before.ends ends → EachCalm (did.first ∷ did.rest) (did.now ∷ did.rest)
   calm-first calm = subst (λ (l : List EndSeen). EachCalm (did.first ∷ did.rest) l) did.is (subst (λ (l : List EndSeen). EachCalm l ends) did.was calm)
 
-  pub ran-run : RecordsAgree → RecordsAreCalm → settings_of given.words ≡ Some (settings_with name) → ListGives before.left left before.counts.list list (Ok job)
+  pub ran-run : RecordsAgree → NoPeers → RecordsAreCalm → asked_for given before ≡ Some (settings_with name) → ListGives before.left left before.counts.list list (Ok job)
       → JobIsTold done before.report report before.counts.report count status → IsRun given before after status
-  ran-run agree calm asked gives told = record {
+  ran-run agree no_peers calm asked gives told = record {
     ending = Ran works;
     cause = record {
       settings = settings_with name;
@@ -100,7 +102,15 @@ module _ (given : Given) (before : Outside) (fresh : AllByRecursion IsFresh befo
       records = (did.number, (did.did.recorded, tt));
       clients = (omega (arith, did.client), tt);
       hosts = (to-hosts (host_of name) deeds.exchanges did.did.host_is, tt);
-      agrees = λ served tree named. (agree tree 4096 job done deeds (over-tree served tree named gives), tt);
+      agrees = λ served tree named. (
+        let over = over-tree served tree named gives in
+            record {
+              outcome = agree tree 4096 job done deeds over;
+              no_peer = no_peers tree 4096 job done deeds over;
+              calm = calm tree 4096 job done deeds over;
+            },
+        tt,
+      );
     };
     ends = ran-ends;
     report = told.text_is;

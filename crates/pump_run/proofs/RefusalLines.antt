@@ -4,7 +4,7 @@ use Rattle.std.specs.Prelude.{codes}
 use Rattle.std.specs.Fmt.{digits}
 use Rattle.job_words.specs.declared.reading.WordError.{WordError}
 use Rattle.job_words.specs.declared.reading.WordError.TheVariants as word
-use Rattle.pump_run.specs.declared.list.ListWhy.TheVariants.{NotBuilt, Words}
+use Rattle.compile_list.specs.declared.list.ListWhy.TheVariants.{NotBuilt, Words}
 use Rattle.pump_run.specs.Report.{word_number}
 use Rattle.pump_run.specs.Steps.{refusal_text_of}
 

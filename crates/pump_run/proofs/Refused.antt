@@ -4,15 +4,17 @@ use Rattle.std.specs.List.{AllByRecursion}
 use Rattle.std.specs.Option.{ForSome}
 use Rattle.base_types.specs.Causes.{Rose}
 use Rattle.job_words.specs.declared.job.Job.{Job}
-use Rattle.pump_run.specs.Asked.{Settings, settings_of, line_of_why, refused_for, jobs_of}
-use Rattle.pump_run.specs.declared.list.ListWhy.{ListWhy}
+use Rattle.compile_list.specs.Listed.{line_of_why, refused_for, jobs_of}
+use Rattle.run_words.specs.Asked.{Settings}
+use Rattle.compile_list.specs.declared.list.ListWhy.{ListWhy}
 use Rattle.pump_run.specs.Report.{Ending, Usage, ListRefused, ListFault, NoMemory, report_text}
-use Rattle.pump_run.specs.Run.{IsRun, Outside, Given, IsFresh, IsPut, Reports, HasEnding, EachEnd, ran, StatusIs, NoFaults, IsComplete, AsksSomething}
+use Rattle.pump_run.specs.Run.{IsRun, Outside, Given, IsFresh, IsPut, Reports, HasEnding, ran, StatusIs, NoFaults, IsComplete, AsksSomething, asked_for}
+use Rattle.job_ends.specs.Works.{EachEnd}
 use Rattle.pump_run.specs.Steps.{LineIsPut, refusal_text_of}
 use Rattle.pump_run.proofs.Still.{still-ends, fresh-answered}
 
-no_settings : (words : List (List ℕ)) (settings : Settings) → settings_of words ≡ None → settings_of words ≡ Some settings → ⊥
-no_settings words settings none some = let both : None ≡ Some settings = sym none ∙ some in cc
+no_settings : (asked : Option Settings) (settings : Settings) → asked ≡ None → asked ≡ Some settings → ⊥
+no_settings asked settings none some = let both : None ≡ Some settings = sym none ∙ some in cc
 
 no_jobs : (bytes : List ℕ) (jobs : List Job) (why : ListWhy) → jobs_of bytes ≡ Err (refused_for why) → jobs_of bytes ≡ Ok jobs → ⊥
 no_jobs bytes jobs why none some = let both = sym none ∙ some in cc
@@ -23,7 +25,7 @@ module _ (given : Given) (before : Outside) (fresh : AllByRecursion IsFresh befo
   after = record before { left = left; report = report; counts = record { list = list; spawner = before.counts.spawner; report = count } }
 
   abbrev Completes : Ending → Type 0
-  Completes ending = (settings : Settings) → settings_of given.words ≡ Some settings → (bytes : List ℕ) → before.left ≡ Some bytes → (jobs : List Job) → jobs_of bytes ≡ Ok jobs → NoFaults before after → IsComplete given before after ending status
+  Completes ending = (settings : Settings) → asked_for given before ≡ Some settings → (bytes : List ℕ) → before.left ≡ Some bytes → (jobs : List Job) → jobs_of bytes ≡ Ok jobs → NoFaults before after → IsComplete given before after ending status
 
   abbrev Put : List ℕ → Type 0
   Put line = IsPut line status before.report report before.counts.report count
@@ -41,15 +43,15 @@ module _ (given : Given) (before : Outside) (fresh : AllByRecursion IsFresh befo
     complete = λ _ tree named. complete;
   }
 
-  pub usage-run : settings_of given.words ≡ None → text ≡ report_text Usage → LineIsPut text 2 before.report report before.counts.report count status → IsRun given before after status
+  pub usage-run : asked_for given before ≡ None → text ≡ report_text Usage → LineIsPut text 2 before.report report before.counts.report count status → IsRun given before after status
   usage-run nothing is line = refused Usage nothing (still-ends 0 before.ends) (subst Put is line.line_is) line.status_is
-      (λ settings asks bytes left_is jobs lists calm. no_settings given.words settings nothing asks)
+      (λ settings asks bytes left_is jobs lists calm. no_settings (asked_for given before) settings nothing asks)
 
-  pub fault-run : AsksSomething given → Rose before.counts.list list → text ≡ report_text ListFault → LineIsPut text 4 before.report report before.counts.report count status → IsRun given before after status
+  pub fault-run : AsksSomething given before → Rose before.counts.list list → text ≡ report_text ListFault → LineIsPut text 4 before.report report before.counts.report count status → IsRun given before after status
   fault-run asked rose is line = refused ListFault (asked, rose) (still-ends 0 before.ends) (subst Put is line.line_is) line.status_is
       (λ settings asks bytes left_is jobs lists calm. calm.list rose)
 
-  pub list-refused-run : (why : ListWhy) → AsksSomething given → ForSome before.left (λ bytes. jobs_of bytes ≡ Err (refused_for why))
+  pub list-refused-run : (why : ListWhy) → AsksSomething given before → ForSome before.left (λ bytes. jobs_of bytes ≡ Err (refused_for why))
       → text ≡ refusal_text_of why → LineIsPut text 3 before.report report before.counts.report count status → IsRun given before after status
   unfolding refusal_text_of
   list-refused-run why asked none is line = refused (ListRefused (line_of_why why) why) (asked, none) (still-ends 0 before.ends) (subst Put is line.line_is) line.status_is

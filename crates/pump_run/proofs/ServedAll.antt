@@ -6,10 +6,11 @@ use Rattle.io_edges.specs.Talk.{IsAnswered, EachAnswered}
 use Rattle.job_frames.specs.Daemon.{Daemon}
 use Rattle.closure_fixpoint.specs.declared.job_analysis.Refusal.TheVariants as refusal
 use Rattle.mirror_soundness.specs.Mirror.{EntriesMakeTree, MirrorIsEnough}
-use Rattle.daemon_serve.specs.Served.{Answers}
-use Rattle.build_clients.specs.Agree.{AreServed, EntriesAreEnough}
-use Rattle.build_clients.specs.Outside.{EndSeen}
-use Rattle.pump_run.specs.Run.{IsServed, EachServed, EachTells, EachAnsweredBy, IsDaemon, ServedByDaemon}
+use Rattle.daemon_answers.specs.Answers.{Answers}
+use Rattle.job_ends.specs.Agree.{AreServed, EntriesAreEnough}
+use Rattle.job_ends.specs.Outside.{EndSeen}
+use Rattle.pump_run.specs.Run.{EachTells, EachAnsweredBy, IsDaemon, ServedByDaemon}
+use Rattle.job_ends.specs.Works.{IsServed, EachServed}
 
 pub entries-are-enough : EntriesMakeTree → MirrorIsEnough → EntriesAreEnough
 entries-are-enough make enough tree job budget entries is_tree none are =

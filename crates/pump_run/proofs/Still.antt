@@ -3,8 +3,9 @@ use Rattle.std.proofs.Common.{◌≡◌, ℕ, suc, List, [], ◌∷◌, Option, 
 use Rattle.std.specs.List.{AllByRecursion}
 use Rattle.io_edges.specs.declared.wire.Exchange.{Exchange}
 use Rattle.io_edges.specs.Talk.{EachAnswered}
-use Rattle.build_clients.specs.Outside.{EndSeen}
-use Rattle.pump_run.specs.Run.{EachEnd, EndHolds, IsFresh, EachAnsweredBy}
+use Rattle.job_ends.specs.Outside.{EndSeen}
+use Rattle.pump_run.specs.Run.{IsFresh, EachAnsweredBy}
+use Rattle.job_ends.specs.Works.{EachEnd, EndHolds}
 use Rattle.pump_run.proofs.Lines.{added-nil}
 
 pub still-end : (e : EndSeen) → EndHolds [] e e

@@ -2,24 +2,19 @@
 use Rattle.std.specs.Prelude.{ℕ, List, [], ◌∷◌, ◌++◌, length, map, codes, Bool, true, false}
 use Rattle.std.specs.List.{flat_map, count_by}
 use Rattle.std.specs.Fmt.{decimal}
-use Rattle.build_clients.specs.declared.record.Done.{Done}
+use Rattle.job_ends.specs.declared.record.Done.{Done}
 use Rattle.closure_fixpoint.specs.declared.job_analysis.Refusal.{Refusal}
 use Rattle.closure_fixpoint.specs.declared.job_analysis.Refusal.TheVariants as refusal
-use Rattle.build_clients.specs.declared.record.Way.{Way}
-use Rattle.build_clients.specs.declared.record.Way.TheVariants.{Remote, Local, Broken}
-use Rattle.build_clients.specs.declared.record.Cause.TheVariants as cause
-use Rattle.build_clients.specs.declared.record.JobOutcome.{JobOutcome}
-use Rattle.build_clients.specs.declared.record.JobOutcome.TheVariants as end
-use Rattle.build_clients.specs.Record.{Deeds}
+use Rattle.job_ends.specs.declared.record.Way.{Way}
+use Rattle.job_ends.specs.declared.record.Way.TheVariants.{Remote, Local, Broken}
+use Rattle.job_ends.specs.declared.record.Cause.TheVariants as cause
+use Rattle.job_ends.specs.declared.record.JobOutcome.{JobOutcome}
+use Rattle.job_ends.specs.declared.record.JobOutcome.TheVariants as end
+use Rattle.job_ends.specs.Works.{Work}
 use Rattle.job_words.specs.declared.reading.WordError.{WordError}
 use Rattle.job_words.specs.declared.reading.WordError.TheVariants as word
-use Rattle.pump_run.specs.declared.list.ListWhy.{ListWhy}
-use Rattle.pump_run.specs.declared.list.ListWhy.TheVariants.{NotBuilt, Words}
-
--- a job of the run: what is recorded of it, and what it did at its client's end
-pub record Work : Type 0 where
-  pub done : Done
-  pub deeds : Deeds
+use Rattle.compile_list.specs.declared.list.ListWhy.{ListWhy}
+use Rattle.compile_list.specs.declared.list.ListWhy.TheVariants.{NotBuilt, Words}
 
 -- how a run may end: refused before its jobs, or with its jobs run
 pub data Ending : Type 0 where
@@ -118,32 +113,3 @@ report_text ListFault = codes "pump: list read fault" ++ 10 ∷ []
 report_text SpawnFault = codes "pump: spawn fault" ++ 10 ∷ []
 report_text NoMemory = codes "pump: memory" ++ 10 ∷ []
 report_text (Ran works) = jobs_text (map (λ (w : Work). w.done) works)
-
--- some job's outcome
-abbrev pub is_memory : JobOutcome → Bool
-is_memory (end.Text n) = false
-is_memory (end.Diag words) = false
-is_memory end.TreeFault = false
-is_memory end.OutFault = false
-is_memory end.Memory = true
-
-abbrev pub is_out_fault : JobOutcome → Bool
-is_out_fault (end.Text n) = false
-is_out_fault (end.Diag words) = false
-is_out_fault end.TreeFault = false
-is_out_fault end.OutFault = true
-is_out_fault end.Memory = false
-
-abbrev pub is_tree_fault : JobOutcome → Bool
-is_tree_fault (end.Text n) = false
-is_tree_fault (end.Diag words) = false
-is_tree_fault end.TreeFault = true
-is_tree_fault end.OutFault = false
-is_tree_fault end.Memory = false
-
-abbrev pub is_diag : JobOutcome → Bool
-is_diag (end.Text n) = false
-is_diag (end.Diag words) = true
-is_diag end.TreeFault = false
-is_diag end.OutFault = false
-is_diag end.Memory = false

@@ -1,28 +1,36 @@
 -- The clause on pump: its run, from the words and the list to the ends, the report and the status.
-use Rattle.std.specs.Prelude.{◌≡◌, Ok, Err, ℕ, suc, ◌+◌, ◌-◌, ◌^◌, ◌<◌, ◌≤◌, ◌⊎◌, List, [], ◌∷◌, ◌++◌, take, Bool, true, false, cond, Option, None, Some, IfSome, IsSome, ◌==◌, if◌then◌else◌}
-use Rattle.std.specs.List.{flat_map, filter, count_by, list_any, AllByRecursion}
+--
+--     what is claimed of a run                               the field of `IsRun`               its definition
+--     each outcome is that of preprocessing the whole tree   cause: JobsRan.agrees              JobAgrees.outcome (job_ends, Works)
+--         its premise, where the hosts are daemons           answered, with served_by_daemon    EachServed (job_ends, Works)
+--     a job that was sent was sent exactly its files         cause: JobsRan.records             WayHolds (job_ends, Record)
+--     a job is done locally for a reason that holds          cause: JobsRan.records             WayHolds (job_ends, Record)
+--         and never for what a daemon answered               cause: JobsRan.agrees              JobAgrees.no_peer, JobAgrees.calm
+--     the jobs are those of the list, read to its end        cause: JobsRan.listed, .read       jobs_of (compile_list, Listed)
+--     outputs, talks and counts are those of the jobs        ends                               EndHolds (job_ends, Works)
+--     the report and the status say what happened            report, status_is                  report_text (Report), StatusIs
+--     nothing stands in the way but want of memory,          complete                           IsComplete
+--         where nothing failed
+use Rattle.std.specs.Prelude.{◌≡◌, Ok, Err, ℕ, ◌<◌, ◌⊎◌, List, [], length, take, Bool, true, false, cond, Option, None, Some, IfSome, IsSome, if◌then◌else◌}
+use Rattle.std.specs.List.{list_any, AllByRecursion}
 use Rattle.std.specs.Option.{ForSome}
 use Rattle.tree_model.specs.Trees.{FileTree}
 use Rattle.job_words.specs.declared.job.Job.{Job}
-use Rattle.io_edges.specs.declared.wire.Exchange.{Exchange}
 use Rattle.io_edges.specs.declared.wire.Host.{Host}
 use Rattle.io_edges.specs.declared.wire.LinkState.TheVariants.{Closed}
 use Rattle.base_types.specs.Causes.{Rose}
 use Rattle.base_types.specs.Told.{added}
 use Rattle.io_edges.specs.Talk.{EachAnswered}
 use Rattle.job_frames.specs.Daemon.{Daemon}
-use Rattle.daemon_cpp.specs.Prep.{outcome_over}
-use Rattle.build_clients.specs.declared.record.Way.{Way}
-use Rattle.build_clients.specs.declared.record.Way.TheVariants.{Remote, Local, Broken}
-use Rattle.build_clients.specs.declared.record.Cause.TheVariants as cause
-use Rattle.build_clients.specs.declared.record.JobOutcome.{JobOutcome}
-use Rattle.daemon_serve.specs.Served.{Answers}
-use Rattle.build_clients.specs.Agree.{AreServed, AgreesWith, IsCalm}
-use Rattle.build_clients.specs.Outside.{EndSeen}
-use Rattle.build_clients.specs.Record as record_of
-use Rattle.build_clients.specs.Record.{Known, IsRecord, known}
-use Rattle.pump_run.specs.Asked.{Settings, settings_of, jobs_of}
-use Rattle.pump_run.specs.Report.{Work, Ending, Usage, ListRefused, ListFault, SpawnFault, NoMemory, Ran, report_text, is_memory, is_out_fault, is_tree_fault, is_diag}
+use Rattle.daemon_answers.specs.Answers.{Answers}
+use Rattle.job_ends.specs.declared.record.JobOutcome.{JobOutcome}
+use Rattle.job_ends.specs.Agree.{IsCalm}
+use Rattle.job_ends.specs.Outside.{EndSeen}
+use Rattle.job_ends.specs.Record.{known}
+use Rattle.job_ends.specs.Works.{Work, EachEnd, ToHosts, EachRecord, EachServed, EachAgrees, EachCalm, is_memory, is_out_fault, is_tree_fault, is_diag}
+use Rattle.compile_list.specs.Listed.{jobs_of}
+use Rattle.run_words.specs.Asked.{Settings, settings_of}
+use Rattle.pump_run.specs.Report.{Ending, Usage, ListRefused, ListFault, SpawnFault, NoMemory, Ran, report_text}
 
 -- ---- the outside before the call and after it ----
 
@@ -55,11 +63,9 @@ pub record IsFresh (seen : EndSeen) : Type 0 where
   pub no_wire_fault : seen.wire_faults ≡ 0
   pub no_outs_fault : seen.outs_faults ≡ 0
 
--- ---- the ends ----
-
--- the jobs of one client, in order of job number
-abbrev pub works_of : ℕ → List Work → List Work
-works_of client works = filter (λ (w : Work). w.done.client == client) works
+-- what the words ask of the ends that there are
+abbrev pub asked_for : Given → Outside → Option Settings
+asked_for given before = settings_of (length before.ends) given.words
 
 -- the jobs that were run: none after a refusal
 abbrev pub ran : Ending → List Work
@@ -70,70 +76,7 @@ ran SpawnFault = []
 ran NoMemory = []
 ran (Ran works) = works
 
--- so many faults are at most what the count rose by, where it doesn't stand at its last value
-abbrev pub AtMost : ℕ → ℕ → ℕ → Type 0
-AtMost faults before after = (before + faults ≤ after) ⊎ (2 ^ 64 - 1 ≤ after)
-
-abbrev pub is_link : Way → Bool
-is_link (Local cause.Link) = true
-is_link (Local (cause.Analysis refused)) = false
-is_link (Local cause.Peer) = false
-is_link (Local cause.DaemonMemory) = false
-is_link (Local cause.Memory) = false
-is_link Remote = false
-is_link Broken = false
-
--- no count of an end is lower than before
-pub record NotBelow (from now : record_of.Counts) : Type 0 where
-  pub tree : from.tree ≤ now.tree
-  pub wire : from.wire ≤ now.wire
-  pub outs : from.outs ≤ now.outs
-
--- the counts go up or stay, inside each job and between jobs
-abbrev pub Chain : record_of.Counts → List Work → record_of.Counts → Type 0
-Chain from [] now = NotBelow from now
-Chain from (w ∷ works) now = NotBelow from w.deeds.before × (NotBelow w.deeds.before w.deeds.after × Chain w.deeds.after works now)
-
--- one client's end: its outs and its talk are what its jobs added, in order, and its counts bound its faults
-pub record EndHolds (works : List Work) (before after : EndSeen) : Type 0 where
-  pub outs : after.kept ≡ added (flat_map (λ (w : Work). w.deeds.put) works) before.kept
-  pub talk : after.talk ≡ added (flat_map (λ (w : Work). w.deeds.exchanges) works) before.talk
-  pub tree : after.told ≡ before.told
-  pub link_bound : AtMost (count_by (λ (w : Work). is_link w.done.way) works) before.wire_faults after.wire_faults
-  pub tree_bound : AtMost (count_by (λ (w : Work). is_tree_fault w.done.outcome) works) before.tree_faults after.tree_faults
-  pub outs_bound : AtMost (count_by (λ (w : Work). is_out_fault w.done.outcome) works) before.outs_faults after.outs_faults
-  pub chain : Chain (record_of.counts_of before) works (record_of.counts_of after)
-
--- each end by its number, from client on
-abbrev pub EachEnd : ℕ → List Work → List EndSeen → List EndSeen → Type 0
-EachEnd client works [] [] = Unit {0}
-EachEnd client works [] (now ∷ after) = ⊥
-EachEnd client works (old ∷ before) [] = ⊥
-EachEnd client works (old ∷ before) (now ∷ after) = EndHolds (works_of client works) old now × EachEnd (suc client) works before after
-
--- each exchange went to one of the hosts
-abbrev pub ToHosts : List Host → List Work → Type 0
-ToHosts hosts works = AllByRecursion (λ (w : Work). AllByRecursion (λ (e : Exchange). (early : List Host) × (late : List Host) × (hosts ≡ early ++ e.host ∷ late)) w.deeds.exchanges) works
-
--- ---- the records ----
-
--- one record for each job, in order from number k on
-abbrev pub EachRecord : Known → ℕ → List Job → List Work → Type 0
-EachRecord known k [] [] = Unit {0}
-EachRecord known k [] (w ∷ works) = ⊥
-EachRecord known k (job ∷ jobs) [] = ⊥
-EachRecord known k (job ∷ jobs) (w ∷ works) = (w.done.job ≡ k) × (IsRecord known job w.done w.deeds × EachRecord known (suc k) jobs works)
-
 -- ---- the headline's premises ----
-
--- the end tells its talk, and each exchange of it was answered as the daemon answers
-pub record IsServed (seen : EndSeen) : Type 0 where
-  pub talk : List Exchange
-  pub told : seen.talk ≡ Some talk
-  pub served : AreServed talk
-
-abbrev pub EachServed : List EndSeen → Type 0
-EachServed ends = AllByRecursion IsServed ends
 
 -- each answer that the other side may give is the daemon's
 abbrev pub IsDaemon : (List ℕ → List ℕ → Type 0) → Type 0
@@ -151,19 +94,13 @@ EachAnsweredBy peer ends = AllByRecursion (λ (seen : EndSeen). EachAnswered pee
 abbrev pub ServedByDaemon : (List ℕ → List ℕ → Type 0) → Type 0
 ServedByDaemon peer = IsDaemon peer → (ends : List EndSeen) → EachTells ends → EachAnsweredBy peer ends → EachServed ends
 
--- each outcome agrees with what preprocessing gives over the whole tree
-abbrev pub EachAgrees : FileTree → List Job → List Work → Type 0
-EachAgrees tree (job ∷ jobs) (w ∷ works) = AgreesWith (outcome_over tree job) w.done.outcome w.deeds.put job × EachAgrees tree jobs works
-EachAgrees tree [] works = Unit {0}
-EachAgrees tree (job ∷ jobs) [] = Unit {0}
-
 -- ---- how the run ended ----
 
 -- the jobs were run: they are those of the list, which was read to its end, and each has its record; where each exchange
--- was answered as the daemon answers, each outcome is that of preprocessing over the whole tree
+-- was answered as the daemon answers, each agrees with preprocessing over the whole tree
 pub record JobsRan (given : Given) (before after : Outside) (works : List Work) : Type 0 where
   pub settings : Settings
-  pub asked : settings_of given.words ≡ Some settings
+  pub asked : asked_for given before ≡ Some settings
   pub jobs : List Job
   pub listed : ForSome before.left (λ bytes. jobs_of bytes ≡ Ok jobs)
   pub read : ForSome after.left (λ rest. rest ≡ [])
@@ -172,9 +109,9 @@ pub record JobsRan (given : Given) (before after : Outside) (works : List Work) 
   pub hosts : ToHosts settings.hosts works
   pub agrees : EachServed after.ends → ForSome given.named (λ tree. EachAgrees tree jobs works)
 
--- the words are in the grammar
-abbrev pub AsksSomething : Given → Type 0
-AsksSomething given = (settings : Settings) × (settings_of given.words ≡ Some settings)
+-- the words are in the grammar, and ask for no more clients than there are ends
+abbrev pub AsksSomething : Given → Outside → Type 0
+AsksSomething given before = (settings : Settings) × (asked_for given before ≡ Some settings)
 
 -- the list, where it is told, is in the grammar
 abbrev pub Readable : Outside → Type 0
@@ -182,10 +119,10 @@ Readable before = ForSome before.left (λ bytes. (jobs : List Job) × (jobs_of b
 
 -- the cause of each ending
 abbrev pub HasEnding : Given → Outside → Outside → Ending → Type 0
-HasEnding given before after Usage = settings_of given.words ≡ None
-HasEnding given before after (ListRefused line why) = AsksSomething given × ForSome before.left (λ bytes. jobs_of bytes ≡ Err (record { line = line; why = why }))
-HasEnding given before after ListFault = AsksSomething given × Rose before.counts.list after.counts.list
-HasEnding given before after SpawnFault = AsksSomething given × (Readable before × Rose before.counts.spawner after.counts.spawner)
+HasEnding given before after Usage = asked_for given before ≡ None
+HasEnding given before after (ListRefused line why) = AsksSomething given before × ForSome before.left (λ bytes. jobs_of bytes ≡ Err (record { line = line; why = why }))
+HasEnding given before after ListFault = AsksSomething given before × Rose before.counts.list after.counts.list
+HasEnding given before after SpawnFault = AsksSomething given before × (Readable before × Rose before.counts.spawner after.counts.spawner)
 HasEnding given before after NoMemory = Unit {0}
 HasEnding given before after (Ran works) = JobsRan given before after works
 
@@ -233,13 +170,6 @@ pub record DaemonsHold (given : Given) (ending : Ending) (status : ℕ) (before 
 
 -- ---- completeness ----
 
--- no count of these ends rose
-abbrev pub EachCalm : List EndSeen → List EndSeen → Type 0
-EachCalm [] after = Unit {0}
-EachCalm (old ∷ before) [] = Unit {0}
-EachCalm (old ∷ before) (now ∷ after) =
-    (Rose old.tree_faults now.tree_faults → ⊥) × ((Rose old.wire_faults now.wire_faults → ⊥) × ((Rose old.outs_faults now.outs_faults → ⊥) × EachCalm before after))
-
 -- no count of faults rose in the run
 pub record NoFaults (before after : Outside) : Type 0 where
   pub list : Rose before.counts.list after.counts.list → ⊥
@@ -266,7 +196,7 @@ pub record IsRun (given : Given) (before after : Outside) (status : ℕ) : Type 
   pub status_is : (status ≡ 5) ⊎ StatusIs before after ending status
   pub daemons : DaemonsHold given ending status before after
   pub answered : EachAnsweredBy given.peer after.ends
-  pub complete : EachServed after.ends → ForSome given.named (λ tree. (settings : Settings) → settings_of given.words ≡ Some settings → (bytes : List ℕ) → before.left ≡ Some bytes → (jobs : List Job) → jobs_of bytes ≡ Ok jobs → NoFaults before after → IsComplete given before after ending status)
+  pub complete : EachServed after.ends → ForSome given.named (λ tree. (settings : Settings) → asked_for given before ≡ Some settings → (bytes : List ℕ) → before.left ≡ Some bytes → (jobs : List Job) → jobs_of bytes ≡ Ok jobs → NoFaults before after → IsComplete given before after ending status)
 
 -- what contracts see of the outside, from the members of the bounds
 abbrev pub outside : List EndSeen → Option (List ℕ) → ℕ → List (ℕ × Host) → List Host → Bool → ℕ → Option (List ℕ) → ℕ → Outside

@@ -1,38 +1,20 @@
--- What the parts of a run come to: the list that is read, the job of the first client, and the report.
-use Rattle.std.specs.Prelude.{◌≡◌, ℕ, ◌⊎◌, List, [], ◌∷◌, Option, Result, Ok, Err}
+-- What the parts of a run come to: the job of the first client, and the report.
+use Rattle.std.specs.Prelude.{◌≡◌, ℕ, ◌⊎◌, List, [], ◌∷◌, Option}
 use Rattle.std.specs.Option.{ForSome}
 use Rattle.base_types.specs.Causes.{Rose}
 use Rattle.tree_model.specs.Trees.{FileTree, IsTree}
 use Rattle.io_edges.specs.declared.wire.Host.{Host}
 use Rattle.io_edges.specs.Talk.{EachAnswered}
 use Rattle.job_words.specs.declared.job.Job.{Job}
-use Rattle.job_words.specs.Words.{IsJob}
-use Rattle.build_clients.specs.declared.record.Done.{Done}
-use Rattle.build_clients.specs.declared.record.JobOutcome.{JobOutcome}
-use Rattle.build_clients.specs.declared.record.JobOutcome.TheVariants as end
-use Rattle.build_clients.specs.Outside.{EndSeen}
-use Rattle.build_clients.specs.Record.{DidJob, known}
-use Rattle.pump_run.specs.declared.listed.NoJob.{NoJob}
-use Rattle.pump_run.specs.declared.listed.NoJob.TheVariants as no_job
-use Rattle.pump_run.specs.Asked.{ListRefusal, jobs_of, line_of_why, refused_for}
-use Rattle.pump_run.specs.declared.list.ListWhy.{ListWhy}
+use Rattle.job_ends.specs.declared.record.Done.{Done}
+use Rattle.job_ends.specs.declared.record.JobOutcome.{JobOutcome}
+use Rattle.job_ends.specs.declared.record.JobOutcome.TheVariants as end
+use Rattle.job_ends.specs.Outside.{EndSeen}
+use Rattle.job_ends.specs.Record.{DidJob, known}
+use Rattle.compile_list.specs.Listed.{line_of_why}
+use Rattle.compile_list.specs.declared.list.ListWhy.{ListWhy}
 use Rattle.pump_run.specs.Report.{ListRefused, report_text, jobs_text}
 use Rattle.pump_run.specs.Run.{IsPut}
-
--- ---- the list ----
-
--- the one job that was read, or why there is none
-abbrev pub given : Result Job ListWhy → Result (List Job) ListRefusal
-given (Ok job) = Ok (job ∷ [])
-given (Err why) = Err (refused_for why)
-
--- A list of these bytes, of which those are left afterwards, gives its one job and was read to its end; or it is refused,
--- or the count of its faults rose, or there was no memory.
-abbrev pub ListGives : Option (List ℕ) → Option (List ℕ) → ℕ → ℕ → Result Job NoJob → Type 0
-ListGives before now from to (Ok job) = IsJob job × (ForSome before (λ bytes. jobs_of bytes ≡ Ok (job ∷ [])) × ForSome now (λ rest. rest ≡ []))
-ListGives before now from to (Err (no_job.Refused why)) = ForSome before (λ bytes. jobs_of bytes ≡ Err (refused_for why))
-ListGives before now from to (Err no_job.Fault) = Rose from to
-ListGives before now from to (Err no_job.Memory) = Unit {0}
 
 -- the line that says why a list is refused
 unfoldable pub refusal_text_of : ListWhy → List ℕ

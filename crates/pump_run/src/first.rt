@@ -1,7 +1,7 @@
 // The job of a run, done by the first client.
-ghost use Rattle.std.specs.Prelude.{◌≤◌, length, map};
+ghost use Rattle.std.specs.Prelude.{◌≡◌, ◌≤◌, length, map};
 ghost use Rattle.std.specs.List.{AllByRecursion};
-ghost use Rattle.build_clients.specs.Outside.{seen_end};
+ghost use Rattle.job_ends.specs.Outside.{seen_end};
 ghost use Rattle.pump_run.specs.Run.{IsFresh};
 ghost use Rattle.pump_run.specs.Steps.{FirstDid};
 
@@ -27,4 +27,11 @@ pub fn run_first<T: Tree, W: Wire, O: Outs>(
         FirstDid T.Of.named W.peer job.now host.now result (map seen ends.old.items) (map seen ends.new.items) }
 {
     do_job(alloc, &mut ends[0], BUDGET, 0, 0, job, host)
+}
+
+/// How many ends there are.
+pub fn number_of<T: Tree, W: Wire, O: Outs>(ends: &Vec<End<T, W, O>>) -> usize
+    ensures { result ≡ length ends.now.items }
+{
+    ends.as_slice().len()
 }

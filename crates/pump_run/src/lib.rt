@@ -4,11 +4,8 @@
 mod ending;
 mod first;
 mod laws;
-mod list;
-mod listed;
 mod report;
 mod top;
-mod words;
 
 pub use build_clients::End;
 pub use laws::served_by_daemon;

@@ -1,13 +1,13 @@
 // The report of the jobs.
 ghost use Rattle.std.specs.Prelude.{◌≡◌, ◌++◌, [], ◌∷◌, count_by, codes, IfOk, OnOk};
-ghost use Rattle.pump_run.specs.declared.list.ListWhy.TheVariants.{Words};
+ghost use Rattle.compile_list.specs.declared.list.ListWhy.TheVariants.{Words};
 ghost use Rattle.pump_run.specs.Steps.{refusal_text_of};
 ghost use Rattle.pump_run.specs.Report.{jobs_text, job_text, totals_text, outcome_text, after_text, way_text, refusal_text, is_remote, is_local, is_broken};
 
-use crate::list::ListWhy;
 use base_types::Bytes;
 use build_clients::{Cause, Done, JobOutcome, Way};
 use closure_fixpoint::Refusal;
+use compile_list::ListWhy;
 use job_words::WordError;
 use std::alloc::{AllocError, Global};
 

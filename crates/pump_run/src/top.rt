@@ -1,30 +1,37 @@
 // The top call.
 ghost use Rattle.std.specs.Prelude.{◌≡◌, ◌<◌, ◌≤◌, [], length, map};
 ghost use Rattle.std.specs.List.{AllByRecursion};
-ghost use Rattle.build_clients.specs.Outside.{seen_end};
+ghost use Rattle.job_ends.specs.Outside.{seen_end};
 ghost use Rattle.pump_run.specs.Run.{IsRun, IsFresh, outside, given};
 
 use crate::ending::{FAULT, NO_MEMORY, REFUSED, USAGE, refuse, tell};
-use crate::first::run_first;
+use crate::first::{number_of, run_first};
 use crate::laws::outcomes_agree;
-use crate::listed::{NoJob, listed_job};
 use crate::report::refusal_line;
-use crate::words::{host_in, named_host};
 use build_clients::End;
+use compile_list::{NoJob, listed_job};
 use io_edges::{Outs, Sink, Source, Spawner, Wire};
+use run_words::{host_in, named_host};
 use std::alloc::Global;
 use std::sync::Wait;
 use std::thread::Threads;
 use tree_model::Tree;
 
-/// Reads the words `order - --hosts HOST -j 1` and the list, one line of a working directory and compile words, does its job at the first of the ends, puts the job's text on
-/// that end's outs, and writes the report: a line for the job and one of totals, or one line that says why nothing was done.
-/// The ends weren't used before, and the spawner isn't called: hosts are given by name.
+/// Does the jobs of a compile list: reads the words `order - --hosts HOST -j 1`, and the list, which is one line of a
+/// working directory and compile words; does its job at the first of the ends, puts the job's text on that end's outs, and
+/// writes the report: a line for the job and one of totals, or one line that says why nothing was done. The ends weren't
+/// used before, and there are as many as clients at least. The spawner isn't called: hosts are given by name.
 ///
-/// The status is 0 for a text, 1 for a diagnostic, 2 for other words, 3 for a list that isn't in its grammar or
-/// whose words give no job, 4 where the
-/// list, the outs or the report failed, 5 for want of memory, and 6 where the tree failed. A line of refusal that can't be
-/// written whole leaves the status.
+/// The status is the first of these that holds:
+/// - 5: there was no memory, for a job or outside the jobs;
+/// - 2: the words aren't in their grammar, or ask for more clients than there are ends;
+/// - 3: the list isn't in its grammar, or its words give no job;
+/// - 4: the list, the outs or the report failed;
+/// - 6: the tree failed in some job;
+/// - 1: some job has a diagnostic;
+/// - 0: each job has its text.
+///
+/// A line of refusal that can't be written whole leaves the status.
 pub fn pump<T: Tree, W: Wire, O: Outs, P: Spawner, S: Source, K: Sink, R: Threads + Wait + Sync>(
     rt: &R,
     alloc: Global,
@@ -45,7 +52,7 @@ pub fn pump<T: Tree, W: Wire, O: Outs, P: Spawner, S: Source, K: Sink, R: Thread
         result }
 {
     outcomes_agree();
-    let Some(name) = host_in(words) else {
+    let Some(name) = host_in(number_of(ends), words) else {
         return refuse(report, b"pump: usage\n".as_slice(), USAGE);
     };
     let job = match listed_job(alloc, list) {

@@ -1,4 +1,4 @@
-use Rattle.build_clients.specs.Outside.{seen_end}
+use Rattle.job_ends.specs.Outside.{seen_end}
 use Rattle.pump_run.proofs.OneEnd.{first-did}
 use Rattle.pump_run.proofs.first.run_first.Goals as goal
 

@@ -1,5 +1,5 @@
 use Rattle.std.proofs.Common.{sym, ◌∙◌, ap}
-use Rattle.pump_run.specs.declared.list.ListWhy.{ListWhy}
+use Rattle.compile_list.specs.declared.list.ListWhy.{ListWhy}
 use Rattle.pump_run.specs.Steps.{refusal_text_of}
 use Rattle.pump_run.proofs.RefusalLines.{not-built-line}
 use Rattle.pump_run.proofs.report.refusal_line.Goals as goal

@@ -1,7 +1,7 @@
 use Rattle.std.proofs.Common.{sym, ◌∙◌, ap}
 use Rattle.job_words.specs.declared.reading.WordError.{WordError}
 use Rattle.job_words.specs.declared.reading.WordError.TheVariants as word
-use Rattle.pump_run.specs.declared.list.ListWhy.TheVariants.{Words}
+use Rattle.compile_list.specs.declared.list.ListWhy.TheVariants.{Words}
 use Rattle.pump_run.specs.Steps.{refusal_text_of}
 use Rattle.pump_run.proofs.RefusalLines.{words-line}
 use Rattle.pump_run.proofs.report.words_line.Goals as goal

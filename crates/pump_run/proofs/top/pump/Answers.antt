@@ -1,9 +1,10 @@
 use Rattle.std.proofs.Common.{ℕ, List, map, Bor, ◌∙◌, ap}
-use Rattle.build_clients.specs.Outside.{seen_end}
-use Rattle.pump_run.specs.Asked.{settings_with}
-use Rattle.pump_run.specs.declared.list.ListWhy.{ListWhy}
+use Rattle.job_ends.specs.Outside.{seen_end}
+use Rattle.run_words.specs.Asked.{settings_with}
+use Rattle.compile_list.specs.declared.list.ListWhy.{ListWhy}
 use Rattle.pump_run.specs.Steps.{refusal_text_of}
 use Rattle.pump_run.specs.Run.{outside, given}
+use Rattle.pump_run.proofs.Counted.{asked-seen}
 use Rattle.pump_run.proofs.Refused.{usage-run, list-refused-run, fault-run, starved-run}
 use Rattle.pump_run.proofs.Ran.{ran-run}
 use Rattle.pump_run.proofs.top.pump.Goals as goal
@@ -16,7 +17,7 @@ returns-in_default g c =
     let before = outside (map seen c.args.ends.now.items) (g.S.Source.left c.args.list.now) (g.S.Source.faults c.args.list.now) (g.P.Spawner.begun c.args.spawner.now) (g.P.Spawner.running c.args.spawner.now) (g.P.Spawner.asked c.args.spawner.now) (g.P.Spawner.faults c.args.spawner.now) (g.K.Sink.held c.args.report.now) (g.K.Sink.faults c.args.report.now) in
     record {
       run = usage-run the_given before c.requires.fresh (g.S.Source.left c.args.list.now) (g.K.Sink.held c.refuse.new.report) (g.S.Source.faults c.args.list.now) (g.K.Sink.faults c.refuse.new.report) c.refuse.result c.as_slice.result.now
-          c.in_default.ensures c.as_slice.ensures c.refuse.ensures;
+          (asked-seen seen c.args.ends.now.items (map asked_words c.args.words.now) _ (rw c.number_of.ensures at c.in_default.ensures)) c.as_slice.ensures c.refuse.ensures;
     }
 
 pub returns-in-Err-Refused : goal.returns-in-Err-Refused
@@ -27,7 +28,7 @@ returns-in-Err-Refused g c =
     let before = outside (map seen c.args.ends.now.items) (g.S.Source.left c.args.list.now) (g.S.Source.faults c.args.list.now) (g.P.Spawner.begun c.args.spawner.now) (g.P.Spawner.running c.args.spawner.now) (g.P.Spawner.asked c.args.spawner.now) (g.P.Spawner.faults c.args.spawner.now) (g.K.Sink.held c.args.report.now) (g.K.Sink.faults c.args.report.now) in
     record {
       run = list-refused-run the_given before c.requires.fresh (g.S.Source.left c.listed_job.new.list) (g.K.Sink.held c.refuse-in-Err-Refused.new.report) (g.S.Source.faults c.listed_job.new.list) (g.K.Sink.faults c.refuse-in-Err-Refused.new.report) c.refuse-in-Err-Refused.result c.refusal_line.result.now
-          c.in-Err-Refused.why (settings_with c.in-Some.name.now, c.in-Some.ensures) (rw c.in-Err-Refused.field-0-is at c.in-Err-Refused.ensures) (c.refusal_line.ensures ∙ ap (λ (why : ListWhy). refusal_text_of why) c.in-Err-Refused.why-is) c.refuse-in-Err-Refused.ensures;
+          c.in-Err-Refused.why (settings_with c.in-Some.name.now, asked-seen seen c.args.ends.now.items (map asked_words c.args.words.now) _ (rw c.number_of.ensures at c.in-Some.ensures)) (rw c.in-Err-Refused.field-0-is at c.in-Err-Refused.ensures) (c.refusal_line.ensures ∙ ap (λ (why : ListWhy). refusal_text_of why) c.in-Err-Refused.why-is) c.refuse-in-Err-Refused.ensures;
     }
 
 pub returns-in-Err-Fault : goal.returns-in-Err-Fault
@@ -38,7 +39,7 @@ returns-in-Err-Fault g c =
     let before = outside (map seen c.args.ends.now.items) (g.S.Source.left c.args.list.now) (g.S.Source.faults c.args.list.now) (g.P.Spawner.begun c.args.spawner.now) (g.P.Spawner.running c.args.spawner.now) (g.P.Spawner.asked c.args.spawner.now) (g.P.Spawner.faults c.args.spawner.now) (g.K.Sink.held c.args.report.now) (g.K.Sink.faults c.args.report.now) in
     record {
       run = fault-run the_given before c.requires.fresh (g.S.Source.left c.listed_job.new.list) (g.K.Sink.held c.refuse-in-Err-Fault.new.report) (g.S.Source.faults c.listed_job.new.list) (g.K.Sink.faults c.refuse-in-Err-Fault.new.report) c.refuse-in-Err-Fault.result c.as_slice-in-Err-Fault.result.now
-          (settings_with c.in-Some.name.now, c.in-Some.ensures) (rw c.in-Err-Fault.field-0-is at c.in-Err-Fault.ensures) c.as_slice-in-Err-Fault.ensures c.refuse-in-Err-Fault.ensures;
+          (settings_with c.in-Some.name.now, asked-seen seen c.args.ends.now.items (map asked_words c.args.words.now) _ (rw c.number_of.ensures at c.in-Some.ensures)) (rw c.in-Err-Fault.field-0-is at c.in-Err-Fault.ensures) c.as_slice-in-Err-Fault.ensures c.refuse-in-Err-Fault.ensures;
     }
 
 pub returns-in-Err-Memory : goal.returns-in-Err-Memory
@@ -72,5 +73,5 @@ returns g c =
     let did = rw c.in-Ok-named_host.ensures at c.run_first-done.ensures.did in
     record {
       run = ran-run the_given before c.requires.fresh (g.S.Source.left c.listed_job.new.list) (g.K.Sink.held c.tell.new.report) (map seen c.run_first-done.new.ends.items) (g.S.Source.faults c.listed_job.new.list) (g.K.Sink.faults c.tell.new.report) c.tell.result
-          c.in-Some.name.now c.in-Ok.job c.run_first-done.result did c.outcomes_agree.ensures.agree c.outcomes_agree.ensures.calm c.in-Some.ensures c.in-Ok.ensures c.tell.ensures;
+          c.in-Some.name.now c.in-Ok.job c.run_first-done.result did c.outcomes_agree.ensures.agree c.outcomes_agree.ensures.no_peer c.outcomes_agree.ensures.calm (asked-seen seen c.args.ends.now.items (map asked_words c.args.words.now) _ (rw c.number_of.ensures at c.in-Some.ensures)) c.in-Ok.ensures c.tell.ensures;
     }

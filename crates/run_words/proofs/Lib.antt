@@ -1,0 +1,3 @@
+-- Lemmas.
+--     SixWords    the words of the top call
+pub mod SixWords
