@@ -1,7 +1,7 @@
 # make demo     builds the programs, does two jobs on the C files of examples/hello and of examples/options, and sends the
 #               daemon's program a stored request
 # make check    the gate: all proofs, edits that must fail, tests and programs; then each header of the host is lexed twice,
-#               and walks in random trees are compared with the host's own
+#               walks in random trees are compared with the host's own, and the programs are tried with what is wrong
 # make bench    measures the lexer, searches, macro expansion and the program, some against gcc: docs/PERFORMANCE.md
 .PHONY: demo check bench
 
@@ -23,6 +23,7 @@ check:
 	@sh .ci/run
 	@sh tools/check-headers.sh
 	@sh tools/check-walks.sh
+	@sh tools/check-programs.sh
 
 bench:
 	@sh tools/bench.sh

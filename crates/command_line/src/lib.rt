@@ -1,8 +1,11 @@
-//! What the programs have in common: their words, what they answer to `--help` and to wrong words, and the C files that they read.
+//! What the programs have in common: their words, what they answer to `--help`, to wrong words and to failures of the host, and
+//! the files that they read.
 #![tactic(auto)]
 
 mod body;
+mod ending;
 mod words;
 
-pub use body::{BODY_LIMIT, read_body};
+pub use body::{BODY_LIMIT, FileBody, read_body, read_file};
+pub use ending::{ended, failure_status, tell, tell_failure, wrong_words};
 pub use words::{refuse, show, words_of};

@@ -3,6 +3,7 @@
 #![tactic(auto)]
 
 mod folder_outs;
+mod host_fault;
 mod outs;
 mod sink;
 mod source;
@@ -12,6 +13,7 @@ mod std_source;
 mod wire;
 
 pub use folder_outs::FolderOuts;
+pub use host_fault::HostFault;
 pub use outs::{MemOuts, OutFault, Outs};
 pub use sink::{MemSink, Sink, WriteFault};
 pub use source::{MemSource, ReadFault, Source};

@@ -11,6 +11,7 @@ use std::io::{self, Print, Write};
 pub struct StdSink<R: Print> {
     rt: R,
     faults: u64,
+    last: Option<io::Error>,
 }
 
 impl<R: Print> StdSink<R> {
@@ -18,7 +19,16 @@ impl<R: Print> StdSink<R> {
     pub fn new(rt: R) -> StdSink<R>
         ensures fresh { ⟦<StdSink<R> as Sink>⟧.faults result ≡ 0 }
     {
-        StdSink { rt, faults: 0 }
+        StdSink {
+            rt,
+            faults: 0,
+            last: None,
+        }
+    }
+
+    /// Why the host failed last.
+    pub fn last_error(&self) -> Option<io::Error> {
+        self.last
     }
 }
 
@@ -34,8 +44,9 @@ impl<R: Print> Sink for StdSink<R> {
     {
         match write_through(&self.rt, piece) {
             Ok(()) => Ok(()),
-            Err(_) => {
+            Err(error) => {
                 self.faults = self.faults.saturating_add(1);
+                self.last = Some(error);
                 Err(WriteFault::Fault)
             }
         }

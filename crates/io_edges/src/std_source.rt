@@ -10,6 +10,7 @@ use std::io::{self, ErrorKind, Input, Read};
 pub struct StdSource<R: Input> {
     reader: R::Reader,
     faults: u64,
+    last: Option<io::Error>,
 }
 
 impl<R: Input> StdSource<R> {
@@ -20,7 +21,13 @@ impl<R: Input> StdSource<R> {
         StdSource {
             reader: rt.reader(),
             faults: 0,
+            last: None,
         }
+    }
+
+    /// Why the host failed last.
+    pub fn last_error(&self) -> Option<io::Error> {
+        self.last
     }
 }
 
@@ -32,8 +39,9 @@ impl<R: Input> Source for StdSource<R> {
     fn take(&mut self, room: &mut [u8]) -> Result<usize, ReadFault> {
         match read_once(&mut self.reader, room) {
             Ok(n) => Ok(n),
-            Err(_) => {
+            Err(error) => {
                 self.faults = self.faults.saturating_add(1);
+                self.last = Some(error);
                 Err(ReadFault::Fault)
             }
         }

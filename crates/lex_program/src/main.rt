@@ -3,8 +3,8 @@
 
 mod tokens;
 
-use anyhow::{Result, ensure};
-use command_line::{BODY_LIMIT, read_body, refuse, show, words_of};
+use anyhow::{Error, Result, ensure};
+use command_line::{BODY_LIMIT, ended, read_body, refuse, show, words_of};
 use pp_tokens::{Lexed, TokenRef, lex};
 use std::alloc::Global;
 use std::process::ExitCode;
@@ -20,22 +20,28 @@ count prints a line for each file: FILE BYTES LINES TOKENS, with its logical
 lines. again lexes the tokens of each file once more from their spellings, and
 prints `FILE same`, or the first difference.
 
-status: 0, 1 where a file differs or isn't read, 2 wrong words";
+status: 0, 1 where a file differs or isn't read, 2 wrong words, 4 a failed write,
+5 out of memory";
 
-fn main(rt: HostRuntime) -> Result<ExitCode> {
-    let arguments = env::args(&rt)?.collect(rt.alloc())?;
+fn main(rt: HostRuntime) -> ExitCode {
+    let answer = answer(&rt);
+    ended(&rt, "lex_program", answer)
+}
+
+fn answer(rt: &HostRuntime) -> io::Result<ExitCode> {
+    let arguments = env::args(rt)?.collect(rt.alloc())?;
     let words = words_of(rt.alloc(), &arguments)?;
-    obey(&rt, words.as_slice())
+    obey(rt, words.as_slice())
 }
 
 // Does what the words ask for, and answers the status.
-fn obey<R: Files + AllocGlobal + Print + Eprint>(rt: &R, words: &[&str]) -> Result<ExitCode> {
+fn obey<R: Files + AllocGlobal + Print + Eprint>(rt: &R, words: &[&str]) -> io::Result<ExitCode> {
     match words {
-        ["--help"] => Ok(show(rt, HELP)?),
-        ["--version"] => Ok(show(rt, "lex_program 0.1.0")?),
+        ["--help"] => show(rt, HELP),
+        ["--version"] => show(rt, "lex_program 0.1.0"),
         ["count", first, files @ ..] => each(rt, Task::Count, first, files),
         ["again", first, files @ ..] => each(rt, Task::Again, first, files),
-        _ => Ok(refuse(rt, HELP)?),
+        _ => refuse(rt, HELP),
     }
 }
 
@@ -52,7 +58,7 @@ fn each<R: Files + AllocGlobal + Print + Eprint>(
     task: Task,
     first: &str,
     others: &[&str],
-) -> Result<ExitCode> {
+) -> io::Result<ExitCode> {
     let mut passed = done(rt, task, first)?;
     for file in others {
         passed = done(rt, task, file)? && passed;
@@ -64,26 +70,39 @@ fn each<R: Files + AllocGlobal + Print + Eprint>(
     }
 }
 
-// Whether the task passed with a file.
-fn done<R: Files + AllocGlobal + Print + Eprint>(rt: &R, task: Task, file: &str) -> Result<bool> {
-    let outcome = match task {
+// Whether the task passed with a file. An error is one of writing.
+fn done<R: Files + AllocGlobal + Print + Eprint>(
+    rt: &R,
+    task: Task,
+    file: &str,
+) -> io::Result<bool> {
+    match task {
         Task::Count => count(rt, file),
         Task::Again => again(rt, file),
-    };
-    match outcome {
-        Ok(passed) => Ok(passed),
-        Err(e) => {
-            eprintln!(rt; "{file}: {e}")?;
-            Ok(false)
-        }
     }
 }
 
-fn count<R: Files + AllocGlobal + Print>(rt: &R, file: &str) -> Result<bool> {
+// Says on standard error why the task can't be done with a file.
+fn not_done<R: Eprint>(rt: &R, file: &str, error: &Error) -> io::Result<bool> {
+    eprintln!(rt; "{file}: {error}")?;
+    Ok(false)
+}
+
+fn count<R: Files + AllocGlobal + Print + Eprint>(rt: &R, file: &str) -> io::Result<bool> {
+    match length_and_tokens(rt, file) {
+        Ok((bytes, lexed)) => {
+            print_counts(rt, file, bytes, &lexed)?;
+            Ok(true)
+        }
+        Err(error) => not_done(rt, file, &error),
+    }
+}
+
+// How many bytes a file has, and its tokens.
+fn length_and_tokens<R: Files + AllocGlobal>(rt: &R, file: &str) -> Result<(usize, Lexed)> {
     let body = read_body(rt, file)?;
     let lexed = lex(rt.alloc(), &body, false)?;
-    print_counts(rt, file, body.len(), &lexed)?;
-    Ok(true)
+    Ok((body.len(), lexed))
 }
 
 fn print_counts<R: Print>(rt: &R, file: &str, bytes: usize, lexed: &Lexed) -> io::Result<()> {
@@ -101,15 +120,18 @@ fn count_tokens(lexed: &Lexed) -> u64 {
 }
 
 // Whether a file's tokens are lexed again as they were.
-fn again<R: Files + AllocGlobal + Print>(rt: &R, file: &str) -> Result<bool> {
-    let first = lex_file(rt, file)?;
-    let second = lex_again(rt.alloc(), &first)?;
-    compare(rt, file, &first, &second)
+fn again<R: Files + AllocGlobal + Print + Eprint>(rt: &R, file: &str) -> io::Result<bool> {
+    match lex_twice(rt, file) {
+        Ok((first, second)) => compare(rt, file, &first, &second),
+        Err(error) => not_done(rt, file, &error),
+    }
 }
 
-fn lex_file<R: Files + AllocGlobal>(rt: &R, file: &str) -> Result<Lexed> {
-    let body = read_body(rt, file)?;
-    Ok(lex(rt.alloc(), &body, false)?)
+// Lexes a file, and then its tokens.
+fn lex_twice<R: Files + AllocGlobal>(rt: &R, file: &str) -> Result<(Lexed, Lexed)> {
+    let (_, first) = length_and_tokens(rt, file)?;
+    let second = lex_again(rt.alloc(), &first)?;
+    Ok((first, second))
 }
 
 // Lexes the tokens of a file from their spellings.
@@ -123,7 +145,7 @@ fn lex_again(alloc: Global, file: &Lexed) -> Result<Lexed> {
 }
 
 // Whether two lexings of a file have the same tokens. It prints that, or what first differs.
-fn compare<R: Print>(rt: &R, file: &str, first: &Lexed, second: &Lexed) -> Result<bool> {
+fn compare<R: Print>(rt: &R, file: &str, first: &Lexed, second: &Lexed) -> io::Result<bool> {
     let difference = first_difference(first, second);
     print_outcome(rt, file, first, second, difference)?;
     Ok(difference.is_none())

@@ -1,3 +1,2 @@
 -- Words of the program's parts.
 pub mod Untold
-pub mod Read

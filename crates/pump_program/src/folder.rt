@@ -1,36 +1,45 @@
 // The host's files as a tree.
-ghost use Rattle.std.specs.Prelude.{◌≡◌, ◌≤◌, None, length, IfOk};
+ghost use Rattle.std.specs.Prelude.{◌≡◌, None, IfOk};
 ghost use Rattle.tree_model.specs.Trees.{IsNode, IsBody};
 ghost use Rattle.pump_program.specs.Untold.{nothing_is_some};
-ghost use Rattle.pump_program.specs.Read.{IsSmall};
 
 use base_types::Bytes;
+use command_line::{FileBody, read_file};
+use io_edges::HostFault;
 use std::fs::{self, Files};
 use std::io::{self, ErrorKind};
 use tree_model::{CanonPath, Node, Tree, TreeError, Unnamed};
 
-const BODY_LIMIT: usize = 16_777_216;
-
 /// The host's files, from the root of their tree. It doesn't tell them.
 ///
 /// A link is shown as what it leads to. A path that isn't UTF-8 has no node, nor has a path that the host can't have, nor
-/// one at which neither a folder nor a file stands, as at a device.
+/// one at which neither a folder nor a file stands, as at a device. What the host doesn't let a look see is a fault, as below a
+/// folder that may not be searched. Only a path at which a file was seen is read: where none stands any more, that is a fault
+/// too, as the tree didn't stand still.
 #[derive(Drop)]
 pub struct Folder<R: Files + AllocGlobal> {
     rt: R,
     faults: u64,
     reads: u64,
+    last: Option<HostFault>,
 }
 
 impl<R: Files + AllocGlobal> Folder<R> {
     pub fn new(rt: R) -> Folder<R>
         ensures fresh { ⟦<Folder<R> as Tree>⟧.faults result ≡ 0 }
+        ensures unread { ⟦<Folder<R> as Tree>⟧.reads result ≡ 0 }
     {
         Folder {
             rt,
             faults: 0,
             reads: 0,
+            last: None,
         }
+    }
+
+    /// What the host failed at last, and why.
+    pub fn last_fault(&self) -> Option<&HostFault> {
+        self.last.as_ref()
     }
 }
 
@@ -50,8 +59,10 @@ impl<R: Files + AllocGlobal> Tree for Folder<R> {
     fn node(&mut self, path: &CanonPath) -> Result<Option<Node>, TreeError> {
         match node_at(&self.rt, path.bytes()) {
             Ok(node) => Ok(node),
-            Err(_) => {
+            Err(error) if error.kind() == ErrorKind::OutOfMemory => Err(TreeError::Memory),
+            Err(error) => {
                 self.faults = self.faults.saturating_add(1);
+                self.last = Some(HostFault::at(self.rt.alloc(), path.bytes(), error));
                 Err(TreeError::Fault)
             }
         }
@@ -60,22 +71,16 @@ impl<R: Files + AllocGlobal> Tree for Folder<R> {
     fn read(&mut self, path: &CanonPath) -> Result<Option<Bytes>, TreeError> {
         self.reads = self.reads.saturating_add(1);
         match body_at(&self.rt, path.bytes()) {
-            Ok(Body::Absent) => Ok(None),
-            Ok(Body::Large) => Err(TreeError::Large),
-            Ok(Body::Whole(bytes)) => Ok(Some(bytes)),
-            Err(_) => {
+            Ok(Some(body)) => Ok(Some(body)),
+            Ok(None) => Err(TreeError::Large),
+            Err(error) if error.kind() == ErrorKind::OutOfMemory => Err(TreeError::Memory),
+            Err(error) => {
                 self.faults = self.faults.saturating_add(1);
+                self.last = Some(HostFault::at(self.rt.alloc(), path.bytes(), error));
                 Err(TreeError::Fault)
             }
         }
     }
-}
-
-// What there is to read at a path.
-enum Body {
-    Absent,
-    Large,
-    Whole(Bytes),
 }
 
 fn node_at(files: &impl Files, path: &[u8]) -> io::Result<Option<Node>>
@@ -100,31 +105,25 @@ fn is_absent(kind: ErrorKind) -> bool {
         ErrorKind::NotFound
             | ErrorKind::NotADirectory
             | ErrorKind::InvalidFilename
+            | ErrorKind::InvalidInput
             | ErrorKind::FilesystemLoop
     )
 }
 
-fn body_at<R: Files + AllocGlobal>(rt: &R, path: &[u8]) -> io::Result<Body>
-    ensures { IfOk result IsSmall }
+// The bytes of the file at a path; None where they are more than 16,777,216.
+fn body_at<R: Files + AllocGlobal>(rt: &R, path: &[u8]) -> io::Result<Option<Bytes>>
+    ensures { IfOk result IsBody }
 {
     let Ok(text) = str::from_utf8(path) else {
-        return Ok(Body::Absent);
+        return Err(no_file());
     };
-    match fs::metadata(rt, text) {
-        Ok(found) if !found.is_file() => Ok(Body::Absent),
-        Ok(found) if found.len() > BODY_LIMIT as u64 => Ok(Body::Large),
-        Ok(_) => read_file(rt, text),
-        Err(e) if is_absent(e.kind()) => Ok(Body::Absent),
-        Err(e) => Err(e),
+    match read_file(rt, text)? {
+        FileBody::Whole(body) => Ok(Some(Bytes::of(body))),
+        FileBody::Large => Ok(None),
+        FileBody::NoFile => Err(no_file()),
     }
 }
 
-fn read_file<R: Files + AllocGlobal>(rt: &R, path: &str) -> io::Result<Body>
-    ensures { IfOk result IsSmall }
-{
-    let bytes = fs::read(rt, path)?;
-    if bytes.len() > BODY_LIMIT {
-        return Ok(Body::Large);
-    }
-    Ok(Body::Whole(Bytes::of(bytes)))
+fn no_file() -> io::Error {
+    io::Error::other("no file stands there")
 }

@@ -4,32 +4,47 @@
 mod folder;
 #[cfg(test)]
 mod folder_tests;
+mod kept;
+#[cfg(test)]
+mod outs_tests;
+#[cfg(test)]
+mod test_folder;
+mod told;
+mod wrong_list;
 
-ghost use Rattle.std.specs.Prelude.{IfOk};
-ghost use Rattle.build_clients.specs.Outside.{seen_end};
+ghost use Rattle.std.specs.Prelude.{◌≡◌, IfOk};
+ghost use Rattle.std.specs.IoError.{error_kind};
+ghost use Rattle.std.specs.Process.{exit_status};
+ghost use Rattle.command_line.specs.Failures.{failure_status};
+ghost use Rattle.job_ends.specs.Outside.{seen_end};
 ghost use Rattle.pump_run.specs.Run.{IsFresh};
 
-use command_line::{show, words_of};
+use command_line::{ended, show, words_of};
 use daemon_serve::{MemWire, ServePeer};
 use folder::Folder;
 use io_edges::{FolderOuts, MemSpawner, Outs, Sink, Source, StdSink, StdSource, Wire};
+use kept::Kept;
 use pump_run::{End, pump};
 use std::alloc::{AllocError, Global};
+use std::io::ErrorKind;
 use std::process::ExitCode;
 use std::sync::Wait;
 use std::thread::Threads;
 use std::{env, io};
+use told::{NAME, tell_faults, tell_status, tell_stream};
 use tree_model::{Cached, Tree};
 
 const HELP: &str = "usage: pump_program order - --hosts HOST -j 1 < LIST
 
-LIST has one line: a working directory, and the words of a compile command with
-one C source in it. Of its options -I, -iquote, -isystem, -idirafter, -include,
--o and -trigraphs are read, and those without effect on preprocessing passed
-over. The source is preprocessed as `cc -E` would, by a daemon that gets just
-the files that it may include, or else here. The text is written below the
-folder `out`, under the name of -o or the source's with `.i`, and a report to
-standard output.
+LIST has one line: a working directory, and the words of a compile command
+without the compiler's name, with one C source in them. Of its options -I,
+-iquote, -isystem, -idirafter, -include, -o and -trigraphs are read, and those
+without effect on preprocessing passed over. The source is preprocessed as
+`cc -E` would, by a daemon that gets just the files that it may include, or else
+here. So far the daemon is in this process: HOST is read and not dialed. The
+text is written below the folder `out`, under the name of -o, also where that
+begins with `/`, or the source's with `.i`. A report is written to standard
+output, and a line on what failed, and why, to standard error.
 
 status: 0 a text, 1 a diagnostic, 2 wrong words, 3 a wrong list, 4 a failed
 read, write or start, 5 out of memory, 6 a failed read of the tree";
@@ -38,14 +53,33 @@ type HostTree = Cached<Folder<HostRuntime>>;
 
 type HostEnd = End<HostTree, MemWire<ServePeer>, FolderOuts<HostRuntime>>;
 
-fn main(rt: HostRuntime) -> io::Result<ExitCode> {
-    let arguments = env::args(&rt)?.collect(rt.alloc())?;
+fn main(rt: HostRuntime) -> ExitCode {
+    match answer(&rt, &rt) {
+        Ok(status) => status,
+        Err(error) => give_up(&rt, error),
+    }
+}
+
+fn answer<H: Threads + Wait + Sync>(handles: &H, rt: &HostRuntime) -> io::Result<ExitCode> {
+    let arguments = env::args(rt)?.collect(rt.alloc())?;
     let words = words_of(rt.alloc(), &arguments)?;
     match words.as_slice() {
-        ["--help"] => show(&rt, HELP),
-        ["--version"] => show(&rt, "pump_program 0.1.0"),
-        words => run(&rt, &rt, words),
+        ["--help"] => show(rt, HELP),
+        ["--version"] => show(rt, "pump_program 0.1.0"),
+        words => run(handles, rt, words),
     }
+}
+
+// Ends a program that the host failed before a run began, with the report that a run would give.
+fn give_up(rt: &HostRuntime, error: io::Error) -> ExitCode
+    ensures { exit_status result ≡ failure_status (error_kind error) }
+{
+    let _ = match error.kind() {
+        ErrorKind::InvalidData => println!(rt; "pump: usage"),
+        ErrorKind::OutOfMemory => println!(rt; "pump: memory"),
+        _ => Ok(()),
+    };
+    ended(rt, NAME, Err(error))
 }
 
 // Runs the words over the host's files, input and output.
@@ -55,13 +89,25 @@ fn run<H: Threads + Wait + Sync>(
     words: &[&str],
 ) -> io::Result<ExitCode> {
     let end = new_end(rt)?;
-    let mut list = StdSource::new(rt);
+    let mut list = Kept::over(rt.alloc(), StdSource::new(rt));
     let mut report = StdSink::new(rt.clone()?);
-    let status = run_over(handles, rt.alloc(), words, end, &mut list, &mut report)?;
+    let (status, end) = run_over(handles, rt.alloc(), words, end, &mut list, &mut report)?;
+    if let Some(end) = end {
+        tell_end(rt, end);
+    }
+    tell_stream(rt, "standard input", list.source().last_error());
+    tell_stream(rt, "standard output", report.last_error());
+    tell_status(rt, status, list.bytes());
     Ok(ExitCode::from(status))
 }
 
-// Runs the words over one end, as one client has, and answers the status.
+// Says what the host failed at in the tree and in the outputs of an end.
+fn tell_end(rt: &HostRuntime, end: HostEnd) {
+    let End { tree, outs, .. } = end;
+    tell_faults(rt, &tree.into_inner(), &outs);
+}
+
+// Runs the words over one end, as one client has, and answers the status and the end as it is then.
 fn run_over<
     T: Tree + Drop,
     W: Wire + Drop,
@@ -76,13 +122,14 @@ fn run_over<
     end: End<T, W, O>,
     list: &mut S,
     report: &mut K,
-) -> Result<u8, AllocError>
+) -> Result<(u8, Option<End<T, W, O>>), AllocError>
     requires { IsFresh (seen_end T.told T.Tree.faults T.reads W.talk W.state W.Wire.faults O.kept O.Outs.faults end) }
 {
     let mut ends = Vec::new(alloc);
     ends.push(end)?;
     let mut spawner = MemSpawner::new(alloc, Vec::new(alloc));
-    Ok(pump(handles, alloc, words, list, &mut ends, &mut spawner, report))
+    let status = pump(handles, alloc, words, list, &mut ends, &mut spawner, report);
+    Ok((status, ends.pop()))
 }
 
 // An end that wasn't used yet: the host's files, whose nodes are remembered, a daemon in this process, and the folder of outputs.

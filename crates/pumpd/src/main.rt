@@ -1,10 +1,9 @@
 //! The daemon's program: one request on standard input, one reply on standard output.
 #![tactic(auto)]
 
-use command_line::{show, words_of};
+use command_line::{ended, show, words_of, wrong_words};
 use daemon_serve::{Serve, daemon_words, inetd};
 use io_edges::{StdSink, StdSource};
-use std::io::ErrorKind;
 use std::process::ExitCode;
 use std::{env, io};
 
@@ -14,17 +13,15 @@ REQUEST is one request: a working directory, the words of a compile command, and
 the files that it may include, as frames. Of its source the daemon does what
 `cc -E` would, over these files alone, and writes one REPLY: a text, a
 diagnostic, or a refusal. It reads no further than the piece with the request's
-last byte, and looks at no file of the host.
+last byte, and looks at no file of the host. It listens at no port so far.
 
-status: 0 a text or a diagnostic, 1 a refusal, 2 wrong words and nothing
-written, 3 the read failed and nothing written, 4 the write failed, 5 out of
-memory";
+status: 0 a text or a diagnostic, 1 a refusal, 2 wrong words and no reply, 3 the
+read failed and no reply, 4 the write failed, 5 out of memory; wrong words have
+a line on standard error";
 
 fn main(rt: HostRuntime) -> ExitCode {
-    match answer(&rt) {
-        Ok(status) => status,
-        Err(error) => ExitCode::from(failure(&error)),
-    }
+    let answer = answer(&rt);
+    ended(&rt, "pumpd", answer)
 }
 
 fn answer(rt: &HostRuntime) -> io::Result<ExitCode> {
@@ -40,7 +37,7 @@ fn obey(rt: &HostRuntime, words: &[&str]) -> io::Result<ExitCode> {
         ["--help"] => show(rt, HELP),
         ["--version"] => show(rt, "pumpd 0.1.0"),
         words => match daemon_words(words) {
-            None => Ok(ExitCode::from(2)),
+            None => Ok(wrong_words(rt, "pumpd")),
             Some(Serve::Inetd) => serve_one(rt),
         },
     }
@@ -51,13 +48,4 @@ fn serve_one(rt: &HostRuntime) -> io::Result<ExitCode> {
     let mut source = StdSource::new(rt);
     let mut sink = StdSink::new(rt.clone()?);
     Ok(ExitCode::from(inetd(rt.alloc(), &mut source, &mut sink)))
-}
-
-// The status of an error of the host: a word that is no UTF-8 is a wrong word, and all but want of memory a failed write.
-fn failure(error: &io::Error) -> u8 {
-    match error.kind() {
-        ErrorKind::InvalidData => 2,
-        ErrorKind::OutOfMemory => 5,
-        _ => 4,
-    }
 }

@@ -1,0 +1,190 @@
+#!/bin/sh
+# Tries the programs as a new user would: wrong words, wrong lists, files that can't be read or written, a device that is full, a
+# header that comes and goes. It compares statuses, standard output and what standard error says, and ends with 1 where one differs.
+cd "$(dirname "$0")/.." || exit 1
+top=$PWD
+work=$top/out/programs
+rm -rf "$work"
+mkdir -p "$work/src" || exit 1
+failed=0
+tried=0
+
+# Builds a program as LLVM builds it.
+build() {
+    log=$work/$1.log
+    if ! (cd "crates/$1" && rt run -- --version) > "$log" 2>&1; then
+        cat "$log"
+        exit 1
+    fi
+}
+
+for program in pump_program pumpd lex_program tree_program expand_program; do
+    build $program
+done
+cd "$work" || exit 1
+program() { echo "$top/crates/$1/out/$1"; }
+pump=$(program pump_program)
+daemon=$(program pumpd)
+odd=$(printf 'a\377b')
+: > empty
+
+differs() {
+    echo "differs: $1"
+    failed=1
+}
+
+# compare STATUS OUTPUT ERRORS: compares what the last run of `try` did; the texts are patterns of the shell.
+compare() {
+    [ "$got" = "$1" ] || differs "$said ends with $got, not $1"
+    output=$(cat output)
+    case $output in
+    $2) ;;
+    *) differs "$said writes '$output', not '$2'" ;;
+    esac
+    errors=$(cat errors)
+    case $errors in
+    $3) ;;
+    *) differs "$said says '$errors', not '$3'" ;;
+    esac
+}
+
+# try STATUS OUTPUT ERRORS INPUT COMMAND..: runs a command over a file for its input, and compares what it does.
+try() {
+    wanted=$1 wanted_output=$2 wanted_errors=$3 input=$4
+    shift 4
+    said=$(basename "$1")" $2 $3 < $input"
+    timeout 60 "$@" < "$input" > output 2> errors
+    got=$?
+    tried=$((tried + 1))
+    compare "$wanted" "$wanted_output" "$wanted_errors"
+}
+
+# list STATUS OUTPUT ERRORS LIST: runs the program over a list.
+list() {
+    printf "$4" > list
+    try "$1" "$2" "${3:+pump_program: $3}" list "$pump" order - --hosts localhost -j 1
+}
+
+# full STATUS ERRORS INPUT COMMAND..: runs a command whose output is a full device.
+full() {
+    wanted=$1 wanted_errors=$2 input=$3
+    shift 3
+    said=$(basename "$1")" $2 > /dev/full"
+    "$@" < "$input" > /dev/full 2> errors
+    got=$?
+    tried=$((tried + 1))
+    : > output
+    compare "$wanted" '' "$wanted_errors"
+}
+
+wrong='wrong words; see'
+try 2 'pump: usage' "pump_program: $wrong pump_program --help" empty "$pump"
+try 2 'pump: usage' "pump_program: $wrong pump_program --help" empty "$pump" order - --hosts "$odd" -j 1
+try 2 '' "pumpd: $wrong pumpd --help" empty "$daemon"
+try 2 '' "pumpd: $wrong pumpd --help" empty "$daemon" --port 3632
+try 2 '' "pumpd: $wrong pumpd --help" empty "$daemon" "$odd"
+try 3 '' '' . "$daemon" --inetd
+for name in lex_program tree_program expand_program; do
+    try 2 '' 'usage: *' empty "$(program $name)"
+    try 2 '' "$name: $wrong $name --help" empty "$(program $name)" count "$odd"
+done
+for numbers in '1x 2' '+1 2' '01 2' '-1 2' '4294967296 2'; do
+    try 2 '' 'usage: *' empty "$(program tree_program)" search $numbers
+done
+try 0 '2 found' '' empty "$(program tree_program)" search 3 2
+
+# What is no file, or isn't there.
+mkfifo fifo
+for node in fifo /dev/null src; do
+    try 1 '' "$node: not a file" empty "$(program lex_program)" count $node
+    try 1 '' "$node: not a file" empty "$(program tree_program)" locate $node
+    try 1 '' "$node: not a file" empty "$(program expand_program)" $node
+done
+try 1 '' 'gone.c: No such file or directory*' empty "$(program lex_program)" count gone.c
+
+# Lists that give no job.
+list 3 'pump: list 0: not built' 'list line 1: nothing is in it' ''
+list 3 'pump: list 0: not built' 'list line 1: its line has no end' '/w a.c'
+list 3 'pump: list 0: not built' "list line 1: more than one line isn't built" '/w a.c\n/w b.c\n'
+list 3 'pump: list 0: not built' "list line 1: a comment isn't built" '# a.c\n'
+list 3 'pump: list 0: not built' "list line 1: a *carriage return isn't built" '/w a.c\r\n'
+list 3 'pump: list 0: not built' 'list line 1: no compile words' '/w\n'
+list 3 'pump: list 1: words 1' 'list line 1: no source (words 1)' '/w -c\n'
+list 3 'pump: list 1: words 2' "list line 1: 'b.c': a second source (words 2)" '/w -I i a.c b.c -O2\n'
+list 3 'pump: list 1: words 3' "list line 1: '-q': unknown option (words 3)" '/w -I -q a.c -q -z\n'
+list 3 'pump: list 1: words 4' "list line 1: '-I': no operand (words 4)" '/w -I i a.c -I\n'
+list 3 'pump: list 1: words 7' "list line 1: 'w': no working directory (words 7)" 'w a.c\n'
+try 4 'pump: list read fault' 'pump_program: standard input: Is a directory*' src "$pump" order - --hosts localhost -j 1
+
+# Files that are read, or can't be.
+printf '#include "h.h"\nint x;\n' > src/a.c
+printf 'int y;\n' > src/kept.h
+cp src/kept.h src/h.h
+mkfifo src/fifo.c
+list 0 'job 0 text *' '' "$work/src a.c\n"
+list 1 'job 0 diag *cannot find source*' '' "$work/src fifo.c\n"
+list 1 'job 0 diag *cannot find source*' '' "$work/src ../src\n"
+list 6 'job 0 tree-fault *' '/proc/self/mem: Input/output error*' '/proc/self mem\n'
+if [ "$(id -u)" -ne 0 ]; then
+    cp src/a.c src/closed.c && chmod 000 src/closed.c
+    list 6 'job 0 tree-fault *' "$work/src/closed.c: Permission denied*" "$work/src closed.c\n"
+fi
+
+# Outputs that can't be written.
+list 4 'job 0 out-fault *' 'out/../x.i: the name leads out of the folder' "$work/src a.c -o ../x.i\n"
+list 4 'job 0 out-fault *' 'out/new/: the name is none of a file' "$work/src a.c -o new/\n"
+[ -e out/new ] && differs 'a folder is left behind a name that is refused'
+list 4 'job 0 out-fault *' 'out/a.i/b.i: Not a directory*' "$work/src a.c -o a.i/b.i\n"
+
+# Where a write fails in the middle, the old output stays whole, and nothing else is there.
+awk 'BEGIN { for (i = 0; i < 4000; i++) print "int x;" }' > src/long.c
+printf 'old\n' > out/a.i
+printf '%s\n' "$work/src long.c -o a.i" > list
+(trap '' XFSZ && ulimit -f 8 && exec "$pump" order - --hosts localhost -j 1) < list > output 2> errors
+got=$?
+said='pump_program with a limit on the size of files'
+tried=$((tried + 1))
+compare 4 'job 0 out-fault *' 'pump_program: out/a.i: File too large*'
+[ "$(cat out/a.i)" = old ] || differs 'the old output is gone where the new one was refused'
+[ "$(ls -A out)" = a.i ] || differs 'a part of a refused output is left'
+
+# A device that is full.
+if [ -c /dev/full ]; then
+    space='No space left on device*'
+    printf '%s\n' "$work/src a.c" > list
+    full 4 "pump_program: standard output: $space" list "$pump" order - --hosts localhost -j 1
+    full 4 '' "$top/crates/pumpd/stdin" "$daemon" --inetd
+    for name in pump_program pumpd lex_program tree_program expand_program; do
+        full 4 "$name: $space" empty "$(program $name)" --help
+    done
+else
+    echo 'no /dev/full: what a full device gives is not tried'
+fi
+
+# A header that is removed and made again: a run has its text, or says that it can't be found or read.
+comes_and_goes() {
+    while [ -e going ]; do
+        rm -f src/h.h
+        ln src/kept.h src/h.h
+    done
+}
+: > going
+comes_and_goes &
+writer=$!
+printf '%s\n' "$work/src a.c" > list
+for run in $(seq 200); do
+    rm -f out/a.i
+    "$pump" order - --hosts localhost -j 1 < list > output 2> errors
+    got=$?
+    tried=$((tried + 1))
+    case $got in
+    0) grep -q 'int y;' out/a.i || differs "run $run has a text without its header" ;;
+    1 | 6) ;;
+    *) differs "run $run ends with $got" ;;
+    esac
+done
+rm -f going
+wait $writer
+
+echo "$tried runs of the programs, of which $([ $failed = 0 ] && echo none || echo some) did something else"
+exit $failed
