@@ -1,23 +1,20 @@
 // What a run is given, and what has to come of it.
-ghost use Rattle.std.specs.Prelude.{◌≡◌, ◌<◌, ◌≤◌, [], Some, length, map, All, IfOk, IsTrue, OnOk};
-ghost use Rattle.std.specs.List.{AllByRecursion};
-ghost use Rattle.build_clients.specs.Outside.{seen_end};
-ghost use Rattle.pump_run.specs.Run.{IsFresh};
+ghost use Rattle.std.specs.Prelude.{◌≡◌, ◌<◌, [], All, IfOk, IsTrue, OnOk};
 ghost use Rattle.tree_model.specs.Entries.{links_fit};
 
+use crate::named_run::{Ended, NamedEnd, Objects, end_over, run_named};
 use base_types::Bytes;
-use daemon_serve::{MemWire, ServePeer};
-use io_edges::{Exchange, LinkState, MemOuts, MemSink, MemSource, MemSpawner, Outs, Wire};
-use pump_run::{End, pump};
+use io_edges::{Exchange, LinkState, MemOuts};
 use std::alloc::{AllocError, Global};
+use std::marker::Brand;
 use std::process::Abort;
 use std::sync::Wait;
 use std::test::Fail;
 use std::thread::Threads;
-use tree_model::{CanonPath, Entry, MemTree, Tree, Unnamed};
+use tree_model::{CanonPath, Entry, Unnamed};
 
-/// An end in memory, whose other side is a daemon.
-pub type MemEnd = End<MemTree<Unnamed>, MemWire<ServePeer>, MemOuts>;
+/// An end in memory over a tree that no type names.
+pub type MemEnd = NamedEnd<Unnamed>;
 
 /// A file, by its path and its bytes.
 #[derive(Clone, Copy, Drop)]
@@ -81,86 +78,49 @@ pub fn check_all<R: Threads + Wait + Sync + Abort>(
     Ok(())
 }
 
+// `Brand` names the tree of the run's entries: the proof of this function picks it.
 fn check_run<R: Threads + Wait + Sync + Abort>(
     rt: &R,
     alloc: Global,
     run: &Run<'_>,
 ) -> Result<(), Fail> {
-    let end = end_of(alloc, run)?;
-    let mut ends = vec![in alloc; end]?;
-    run_at(rt, alloc, run, &mut ends)?;
-    check_ends(rt, &ends, run);
+    let list = Bytes::copy_of(alloc, run.list.as_bytes())?;
+    let list_fails = failing(alloc, run.list_fails)?;
+    let entries = entries_of(alloc, run.files)?;
+    let objects = objects_of(alloc, run)?;
+    let ended = run_named::<Brand, R>(rt, alloc, run.words, list, list_fails, entries, objects)?;
+    check_ended(rt, &ended, run);
     Ok(())
 }
 
-// Runs at these ends, and asserts the status and the report.
-fn run_at<T: Tree, W: Wire, O: Outs, R: Threads + Wait + Sync + Abort>(
-    rt: &R,
-    alloc: Global,
-    run: &Run<'_>,
-    ends: &mut Vec<End<T, W, O>>,
-) -> Result<(), AllocError>
-    requires some { 1 ≤ length ends.old.items }
-    requires few { length ends.old.items ≤ 64 }
-    requires fresh { AllByRecursion IsFresh (map (seen_end T.told T.Tree.faults T.reads W.talk W.state W.Wire.faults O.kept O.Outs.faults) ends.old.items) }
-{
-    let mut list = list_of(alloc, run)?;
-    let mut spawner = MemSpawner::new(alloc, Vec::new(alloc));
-    let mut report = MemSink::new(alloc, Vec::new(alloc));
-    let status = pump(
-        rt,
-        alloc,
-        run.words,
-        &mut list,
-        ends,
-        &mut spawner,
-        &mut report,
-    );
-    check_text(rt, run.name, report.bytes(), run.report);
-    check(rt, status == run.status, run.name, "the status");
-    Ok(())
-}
-
-/// An end over the given files, at which no call was made.
+/// An end over the given files, which no type names, at which no call was made.
 pub fn end_of(alloc: Global, run: &Run<'_>) -> Result<MemEnd, Fail>
     ensures closed { IfOk result (λ end. end.wire.state ≡ LinkState.Closed) }
     ensures silent { IfOk result (λ end. end.wire.talk ≡ []) }
-    ensures wire_faults { IfOk result (λ end. end.wire.faults ≡ 0) }
-    ensures kept { IfOk result (λ end. ⟦<MemOuts as Outs>⟧.kept end.outs ≡ Some []) }
-    ensures outs_faults { IfOk result (λ end. ⟦<MemOuts as Outs>⟧.faults end.outs ≡ 0) }
-    ensures tree_faults { IfOk result (λ end. ⟦<MemTree<Unnamed> as Tree>⟧.faults end.tree ≡ 0) }
 {
-    let outs = MemOuts::new(alloc, failing(alloc, run.outs_fails)?);
-    let tree = tree_of(alloc, run)?;
-    let wire = wire_of(alloc, run)?;
-    Ok(End { tree, wire, outs })
-}
-
-fn tree_of(alloc: Global, run: &Run<'_>) -> Result<MemTree<Unnamed>, Fail>
-    ensures faults { IfOk result (λ tree. ⟦<MemTree<Unnamed> as Tree>⟧.faults tree ≡ 0) }
-{
-    let fails = failing(alloc, run.tree_fails)?;
     let entries = entries_of(alloc, run.files)?;
-    Ok(MemTree::new(alloc, entries, fails)?)
+    let objects = objects_of(alloc, run)?;
+    Ok(end_over::<Unnamed>(alloc, entries, objects)?)
 }
 
-fn wire_of(alloc: Global, run: &Run<'_>) -> Result<MemWire<ServePeer>, AllocError>
-    ensures closed { IfOk result (λ wire. wire.state ≡ LinkState.Closed) }
-    ensures silent { IfOk result (λ wire. wire.talk ≡ []) }
-    ensures faults { IfOk result (λ wire. wire.faults ≡ 0) }
+fn objects_of(alloc: Global, run: &Run<'_>) -> Result<Objects, AllocError>
+    ensures { IfOk result (λ objects. All (λ n. 0 < n) objects.pieces.items) }
 {
-    let mut failing = Vec::new(alloc);
-    if run.wire_fails > 0 {
-        failing.push((0, run.wire_fails))?;
-    }
-    let lengths = pieces(alloc, run.piece)?;
-    Ok(MemWire::new(alloc, ServePeer, lengths, failing))
+    Ok(Objects {
+        tree_fails: failing(alloc, run.tree_fails)?,
+        outs_fails: failing(alloc, run.outs_fails)?,
+        wire_fails: failing_exchange(alloc, run.wire_fails)?,
+        pieces: pieces(alloc, run.piece)?,
+    })
 }
 
-fn list_of(alloc: Global, run: &Run<'_>) -> Result<MemSource, AllocError> {
-    let fails = failing(alloc, run.list_fails)?;
-    let bytes = Bytes::copy_of(alloc, run.list.as_bytes())?;
-    Ok(MemSource::new(bytes, fails))
+// The call of the first exchange that fails.
+fn failing_exchange(alloc: Global, number: u32) -> Result<Vec<(u32, u32)>, AllocError> {
+    let mut calls = Vec::new(alloc);
+    if number > 0 {
+        calls.push((0, number))?;
+    }
+    Ok(calls)
 }
 
 // The number of the call that fails.
@@ -226,13 +186,12 @@ pub fn check_text<R: Abort>(rt: &R, name: &str, bytes: &[u8], text: &str) {
     assert_eq!(rt; found, text, "{name}");
 }
 
-// Asserts that there is one end, with the text and the exchange that are wanted.
-fn check_ends<R: Abort>(rt: &R, ends: &[MemEnd], run: &Run<'_>) {
-    check(rt, ends.len() == 1, run.name, "the ends");
-    for end in ends {
-        check_put(rt, run.name, &end.outs, run.text);
-        check_exchanges(rt, end.wire.exchanges(), run);
-    }
+// Asserts the status, the report, the text and the exchange that are wanted.
+fn check_ended<R: Abort>(rt: &R, ended: &Ended, run: &Run<'_>) {
+    check_text(rt, run.name, ended.report.bytes(), run.report);
+    check(rt, ended.status == run.status, run.name, "the status");
+    check_put(rt, run.name, &ended.outs, run.text);
+    check_exchanges(rt, ended.wire.exchanges(), run);
 }
 
 // How many there are where an empty text means none.

@@ -1,5 +1,8 @@
 //! Worked examples of whole runs, and of the steps of one job at its client. Each run gives the words, the list and a tree in memory, and the calls of the outside that
 //! fail; and says the status, the report, the text that is put and the exchange with the daemon that have to come of them.
+//!
+//! Each run goes through `run_named`, whose type names the run's tree. Its contract says in plain words what the clause on `pump` gives there: the text that was put,
+//! or the diagnostic that was told, is the one of preprocessing over that whole tree.
 #![tactic(auto)]
 
 #[cfg(test)]
@@ -12,9 +15,12 @@ mod example;
 mod faults;
 #[cfg(test)]
 mod header;
+mod named_run;
 #[cfg(test)]
 mod refusals;
 #[cfg(test)]
 mod runs;
 #[cfg(test)]
 mod texts;
+
+pub use named_run::{Ended, NoRun, Objects, run_named};
