@@ -1,0 +1,5 @@
+pub mod Histories
+pub mod Keys
+pub mod Memos
+pub mod Ranges
+pub mod Values

@@ -1,0 +1,41 @@
+-- The values that are kept under numbers, once a place was added or a value put.
+use Rattle.std.proofs.Common.{arith, ◌≡◌, ℕ, zero, suc, ◌+◌, ◌<◌, ◌≤◌, Bool, true, false, ◌==◌, cond, nat_lt, List, [], ◌∷◌, ◌++◌, length, slice_set, Option, Some, None, refl, ap, ◌∙◌, inl, inr, ◌⊎◌}
+use Rattle.std.proofs.lemmas.Grind.{common_steps}
+use Rattle.std.proofs.lemmas.List.{length-append}
+use Rattle.closure_memo.specs.Memo.{value_at, with_place}
+
+-- an empty place at the end has no value
+value_snoc : {V : Type 0} (values : List (Option V)) (n : ℕ) → value_at n (values ++ None ∷ []) ≡ value_at n values
+value_snoc [] zero = refl
+value_snoc [] (suc n) = refl
+value_snoc (v ∷ values) zero = refl
+value_snoc (v ∷ values) (suc n) = value_snoc values n
+
+pub value_placed : {V : Type 0} (number : ℕ) (values : List (Option V)) (n : ℕ) → value_at n (with_place number values) ≡ value_at n values
+value_placed number values n = go (nat_lt number (length values)) refl
+  where
+    go : (b : Bool) → nat_lt number (length values) ≡ b → value_at n (with_place number values) ≡ value_at n values
+    go true e = ap (λ b. value_at n (cond b values (values ++ None ∷ []))) e
+    go false e = ap (λ b. value_at n (cond b values (values ++ None ∷ []))) e ∙ value_snoc values n
+
+-- the values grow by a place exactly where the number is the next
+pub places_grow : {V : Type 0} (number : ℕ) (values : List (Option V)) → number ≤ length values
+    → ((number < length values) × (length (with_place number values) ≡ length values)) ⊎ ((number ≡ length values) × (length (with_place number values) ≡ length values + 1))
+places_grow number values within = go (nat_lt number (length values)) refl
+  where
+    go : (b : Bool) → nat_lt number (length values) ≡ b
+        → ((number < length values) × (length (with_place number values) ≡ length values)) ⊎ ((number ≡ length values) × (length (with_place number values) ≡ length values + 1))
+    go true e = inl (grind (arith, common_steps, e), ap (λ b. length (cond b values (values ++ None ∷ []))) e)
+    go false e = inr (grind (arith, common_steps, e, within), ap (λ b. length (cond b values (values ++ None ∷ []))) e ∙ length-append values (None ∷ []))
+
+pub value_set_here : {V : Type 0} (values : List (Option V)) (number : ℕ) (v : V) → number < length values → value_at number (slice_set values number (Some v)) ≡ Some v
+value_set_here [] number v less = absurd (omega (arith, less))
+value_set_here (w ∷ values) zero v less = refl
+value_set_here (w ∷ values) (suc number) v less = value_set_here values number v (omega (arith, less))
+
+pub value_set_else : {V : Type 0} (values : List (Option V)) (number n : ℕ) (v : V) → (number == n) ≡ false → value_at n (slice_set values number (Some v)) ≡ value_at n values
+value_set_else [] number n v other = refl
+value_set_else (w ∷ values) zero zero v other = absurd (grind (arith, common_steps, other))
+value_set_else (w ∷ values) zero (suc n) v other = refl
+value_set_else (w ∷ values) (suc number) zero v other = refl
+value_set_else (w ∷ values) (suc number) (suc n) v other = value_set_else values number n v (grind (arith, common_steps, other))
