@@ -1,0 +1,10 @@
+//! The numbers of jobs, which threads draw: each number once.
+#![tactic(auto)]
+
+#[cfg(test)]
+mod tests;
+mod tickets;
+mod view;
+
+pub use tickets::{Seat, Tickets};
+pub use view::View;
