@@ -67,7 +67,8 @@ impl MacroTable {
         ensures ok { OnOk result (self.new ≡ with_definition self.old name (Some definition)) }
         ensures err { OnErr result (self.new ≡ self.old) }
     {
-        match self.entries.insert(name.into_vec(), Some(definition)) {
+        let key = name.into_vec()?;
+        match self.entries.insert(key, Some(definition)) {
             Ok(_) => Ok(()),
             Err(_) => Err(AllocError),
         }

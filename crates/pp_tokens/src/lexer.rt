@@ -71,17 +71,19 @@ struct Gathering {
 }
 
 impl Gathering {
-    fn new(alloc: Global) -> Gathering
-        ensures { GathersNothing result }
+    // Nothing, with room for what a text of so many bytes usually holds: in C a token and the gap behind it are some
+    // five bytes. A place that isn't taken costs no memory page.
+    fn with_room(alloc: Global, bytes: usize) -> Result<Gathering, AllocError>
+        ensures { IfOk result (λ g. GathersNothing g) }
     {
-        Gathering {
-            places: Vec::new(alloc),
+        Ok(Gathering {
+            places: Vec::with_capacity(alloc, bytes / 5)?,
             ends: Vec::new(alloc),
             unended: None,
             before: Before::Nothing,
             begun: false,
             space: true,
-        }
+        })
     }
 
     fn end_line(&mut self) -> Result<(), AllocError>
@@ -195,7 +197,7 @@ fn gather(alloc: Global, text: &[u8], splices: &[u32]) -> Result<Gathering, Allo
     ensures file { IfOk result (λ g. seen_file text.now g.places.items g.ends.items g.unended ≡ file_of (elements zero [] (lined splices.now 0 1 text.now))) }
     ensures gathered { IfOk result (λ g. IsGathered text.now g) }
 {
-    let mut gathering = Gathering::new(alloc);
+    let mut gathering = Gathering::with_room(alloc, text.len())?;
     let mut unpaired = Unpaired::new();
     // The line of a place is `base`, one more than the newlines before it, and the splices up to it.
     let mut base = 1usize;

@@ -9,7 +9,7 @@ use Rattle.pp_tokens.proofs.LaterPlaces.{known_later}
 use Rattle.pp_tokens.proofs.Splices.{up_to_all, up_to_later}
 use Rattle.pp_tokens.proofs.LexSteps.{first_within, first_is_part, nothing_gathered, lex_start, lex_step, lex_end}
 use Rattle.pp_tokens.proofs.lexer.gather.Goals as goal
-use Rattle.pp_tokens.proofs.lexer.gather.Goals.{After-gathering-1}
+use Rattle.pp_tokens.proofs.lexer.gather.Goals.{After-gathering-in-loop-at-1}
 
 pub loop-at-init : goal.loop-at-init
 loop-at-init c = record {
@@ -17,20 +17,20 @@ loop-at-init c = record {
   counted = omega arith;
   passes = omega arith;
   known = c.new-unpaired.ensures c.args.text.now 0;
-  few = rw c.new-gathering.ensures.places (omega arith);
-  gathered = nothing_gathered c.args.text.now c.new-gathering.result c.new-gathering.ensures;
-  state = lex_start c.args.text.now c.args.splices.now c.new-gathering.result c.new-gathering.ensures;
+  few = rw c.in_ok-gathering.ensures.places (omega arith);
+  gathered = nothing_gathered c.args.text.now c.in_ok-gathering.gathering c.in_ok-gathering.ensures;
+  state = lex_start c.args.text.now c.args.splices.now c.in_ok-gathering.gathering c.in_ok-gathering.ensures;
 }
 
 -- what stands first isn't empty, and lies within the text
-size_is : (c : After-gathering-1) → (0 < c.next_part-what.result.1) × (c.loop-at.at + c.next_part-what.result.1 ≤ length c.args.text.now)
+size_is : (c : After-gathering-in-loop-at-1) → (0 < c.next_part-what.result.1) × (c.loop-at.at + c.next_part-what.result.1 ≤ length c.args.text.now)
 size_is c =
     let rest = drop c.loop-at.at c.args.text.now in
     let some : 0 < length rest = omega (arith, length-drop c.loop-at.at c.args.text.now, c.loop-at-test.true) in
     let is = first_within c.is_due.result rest (part_told c.next_part-what.result.0) c.next_part-what.result.1 some c.next_part-what.ensures.part in
     (is.0, omega (arith, is.1, length-drop c.loop-at.at c.args.text.now, c.loop-at-test.true))
 
-line_small : (c : After-gathering-1) → c.loop-at.base + c.splices_passed-passed.result ≤ 16777218
+line_small : (c : After-gathering-in-loop-at-1) → c.loop-at.base + c.splices_passed-passed.result ≤ 16777218
 line_small c =
     omega (arith, c.loop-at.invariant.counted, c.loop-at-test.true, c.splices_passed-passed.ensures, up_to_all c.args.splices.now c.loop-at.at, c.requires.small)
 
@@ -44,7 +44,7 @@ pub add-requires-clause-within : goal.add-requires-clause-within
 add-requires-clause-within c = (size_is c).1
 
 pub stretch-requires : goal.stretch-requires
-stretch-requires c = (size_is (goal.at.stretch-requires c).After-gathering-1).1
+stretch-requires c = (size_is (goal.at.stretch-requires c).After-gathering-in-loop-at-1).1
 
 pub newlines-base-requires : goal.newlines-base-requires
 newlines-base-requires c =
@@ -56,14 +56,14 @@ newlines-base-requires c =
     }
 
 pub overflow_add-at : goal.overflow_add-at
-overflow_add-at c = omega (arith, (size_is (goal.at.overflow_add-at c).After-gathering-1).1, c.requires.small)
+overflow_add-at c = omega (arith, (size_is (goal.at.overflow_add-at c).After-gathering-in-loop-at-1).1, c.requires.small)
 
 pub loop-at-smaller : goal.loop-at-smaller
-loop-at-smaller c = let size = size_is (goal.at.loop-at-smaller c).After-gathering-1 in omega (arith, size.0, size.1)
+loop-at-smaller c = let size = size_is (goal.at.loop-at-smaller c).After-gathering-in-loop-at-1 in omega (arith, size.0, size.1)
 
 pub loop-at-preserved : goal.loop-at-preserved
 loop-at-preserved c =
-    let size = size_is (goal.at.loop-at-preserved c).After-gathering-1 in
+    let size = size_is (goal.at.loop-at-preserved c).After-gathering-in-loop-at-1 in
     let text = c.args.text.now in
     let splices = c.args.splices.now in
     let at = c.loop-at.at in
