@@ -1,5 +1,5 @@
 -- Tokens that are laid out one by one, in the order of a list.
-use Rattle.std.proofs.Common.{◌≡◌, ℕ, ◌+◌, ◌≤◌, ◌<◌, List, ◌∷◌, ◌++◌, length, get_or, map, drop, append_assoc, length-append, add-one, suc, drop-cons, arith, sym, ◌∙◌, ap, append-nil, drop_of_length-le}
+use Rattle.std.proofs.Common.{◌≡◌, refl, ℕ, ◌+◌, ◌≤◌, ◌<◌, List, [], ◌∷◌, ◌++◌, length, get_or, map, drop, append_assoc, length-append, add-one, suc, drop-cons, arith, sym, ◌∙◌, ap, append-nil, drop_of_length-le}
 use Rattle.pp_tokens.specs.declared.Token.{Token}
 use Rattle.cpp_output.specs.declared.last.Last.{Last}
 use Rattle.cpp_output.specs.Layout.{put, gap, last_of, on_line}
@@ -36,6 +36,26 @@ run_longer ts i t seen s all below is same invariant =
 pub run_done : (ts : List Token) (i : ℕ) (s all : Laid) → length ts ≤ i → after_events s (map put (drop i ts)) ≡ all → s ≡ all
 unfolding after_events
 run_done ts i s all past invariant = ap (λ us. after_events s (map put us)) (sym (drop_of_length-le ts past)) ∙ invariant
+
+-- the same, where the tokens that are left are a list of their own
+pub left_turn : (before rest : List Token) (t : Token) (s next all : Laid) → before ≡ t ∷ rest → next ≡ after_event s (put t)
+    → after_events s (map put before) ≡ all → after_events next (map put rest) ≡ all
+unfolding after_events
+left_turn before rest t s next all is grown invariant =
+    ap (λ n. after_events n (map put rest)) grown ∙ ap (λ us. after_events s (map put us)) (sym is) ∙ invariant
+
+pub left_longer : (before rest : List Token) (t : Token) (s all : Laid) → before ≡ t ∷ rest → after_events s (map put before) ≡ all
+    → length (after_event s (put t)).text ≤ length all.text
+left_longer before rest t s all is invariant =
+    omega (
+      arith,
+      longer-after (map put rest) (after_event s (put t)),
+      ap (λ (l : Laid). length l.text) (left_turn before rest t s (after_event s (put t)) all is refl invariant),
+    )
+
+pub left_done : (before : List Token) (s all : Laid) → before ≡ [] → after_events s (map put before) ≡ all → s ≡ all
+unfolding after_events
+left_done before s all none invariant = ap (λ us. after_events s (map put us)) (sym none) ∙ invariant
 
 line_step : (ts : List Token) (i : ℕ) (t : Token) (text : List ℕ) (last : Last) (all : List ℕ) → i < length ts → t ≡ get_or ts i t
     → text ++ on_line last (drop i ts) ≡ all → (text ++ (gap last t ++ t.text)) ++ on_line (last_of t.text) (drop (i + 1) ts) ≡ all

@@ -1,6 +1,6 @@
 // The layout of preprocessed output: a text that grows token by token.
 ghost use Rattle.std.specs.Prelude.{◌≡◌, ◌<◌, ◌≤◌, ◌++◌, List, [], length, map, max, IfOk, OnOk, IsErrOf};
-ghost use Rattle.pp_tokens.specs.Tokens.{token_seen};
+ghost use Rattle.pp_tokens.specs.Tokens.{rest_of, token_seen};
 ghost use Rattle.cpp_output.specs.Layout.{Event, enter, back, mark, put, pragma, text_limit, marker, fresh, newlines, last_at, last_of, gap, on_line};
 ghost use Rattle.cpp_output.specs.Laid.{begun, after_event, after_events, finished};
 ghost use Rattle.cpp_output.specs.declared.layout.LayError.TheVariants.{Memory};
@@ -8,7 +8,7 @@ ghost use Rattle.cpp_output.specs.declared.layout.LayError.TheVariants.{Memory};
 use crate::last::Last;
 use crate::text::Text;
 use base_types::Bytes;
-use pp_tokens::{Token, TokenRef};
+use pp_tokens::{Token, TokenRef, Tokens};
 use std::alloc::{AllocError, Global};
 use std::marker::Model;
 
@@ -128,6 +128,19 @@ impl Layout {
         let _ = &self.text;
         for token in tokens {
             self.put(&lent(token))?;
+        }
+        Ok(())
+    }
+
+    /// The tokens of a stretch of a lexed file, one after another.
+    pub fn stretch(&mut self, tokens: Tokens<'_>) -> Result<(), LayError>
+        ensures ok { OnOk result ((self.new ≡ after_events self.old (map put (rest_of tokens.entry))) × (length self.new.text ≤ text_limit)) }
+        ensures full { IsErrOf result LayError.Full → text_limit < length (after_events self.old (map put (rest_of tokens.entry))).text }
+    {
+        // With no tokens, the limit is kept since it was kept before.
+        let _ = &self.text;
+        for token in tokens {
+            self.put(&token)?;
         }
         Ok(())
     }

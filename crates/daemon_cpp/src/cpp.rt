@@ -21,9 +21,9 @@ use crate::opening::{Opened, open_file, refused};
 use crate::pieces::{Move, Places, run_piece};
 use crate::tree::{absolute_text, find_file};
 use crate::{CppError, Outcome};
-use base_types::{Bytes, List};
+use base_types::Bytes;
 use cpp_output::{LayError, Layout};
-use directive_scan::Piece;
+use directive_scan::Pieces;
 use job_words::Job;
 use search_path::{Setup, Visit, forced_ask, source_ask};
 use std::alloc::{AllocError, Global};
@@ -146,12 +146,12 @@ fn finish(alloc: Global, layout: Layout, source: &CanonPath) -> Result<Outcome, 
 struct OpenFile {
     visit: Visit,
     real: CanonPath,
-    pieces: List<Piece>,
+    pieces: Pieces,
     next: usize,
 }
 
 impl OpenFile {
-    fn new(found: (Visit, Located), pieces: List<Piece>) -> OpenFile
+    fn new(found: (Visit, Located), pieces: Pieces) -> OpenFile
         ensures { result ≡ opened_file found pieces }
     {
         let (visit, Located { real, .. }) = found;
@@ -167,7 +167,7 @@ impl OpenFile {
     fn copy_of(
         alloc: Global,
         found: &(Visit, Located),
-        pieces: List<Piece>,
+        pieces: Pieces,
     ) -> Result<OpenFile, AllocError>
         ensures { IfOk result (λ file. file ≡ opened_file found.now pieces) }
     {
@@ -248,7 +248,7 @@ impl Reader {
         ensures leads { IfOk result (λ reader. (world : World) (forced : List Text) → ComesTo (source_behind world source.now forced) reader (begun_outcome world source.now forced layout)) }
     {
         let place = source.0.place.copy(alloc)?;
-        let file = OpenFile::copy_of(alloc, source, List::new(alloc))?;
+        let file = OpenFile::copy_of(alloc, source, Pieces::empty(alloc))?;
         Ok(Reader {
             source: place,
             layout,
@@ -418,7 +418,7 @@ impl Reader {
         ensures advances { IfOk result (Advances (work_ahead self.old) self.new) }
         ensures cause { HasCause CppError.Fault (T.faults tree.old) (T.faults tree.new) result }
     {
-        let piece = &self.file.pieces.as_slice()[self.file.next];
+        let piece = self.file.pieces.piece(self.file.next);
         let places = Places {
             setup,
             source: &self.source,

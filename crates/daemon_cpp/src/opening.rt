@@ -13,9 +13,8 @@ ghost use Rattle.daemon_cpp.specs.Reading.{Opens, inside, front_events, run_piec
 use crate::CppError;
 use crate::diagnostic::{Diagnostic, Problem};
 use crate::tree::read_body;
-use base_types::List;
 use cpp_output::{LayError, Layout};
-use directive_scan::{Malformed, Piece, malformed, nesting_told, one_outline, scan};
+use directive_scan::{Malformed, Pieces, nesting_told, one_outline};
 use pp_tokens::{Lexed, lex};
 use search_path::{Setup, Visit};
 use std::alloc::Global;
@@ -25,7 +24,7 @@ use tree_model::{CanonPath, Located, Tree, shown};
 #[derive(Drop)]
 pub enum Opened {
     // Its pieces.
-    Pieces(List<Piece>),
+    Pieces(Pieces),
     // The first diagnostic.
     Refused(Diagnostic),
 }
@@ -57,7 +56,7 @@ pub fn open_file<T: Tree>(
         return refused(alloc, source, 0, Problem::WorkLimit);
     };
     *left = rest;
-    open_lexed(alloc, layout, source, &visit.place, included, &lexed)
+    open_lexed(alloc, layout, source, &visit.place, included, lexed)
 }
 
 // A diagnostic at a line of the file at a place.
@@ -95,18 +94,18 @@ fn open_lexed(
     source: &CanonPath,
     place: &CanonPath,
     included: bool,
-    lexed: &Lexed,
+    lexed: Lexed,
 ) -> Result<Opened, CppError>
     requires { length layout.old.text ≤ text_limit }
-    ensures opens { IfOk result (λ opened. (world : World) (entering : Entering) (state : State) → state.source ≡ source.now → state.here.place ≡ place.now → state.output ≡ layout.old → Opens world entering (record state { output = layout.new }) opened (run_file world entering (front_events included place.now) lexed.now lexed.now.unended state)) }
+    ensures opens { IfOk result (λ opened. (world : World) (entering : Entering) (state : State) → state.source ≡ source.now → state.here.place ≡ place.now → state.output ≡ layout.old → Opens world entering (record state { output = layout.new }) opened (run_file world entering (front_events included place.now) lexed lexed.unended state)) }
     ensures within { IfOk result (KeepsLimit layout.new) }
-    ensures few { IfOk result (HasAtMost (suc (token_count lexed.now.lines + token_count lexed.now.lines))) }
+    ensures few { IfOk result (HasAtMost (suc (token_count lexed.lines + token_count lexed.lines))) }
     ensures no_fault { IsErrOf result CppError.Fault → ⊥ }
 {
     if let Some(line) = lexed.open_comment() {
         return refused(alloc, place, line, Problem::OpenComment);
     }
-    let pieces = scan(alloc, lexed)?;
+    let pieces = Pieces::of(alloc, lexed)?;
     open_pieces(alloc, layout, source, place, included, pieces)
 }
 
@@ -117,7 +116,7 @@ fn open_pieces(
     source: &CanonPath,
     place: &CanonPath,
     included: bool,
-    pieces: List<Piece>,
+    pieces: Pieces,
 ) -> Result<Opened, CppError>
     requires { length layout.old.text ≤ text_limit }
     ensures opens { IfOk result (λ opened. (world : World) (entering : Entering) (state : State) → state.source ≡ source.now → state.here.place ≡ place.now → state.output ≡ layout.old → Opens world entering (record state { output = layout.new }) opened (run_outline world entering (front_events included place.now) (outline role_of pieces) state)) }
@@ -127,7 +126,7 @@ fn open_pieces(
 {
     nesting_told();
     one_outline();
-    if let Some(what) = malformed(alloc, pieces.as_slice())? {
+    if let Some(what) = pieces.malformed(alloc)? {
         return refuse_malformed(alloc, place, what);
     }
     announce(alloc, layout, source, place, included, pieces)
@@ -153,7 +152,7 @@ fn announce(
     source: &CanonPath,
     place: &CanonPath,
     included: bool,
-    pieces: List<Piece>,
+    pieces: Pieces,
 ) -> Result<Opened, CppError>
     requires { length layout.old.text ≤ text_limit }
     ensures opens { IfOk result (λ opened. (world : World) (entering : Entering) (state : State) → state.source ≡ source.now → state.output ≡ layout.old → Opens world entering (record state { output = layout.new }) opened (and_then (λ after. run_pieces world entering pieces after) (say (front_events included place.now) state))) }

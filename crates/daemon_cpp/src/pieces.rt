@@ -3,7 +3,9 @@ ghost use Rattle.std.specs.Prelude.{◌≡◌, ◌≤◌, length, Some, IfOk, Is
 ghost use Rattle.std.specs.Option.{ForSome};
 ghost use Rattle.base_types.specs.Causes.{HasCause};
 ghost use Rattle.cpp_output.specs.Layout.{text_limit};
+ghost use Rattle.pp_tokens.specs.Tokens.{rest_of};
 ghost use Rattle.tree_model.specs.Paths.{spelled};
+ghost use Rattle.directive_scan.specs.Spots.{directive_seen, piece_seen};
 ghost use Rattle.directive_scan.specs.declared.Target.TheVariants.{Plain};
 ghost use Rattle.daemon_cpp.specs.Diagnostics.{diagnostic_text};
 ghost use Rattle.daemon_cpp.specs.Problems.{complaint_of};
@@ -15,8 +17,8 @@ use crate::CppError;
 use crate::diagnostic::{Diagnostic, Problem};
 use crate::tree::find_file;
 use cpp_output::{LayError, Layout};
-use directive_scan::{Directive, HeaderName, Piece, Target};
-use pp_tokens::Token;
+use directive_scan::{Directive, DirectiveRef, HeaderName, PieceRef, Target};
+use pp_tokens::Tokens;
 use search_path::{Setup, Visit, header_ask};
 use std::alloc::Global;
 use tree_model::{CanonPath, Located, Tree};
@@ -46,44 +48,63 @@ pub fn run_piece<T: Tree>(
     tree: &mut T,
     layout: &mut Layout,
     places: Places<'_>,
-    piece: &Piece,
+    piece: PieceRef<'_>,
 ) -> Result<Move, CppError>
     requires { length layout.old.text ≤ text_limit }
     ensures same { T.told tree.new ≡ T.told tree.old }
-    ensures leads { ForSome (T.told tree.old) (λ told. IfOk result (λ move. (entering : Entering) (state : State) → state.source ≡ places.entry.source.now → visit_of state.here ≡ places.entry.here.now → state.output ≡ layout.old → Leads entering (record state { output = layout.new }) move (piece_step (world_of told places.entry.setup.now) entering piece.now state))) }
+    ensures leads { ForSome (T.told tree.old) (λ told. IfOk result (λ move. (entering : Entering) (state : State) → state.source ≡ places.entry.source.now → visit_of state.here ≡ places.entry.here.now → state.output ≡ layout.old → Leads entering (record state { output = layout.new }) move (piece_step (world_of told places.entry.setup.now) entering (piece_seen piece.entry) state))) }
     ensures within { IfOk result (StaysWithin layout.new) }
     ensures cause { HasCause CppError.Fault (T.faults tree.old) (T.faults tree.new) result }
 {
     match piece {
-        Piece::Run { tokens } => run_text(alloc, layout, places, tokens.as_slice()),
-        Piece::Line { at, what } => run_directive(alloc, tree, layout, places, *at, what),
+        PieceRef::Run(tokens) => run_text(alloc, layout, places, tokens),
+        PieceRef::Line { at, what } => run_line(alloc, tree, layout, places, at, what),
     }
 }
 
-// Tokens of text.
+// A directive on a line, whose tokens are made here.
+fn run_line<T: Tree>(
+    alloc: Global,
+    tree: &mut T,
+    layout: &mut Layout,
+    places: Places<'_>,
+    at: u32,
+    line: DirectiveRef<'_>,
+) -> Result<Move, CppError>
+    requires { length layout.old.text ≤ text_limit }
+    ensures same { T.told tree.new ≡ T.told tree.old }
+    ensures leads { ForSome (T.told tree.old) (λ told. IfOk result (λ move. (entering : Entering) (state : State) → state.source ≡ places.entry.source.now → visit_of state.here ≡ places.entry.here.now → state.output ≡ layout.old → Leads entering (record state { output = layout.new }) move (directive_step (world_of told places.entry.setup.now) entering at (directive_seen line.entry) state))) }
+    ensures within { IfOk result (StaysWithin layout.new) }
+    ensures cause { HasCause CppError.Fault (T.faults tree.old) (T.faults tree.new) result }
+{
+    let what = line.read(alloc)?;
+    run_directive(alloc, tree, layout, places, at, &what)
+}
+
+// Tokens of text: each goes from the file straight into the output.
 fn run_text(
     alloc: Global,
     layout: &mut Layout,
     places: Places<'_>,
-    tokens: &[Token],
+    tokens: Tokens<'_>,
 ) -> Result<Move, CppError>
     requires { length layout.old.text ≤ text_limit }
-    ensures leads { IfOk result (λ move. (entering : Entering) (state : State) → state.source ≡ places.entry.source.now → visit_of state.here ≡ places.entry.here.now → state.output ≡ layout.old → Leads entering (record state { output = layout.new }) move (text_step tokens.now (reserved_line tokens.now) state)) }
+    ensures leads { IfOk result (λ move. (entering : Entering) (state : State) → state.source ≡ places.entry.source.now → visit_of state.here ≡ places.entry.here.now → state.output ≡ layout.old → Leads entering (record state { output = layout.new }) move (text_step (rest_of tokens.entry) (reserved_line (rest_of tokens.entry)) state)) }
     ensures within { IfOk result (StaysWithin layout.new) }
     ensures no_fault { IsErrOf result CppError.Fault → ⊥ }
 {
     match reserved_line(tokens) {
         Some(line) => ended(alloc, &places.here.place, line, Problem::NotBuilt),
         None => {
-            let laid = layout.run(tokens);
+            let laid = layout.stretch(tokens);
             laid_out(alloc, places.source, laid)
         }
     }
 }
 
 /// The line of the first identifier that begins with two underscores.
-pub fn reserved_line(tokens: &[Token]) -> Option<u32>
-    ensures { result ≡ reserved_line tokens.now }
+pub fn reserved_line(tokens: Tokens<'_>) -> Option<u32>
+    ensures { result ≡ reserved_line (rest_of tokens.entry) }
 {
     for token in tokens {
         if token.is_reserved() {

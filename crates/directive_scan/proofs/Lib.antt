@@ -1,5 +1,7 @@
 mod Lines
 mod Steps
+mod Spotted
+mod Roles
 mod Outlines
 mod OneOutline
 mod OpenFronts

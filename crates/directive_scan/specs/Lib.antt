@@ -1,6 +1,7 @@
 -- What the directives of a file are, and how they nest.
 --     Directives    the pieces of a file: runs of text lines, and directives
 --     Gathered      how the pieces of a file come together, line by line
+--     Spots         where the pieces of a file lie in its lexed form
 --     HeaderNames   the header name that expanded tokens give
 --     Groups        how pieces nest, and what is wrong where they don't
 --     OpenStack     the open conditionals of a file, piece by piece
@@ -9,3 +10,4 @@ pub mod Gathered
 pub mod HeaderNames
 pub mod Groups
 pub mod OpenStack
+pub mod Spots

@@ -9,6 +9,8 @@ use Rattle.directive_scan.specs.declared.conditional.BranchName.{BranchName}
 use Rattle.directive_scan.specs.declared.conditional.BranchName.TheVariants as name
 use Rattle.directive_scan.specs.declared.conditional.Malformed.{Malformed}
 use Rattle.directive_scan.specs.declared.conditional.Malformed.TheVariants.{WithoutIf, AfterElse, Unended}
+use Rattle.directive_scan.specs.declared.role.Nesting.{Nesting}
+use Rattle.directive_scan.specs.declared.role.Nesting.TheVariants as nesting
 use Rattle.directive_scan.specs.declared.outline.Open.{Open}
 
 -- an open conditional more around those of a result
@@ -46,6 +48,14 @@ directive_step at (directive.Elif ts) os = branch_step name.Elif at os
 directive_step at directive.Else os = branch_step name.Else at os
 directive_step at directive.Endif os = endif_step at os
 directive_step at _ os = inr os
+
+-- the same, by what a directive is to the nesting
+abbrev pub nesting_step : ℕ → Nesting → List Open → Malformed ⊎ List Open
+nesting_step at nesting.Single os = inr os
+nesting_step at nesting.Opening os = inr (os ++ record { at = at; else_seen = false } ∷ [])
+nesting_step at (nesting.Branch name.Elif) os = branch_step name.Elif at os
+nesting_step at (nesting.Branch name.Else) os = branch_step name.Else at os
+nesting_step at (nesting.Branch name.Endif) os = endif_step at os
 
 -- a piece's effect
 abbrev pub open_step : List Open → Piece → Malformed ⊎ List Open

@@ -6,11 +6,15 @@ mod directive;
 mod header;
 mod law;
 mod outline;
+mod pieces;
+mod role;
 mod scanner;
+mod spots;
 
 pub use conditional::{BranchName, Malformed};
 pub use directive::{Directive, HeaderName, Piece, Target};
 pub use header::header_of;
 pub use law::{nesting_told, one_outline, outline_holds};
-pub use outline::malformed;
+pub use pieces::{DirectiveRef, PieceRef, Pieces};
+pub use role::Nesting;
 pub use scanner::scan;

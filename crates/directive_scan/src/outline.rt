@@ -1,11 +1,14 @@
 // How the conditionals of a file nest.
-ghost use Rattle.std.specs.Prelude.{◌≡◌, ◌++◌, ◌∷◌, [], false, IfOk};
+ghost use Rattle.std.specs.Prelude.{◌≡◌, ◌++◌, ◌∷◌, [], false, map, IfOk};
 ghost use Rattle.std.proofs.Common.{inr};
+ghost use Rattle.pp_tokens.specs.Lines.{LexedFile};
 ghost use Rattle.directive_scan.specs.Groups.{malformed_by, outline, role_of};
-ghost use Rattle.directive_scan.specs.OpenStack.{Steps, branch_step, directive_step, endif_step, is_else, open_step, unended_last};
+ghost use Rattle.directive_scan.specs.OpenStack.{Steps, branch_step, nesting_step, endif_step, is_else, open_step, unended_last};
+ghost use Rattle.directive_scan.specs.Spots.{piece_at, KnowsRole, EachKnowsRole};
 
 use crate::conditional::{BranchName, Malformed};
-use crate::directive::{Directive, Piece};
+use crate::role::Nesting;
+use crate::spots::Spot;
 use std::alloc::{AllocError, Global};
 
 /// A conditional that isn't ended yet, by the line of its opening.
@@ -15,14 +18,14 @@ struct Open {
     else_seen: bool,
 }
 
-/// The first malformed line of a file, by its pieces: an `#elif`, `#else` or `#endif` that has no place there, or at
-/// the end of the file the last opening that isn't ended. `None` where its conditionals nest.
-pub fn malformed(alloc: Global, pieces: &[Piece]) -> Result<Option<Malformed>, AllocError>
-    ensures { IfOk result (λ found. found ≡ malformed_by (outline role_of pieces.now)) }
+// The first malformed line of a file, by the spots of its pieces: an `#elif`, `#else` or `#endif` that has no place there,
+// or at the end of the file the last opening that isn't ended. `None` where its conditionals nest.
+pub fn first_malformed(alloc: Global, spots: &[Spot]) -> Result<Option<Malformed>, AllocError>
+    ensures { IfOk result (λ found. (file : LexedFile) → EachKnowsRole file spots.now → found ≡ malformed_by (outline role_of (map (piece_at file) spots.now))) }
 {
     let mut stack: Vec<Open> = Vec::new(alloc);
-    for piece in pieces {
-        if let Some(wrong) = step(&mut stack, piece)? {
+    for spot in spots {
+        if let Some(wrong) = step(&mut stack, spot)? {
             return Ok(Some(wrong));
         }
     }
@@ -30,28 +33,28 @@ pub fn malformed(alloc: Global, pieces: &[Piece]) -> Result<Option<Malformed>, A
 }
 
 // What is wrong with a piece behind the conditionals that are open before it.
-fn step(stack: &mut Vec<Open>, piece: &Piece) -> Result<Option<Malformed>, AllocError>
-    ensures { IfOk result (λ found. Steps (open_step stack.old.items piece.now) found stack.new.items) }
+fn step(stack: &mut Vec<Open>, spot: &Spot) -> Result<Option<Malformed>, AllocError>
+    ensures { IfOk result (λ found. (file : LexedFile) → KnowsRole file spot.now → Steps (open_step stack.old.items (piece_at file spot.now)) found stack.new.items) }
 {
-    match piece {
-        Piece::Run { .. } => Ok(None),
-        Piece::Line { at, what } => directive(stack, *at, what),
+    match spot {
+        Spot::Text { .. } => Ok(None),
+        Spot::Line { at, nesting, .. } => directive(stack, *at, *nesting),
     }
 }
 
 fn directive(
     stack: &mut Vec<Open>,
     at: u32,
-    what: &Directive,
+    nesting: Nesting,
 ) -> Result<Option<Malformed>, AllocError>
-    ensures { IfOk result (λ found. Steps (directive_step at what.now stack.old.items) found stack.new.items) }
+    ensures { IfOk result (λ found. Steps (nesting_step at nesting stack.old.items) found stack.new.items) }
 {
-    match what {
-        Directive::If(_) | Directive::Ifdef(_) | Directive::Ifndef(_) => opening(stack, at),
-        Directive::Elif(_) => branch(stack, BranchName::Elif, at),
-        Directive::Else => branch(stack, BranchName::Else, at),
-        Directive::Endif => Ok(endif(stack, at)),
-        _ => Ok(None),
+    match nesting {
+        Nesting::Single => Ok(None),
+        Nesting::Opening => opening(stack, at),
+        Nesting::Branch(BranchName::Elif) => branch(stack, BranchName::Elif, at),
+        Nesting::Branch(BranchName::Else) => branch(stack, BranchName::Else, at),
+        Nesting::Branch(BranchName::Endif) => Ok(endif(stack, at)),
     }
 }
 

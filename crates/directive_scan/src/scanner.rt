@@ -1,119 +1,67 @@
 // The pieces of a lexed file.
 ghost use Rattle.std.specs.Prelude as seen;
-ghost use Rattle.std.specs.Prelude.{◌≡◌, ◌++◌, ◌∷◌, [], drop, false, bytes_eq, codes, unwrap_or, slice_get, IfOk, OnOk};
-ghost use Rattle.directive_scan.specs.Directives.{header_name, target_of, pragma_of, directive_named, directive_of, onto_run, line_before, pieces};
-ghost use Rattle.directive_scan.specs.Gathered.{line_at, hash_of, joined};
+ghost use Rattle.std.specs.Prelude.{◌≡◌, ◌++◌, ◌∷◌, [], map, drop, false, bytes_eq, codes, unwrap_or, slice_get, IfOk, OnOk};
+ghost use Rattle.pp_tokens.specs.Tokens.{rest_of};
+ghost use Rattle.directive_scan.specs.Directives.{header_name, target_of, pragma_of, directive_named, directive_of, pieces};
+ghost use Rattle.directive_scan.specs.Gathered.{line_at};
+ghost use Rattle.directive_scan.specs.Spots.{piece_at};
 
 use crate::directive::{Directive, HeaderName, Piece, Target};
 use crate::header::between;
+use crate::spots::{Spot, spots};
 use base_types::{Bytes, List};
-use pp_tokens::{Kind, Lexed, Token};
+use pp_tokens::{Kind, Lexed, Token, Tokens};
 use std::alloc::{AllocError, Global};
 
-// The pieces of the lines so far: those that are at an end, and the run of the last lines, where these are text.
-#[derive(Drop)]
-struct Gathered {
-    ended: List<Piece>,
-    run: Option<List<Token>>,
-}
-
-/// The pieces of a lexed file: its directives, and the runs of text lines between them (ISO C 6.10). Time is linear in
-/// the tokens and lines; the only error is want of memory.
+/// The pieces of a lexed file: its directives, and the runs of text lines between them (ISO C 6.10), with a copy of their
+/// tokens. Time is linear in the tokens and lines; the only error is want of memory. `Pieces` lends them instead.
 pub fn scan(alloc: Global, lexed: &Lexed) -> Result<List<Piece>, AllocError>
     ensures { IfOk result (λ ps. ps ≡ pieces lexed.now.lines) }
 {
-    let mut gathered = Gathered {
-        ended: List::new(alloc),
-        run: None,
-    };
-    for line in 0..lexed.line_count() {
-        gathered = with_line(alloc, lexed, line, gathered)?;
-    }
-    all_ended(gathered)
+    let spots = spots(alloc, lexed)?;
+    pieces_of(alloc, lexed, &spots)
 }
 
-// What is gathered with one more line.
-fn with_line(
-    alloc: Global,
-    lexed: &Lexed,
-    line: usize,
-    gathered: Gathered,
-) -> Result<Gathered, AllocError>
-    ensures { IfOk result (λ g. (others : seen.List Piece) → joined g.ended g.run others ≡ joined gathered.ended gathered.run (line_before (line_at lexed.now line) others)) }
+// The pieces that lie at some spots.
+fn pieces_of(alloc: Global, lexed: &Lexed, spots: &[Spot]) -> Result<List<Piece>, AllocError>
+    ensures { IfOk result (λ ps. ps ≡ map (piece_at lexed.now) spots.now) }
 {
-    match hash_at(lexed, line) {
-        Some(at) => with_directive(alloc, lexed, line, at, gathered),
-        None => with_text(alloc, lexed, line, gathered),
+    let mut pieces = List::new(alloc);
+    for spot in spots {
+        pieces.push(piece_of(alloc, lexed, *spot)?)?;
     }
+    Ok(pieces)
 }
 
-// The physical line of the `#` that begins a line; None where the line is text.
-#[tactic(auto, unfolding(crate::specs::Gathered::hash_of))]
-fn hash_at(lexed: &Lexed, line: usize) -> Option<u32>
-    ensures { result ≡ hash_of (line_at lexed.now line) }
+// The piece that lies at a spot.
+fn piece_of(alloc: Global, lexed: &Lexed, spot: Spot) -> Result<Piece, AllocError>
+    ensures { IfOk result (λ p. p ≡ piece_at lexed.now spot) }
 {
-    let first = lexed.token(line, 0)?;
-    if first.text == b"#".as_slice() || first.text == b"%:".as_slice() {
-        Some(first.line)
-    } else {
-        None
+    match spot {
+        Spot::Text { from, end } => Ok(Piece::Run {
+            tokens: copied(alloc, lexed.tokens(from, end))?,
+        }),
+        Spot::Line { line, at, .. } => Ok(Piece::Line {
+            at,
+            what: directive_at(alloc, lexed, line)?,
+        }),
     }
 }
 
-// A directive ends the run.
-fn with_directive(
-    alloc: Global,
-    lexed: &Lexed,
-    line: usize,
-    at: u32,
-    gathered: Gathered,
-) -> Result<Gathered, AllocError>
-    ensures { IfOk result (λ g. (others : seen.List Piece) → joined g.ended g.run others ≡ joined gathered.ended gathered.run (Piece.Line at (directive_of (drop 1 (line_at lexed.now line))) ∷ others)) }
+// A copy of the tokens of a stretch.
+fn copied(alloc: Global, lent: Tokens<'_>) -> Result<List<Token>, AllocError>
+    ensures { IfOk result (λ ts. ts ≡ rest_of lent.entry) }
 {
-    let what = directive_at(alloc, lexed, line)?;
-    let mut ended = all_ended(gathered)?;
-    ended.push(Piece::Line { at, what })?;
-    Ok(Gathered { ended, run: None })
-}
-
-// A line of text goes on with the run, or begins one.
-fn with_text(
-    alloc: Global,
-    lexed: &Lexed,
-    line: usize,
-    gathered: Gathered,
-) -> Result<Gathered, AllocError>
-    ensures { IfOk result (λ g. (others : seen.List Piece) → joined g.ended g.run others ≡ joined gathered.ended gathered.run (onto_run (line_at lexed.now line) others)) }
-{
-    let Gathered { ended, run } = gathered;
-    let mut tokens = match run {
-        Some(run) => run.into_vec(),
-        None => Vec::new(alloc),
-    };
-    add_tokens(alloc, lexed, line, 0, &mut tokens)?;
-    Ok(Gathered {
-        ended,
-        run: Some(List::of(tokens)),
-    })
-}
-
-// The pieces, with the run at an end.
-fn all_ended(gathered: Gathered) -> Result<List<Piece>, AllocError>
-    ensures { IfOk result (λ ps. ps ≡ joined gathered.ended gathered.run []) }
-{
-    let Gathered { mut ended, run } = gathered;
-    match run {
-        Some(tokens) => {
-            ended.push(Piece::Run { tokens })?;
-            Ok(ended)
-        }
-        None => Ok(ended),
+    let mut tokens = List::new(alloc);
+    for token in lent {
+        tokens.push(token.to_token(alloc)?)?;
     }
+    Ok(tokens)
 }
 
 // The directive on a line, by its tokens behind the `#`.
 #[tactic(auto, unfolding(crate::specs::Directives::directive_of))]
-fn directive_at(alloc: Global, lexed: &Lexed, line: usize) -> Result<Directive, AllocError>
+pub fn directive_at(alloc: Global, lexed: &Lexed, line: usize) -> Result<Directive, AllocError>
     ensures { IfOk result (λ what. what ≡ directive_of (drop 1 (line_at lexed.now line))) }
 {
     match lexed.token(line, 1) {

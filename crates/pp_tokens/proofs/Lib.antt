@@ -20,6 +20,7 @@ mod Splices
 mod OneLine
 mod LexSteps
 mod Places
+mod FlatPlaces
 mod PlainTests
 mod Closing
 mod Opened

@@ -1,7 +1,7 @@
 -- Translation phase 3 (ISO C 5.1.1.2, 6.4): a text after phases 1 and 2 is cut into newlines, white space,
 -- comments and tokens, and these are logical lines of tokens.
 use Rattle.std.specs.Prelude.{◌≡◌, ◌≢◌, ℕ, zero, suc, ◌-◌, Bool, true, false, not, ◌&&◌, ◌||◌, List, [], ◌∷◌, ◌++◌, map, length, take, if◌then◌else◌, ◌==◌, nat_eq, Option, Some, None, codes, bytes_eq, ◌⊎◌, unwrap_or, option_map}
-use Rattle.std.specs.List.{starts_with, list_all}
+use Rattle.std.specs.List.{starts_with, list_all, flat_map}
 use Rattle.pp_tokens.specs.declared.token.Kind.{Kind}
 use Rattle.pp_tokens.specs.declared.token.Token.{Token}
 use Rattle.pp_tokens.specs.declared.token.Kind.TheVariants.{Header}
@@ -25,6 +25,10 @@ pub record Element : Type 0 where
 pub record LexedFile : Type 0 where
   pub lines : List (List Token)
   pub unended : Option ℕ
+
+-- the tokens of all lines
+abbrev pub all_tokens : LexedFile → List Token
+all_tokens file = flat_map (λ line. line) file.lines
 
 -- Comments (6.4.9).
 

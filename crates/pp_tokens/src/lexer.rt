@@ -1,10 +1,11 @@
 // The lexer: a body's logical lines of tokens.
-ghost use Rattle.std.specs.Prelude.{◌≡◌, ◌≤◌, ◌+◌, ◌∷◌, [], zero, length, take, drop, get_or, IfOk, slice_get, option_map, option_and_then};
+ghost use Rattle.std.specs.Prelude.{◌≡◌, ◌≤◌, ◌+◌, ◌∷◌, [], None, zero, length, take, drop, get_or, IfOk, slice_get, option_map, option_and_then};
+ghost use Rattle.std.specs.List.{flat_map};
 ghost use Rattle.std.specs.Option.{option_map_or};
 ghost use Rattle.pp_tokens.specs.Gathered.{newlines, GathersNothing, EndsLine, AddsToken, AddsGap, EndsLastLine, IsGathered, IsPart, Gathers};
 ghost use Rattle.pp_tokens.specs.Lined.{lined, spliced_up_to, Rising};
-ghost use Rattle.pp_tokens.specs.Lines.{elements, file_of, lexed};
-ghost use Rattle.pp_tokens.specs.Seen.{seen_file};
+ghost use Rattle.pp_tokens.specs.Lines.{all_tokens, elements, file_of, lexed};
+ghost use Rattle.pp_tokens.specs.Seen.{seen_file, token_at};
 ghost use Rattle.pp_tokens.specs.Text.{part_told};
 ghost use Rattle.pp_tokens.specs.Tokens.{token_seen};
 
@@ -247,7 +248,35 @@ fn line_start(ends: &[u32], line: usize) -> usize
     }
 }
 
+// The token at a place of a text.
+fn token_of(text: &[u8], place: Place) -> TokenRef<'_>
+    requires { place.start + place.length ≤ length text.now }
+    ensures { token_seen result ≡ token_at text.now place }
+{
+    let (_, behind) = text.split_at(place.start as usize);
+    let (text, _) = behind.split_at(place.length as usize);
+    TokenRef {
+        kind: place.kind,
+        text,
+        line: place.line,
+        space: place.space,
+    }
+}
+
 impl Lexed {
+    /// A file without lines.
+    #[tactic(auto, unfolding(crate::specs::Seen::Ascends, crate::specs::Seen::EachWithin, crate::specs::Seen::seen_lines))]
+    pub fn empty(alloc: Global) -> Lexed
+        ensures { result ≡ record { lines = []; unended = None } }
+    {
+        Lexed {
+            text: Vec::new(alloc),
+            places: Vec::new(alloc),
+            ends: Vec::new(alloc),
+            unended: None,
+        }
+    }
+
     /// How many logical lines there are.
     pub fn line_count(&self) -> usize
         ensures { result ≡ length self.now.lines }
@@ -277,15 +306,25 @@ impl Lexed {
         if self.ends[line] as usize - start <= place {
             return None;
         }
-        let p = self.places[start + place];
-        let (_, behind) = self.text.split_at(p.start as usize);
-        let (text, _) = behind.split_at(p.length as usize);
-        Some(TokenRef {
-            kind: p.kind,
-            text,
-            line: p.line,
-            space: p.space,
-        })
+        Some(token_of(&self.text, self.places[start + place]))
+    }
+
+    /// How many tokens stand on the lines before one.
+    pub fn tokens_before(&self, line: usize) -> usize
+        requires { line ≤ length self.now.lines }
+        ensures { result ≡ length (flat_map (λ l. l) (take line self.now.lines)) }
+    {
+        line_start(&self.ends, line)
+    }
+
+    /// A token by its number among those of all lines, from 0; none behind the last.
+    pub fn token_at(&self, number: usize) -> Option<TokenRef<'_>>
+        ensures { option_map token_seen result ≡ slice_get (all_tokens self.now) number }
+    {
+        if number >= line_start(&self.ends, self.ends.len()) {
+            return None;
+        }
+        Some(token_of(&self.text, self.places[number]))
     }
 
     /// The line of a comment that never ends.

@@ -12,6 +12,7 @@ mod quoted;
 mod single;
 mod source;
 mod token;
+mod tokens;
 mod unpaired;
 
 pub use base_types::{Bytes, List};
@@ -20,3 +21,4 @@ pub use lexer::{Lexed, lex};
 pub use plain::{is_plain, is_simple_name};
 pub use single::single_token;
 pub use token::{Kind, Token, TokenRef};
+pub use tokens::Tokens;

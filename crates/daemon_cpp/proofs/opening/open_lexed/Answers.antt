@@ -8,10 +8,10 @@ use Rattle.daemon_cpp.proofs.opening.open_lexed.Goals as goal
 
 pub returns-clause-few : goal.returns-clause-few
 returns-clause-few c =
-    let few : length c.in_ok-pieces.pieces ≤ suc (token_count c.args.lexed.now.lines + token_count c.args.lexed.now.lines) =
-    subst (λ (ps : List Piece). length ps ≤ suc (token_count c.args.lexed.now.lines + token_count c.args.lexed.now.lines)) (sym c.in_ok-pieces.ensures) (pieces-few c.args.lexed.now.lines) in
+    let few : length c.in_ok-pieces.pieces ≤ suc (token_count c.args.lexed.lines + token_count c.args.lexed.lines) =
+    subst (λ (ps : List Piece). length ps ≤ suc (token_count c.args.lexed.lines + token_count c.args.lexed.lines)) (sym c.in_ok-pieces.ensures) (pieces-few c.args.lexed.lines) in
     IfOk-weaker c.open_pieces.result
     (HasAtMost (length c.in_ok-pieces.pieces))
-    (HasAtMost (suc (token_count c.args.lexed.now.lines + token_count c.args.lexed.now.lines)))
-    (λ opened at_most. at_most-more (length c.in_ok-pieces.pieces) (suc (token_count c.args.lexed.now.lines + token_count c.args.lexed.now.lines)) opened few at_most)
+    (HasAtMost (suc (token_count c.args.lexed.lines + token_count c.args.lexed.lines)))
+    (λ opened at_most. at_most-more (length c.in_ok-pieces.pieces) (suc (token_count c.args.lexed.lines + token_count c.args.lexed.lines)) opened few at_most)
     c.open_pieces.ensures.few

@@ -12,8 +12,7 @@ returns-in-Some-clause-few c = c.refuse_malformed.ensures.none (length c.args.pi
 
 pub returns-clause-opens : goal.returns-clause-opens
 returns-clause-opens c =
-    let fine : malformed_by (outline role_of c.args.pieces) ≡ None =
-    ap (λ (ps : List Piece). malformed_by (outline role_of ps)) (sym c.as_slice.ensures) ∙ sym c.in_ok-what.ensures ∙ c.in_default.is in
+    let fine : malformed_by (outline role_of c.args.pieces) ≡ None = sym c.in_ok-what.ensures ∙ c.in_default.is in
     IfOk-weaker c.announce.result
     (λ opened. (world : World) (entering : Entering) (state : State) → state.source ≡ c.args.source.now → state.output ≡ c.args.layout.now → Opens world entering (record state { output = c.announce.new.layout }) opened (and_then (λ after. run_pieces world entering c.args.pieces after) (say (front_events c.args.included c.args.place.now) state)))
     (λ opened. (world : World) (entering : Entering) (state : State) → state.source ≡ c.args.source.now → state.here.place ≡ c.args.place.now → state.output ≡ c.args.layout.now → Opens world entering (record state { output = c.announce.new.layout }) opened (run_outline world entering (front_events c.args.included c.args.place.now) (outline role_of c.args.pieces) state))

@@ -1,20 +1,18 @@
-use Rattle.std.proofs.Common.{◌<◌, ◌≤◌, length, sym, ◌∙◌, arith}
-use Rattle.daemon_cpp.proofs.ReservedLines.{reserved-here, reserved-next, reserved-past}
+use Rattle.std.proofs.Common.{sym, ◌∙◌, ap}
+use Rattle.pp_tokens.specs.Tokens.{rest_of, token_seen}
+use Rattle.daemon_cpp.specs.Prep.{reserved_line}
+use Rattle.daemon_cpp.proofs.ReservedLines.{reserved-here, reserved-next}
 use Rattle.daemon_cpp.proofs.pieces.reserved_line.Goals as goal
 
 pub returns-then-is_reserved : goal.returns-then-is_reserved
 returns-then-is_reserved c =
-    let below : c.loop-token.token-index < length c.args.tokens.now = omega arith in
-    sym (reserved-here c.args.tokens.now c.loop-token.token-index c.token-item.result below c.token-item.is c.if-is_reserved.ensures)
+    sym (reserved-here (rest_of c.loop-token.token-iterator) (rest_of c.next.new.self) (token_seen c.in-Some.token) c.in-Some.ensures.steps c.if-is_reserved.ensures)
     ∙ c.loop-token.invariant
 
 pub loop-token-preserved : goal.loop-token-preserved
 loop-token-preserved c =
-    let below : c.loop-token.token-index < length c.args.tokens.now = omega arith in
-    sym (reserved-next c.args.tokens.now c.loop-token.token-index c.token-item.result below c.token-item.is c.if-is_reserved.ensures)
+    sym (reserved-next (rest_of c.loop-token.token-iterator) (rest_of c.next.new.self) (token_seen c.in-Some.token) c.in-Some.ensures.steps c.if-is_reserved.ensures)
     ∙ c.loop-token.invariant
 
 pub returns : goal.returns
-returns c =
-    let past : length c.args.tokens.now ≤ c.loop-token.token-index = omega arith in
-    sym (reserved-past c.args.tokens.now c.loop-token.token-index past) ∙ c.loop-token.invariant
+returns c = sym (ap reserved_line c.in-None.ensures.steps.0) ∙ c.loop-token.invariant

@@ -1,6 +1,6 @@
-use Rattle.std.proofs.Common.{◌≡◌, IfOk, ℕ, get_or, List, ◌∙◌, ap, subst}
+use Rattle.std.proofs.Common.{IfOk, ℕ, ◌∙◌, subst}
 use Rattle.std.proofs.lemmas.Result.{IfOk-weaker}
-use Rattle.directive_scan.specs.declared.Piece.{Piece}
+use Rattle.directive_scan.specs.Spots.{piece_seen}
 use Rattle.daemon_cpp.specs.declared.outcome.Outcome.{Outcome}
 use Rattle.daemon_cpp.specs.declared.pieces.Move.{Move}
 use Rattle.daemon_cpp.specs.Prep.{world_of}
@@ -11,31 +11,25 @@ use Rattle.daemon_cpp.proofs.cpp.Reader.next_piece.Goals as goal
 pub returns-in-Onward-clause-leads : goal.returns-in-Onward-clause-leads
 returns-in-Onward-clause-leads g c =
     λ told is behind whole left.
-    let at : c.index-as_slice-self.result ≡ get_or c.args.self.now.file.pieces c.args.self.now.file.next c.index-as_slice-self.result =
-    c.index-as_slice-self.is ∙ ap (λ (ps : List Piece). get_or ps c.args.self.now.file.next c.index-as_slice-self.result) c.as_slice.ensures in
     subst (λ (move : Move). Follows (world_of told c.args.setup.now) behind (behind_piece c.args.self.now c.run_piece.new.layout) whole move) c.in-Onward.is
-    (follows (world_of told c.args.setup.now) behind c.args.self.now whole c.run_piece.new.layout c.index-as_slice-self.result c.in_ok-led.led at c.requires.goes_on (c.in_ok-led.ensures.leads told is) left)
+    (follows (world_of told c.args.setup.now) behind c.args.self.now whole c.run_piece.new.layout (piece_seen c.piece-piece.result) c.in_ok-led.led c.piece-piece.ensures.shown c.requires.goes_on (c.in_ok-led.ensures.leads told is) left)
 
 pub returns-in-Ended-clause-leads : goal.returns-in-Ended-clause-leads
 returns-in-Ended-clause-leads g c =
     λ told is behind whole left.
-    let at : c.index-as_slice-self.result ≡ get_or c.args.self.now.file.pieces c.args.self.now.file.next c.index-as_slice-self.result =
-    c.index-as_slice-self.is ∙ ap (λ (ps : List Piece). get_or ps c.args.self.now.file.next c.index-as_slice-self.result) c.as_slice.ensures in
     subst (λ (move : Move). Follows (world_of told c.args.setup.now) behind (behind_piece c.args.self.now c.run_piece.new.layout) whole move) c.in-Ended.is
-    (follows (world_of told c.args.setup.now) behind c.args.self.now whole c.run_piece.new.layout c.index-as_slice-self.result c.in_ok-led.led at c.requires.goes_on (c.in_ok-led.ensures.leads told is) left)
+    (follows (world_of told c.args.setup.now) behind c.args.self.now whole c.run_piece.new.layout (piece_seen c.piece-piece.result) c.in_ok-led.led c.piece-piece.ensures.shown c.requires.goes_on (c.in_ok-led.ensures.leads told is) left)
 
 pub returns-in-Enter-clause-leads : goal.returns-in-Enter-clause-leads
 returns-in-Enter-clause-leads g c =
     λ told is.
-    let at : c.index-as_slice-self.result ≡ get_or c.args.self.now.file.pieces c.args.self.now.file.next c.index-as_slice-self.result =
-    c.index-as_slice-self.is ∙ ap (λ (ps : List Piece). get_or ps c.args.self.now.file.next c.index-as_slice-self.result) c.as_slice.ensures in
     IfOk-weaker c.enter.result
     (λ ended. (behind : After) (whole : Outcome) → EntersTo (world_of told c.args.setup.now) behind (behind_piece c.args.self.now c.run_piece.new.layout) c.in-Enter.at c.in-Enter.file whole → GoesOn (world_of told c.args.setup.now) behind c.enter.new.self whole ended)
     (λ ended. (behind : After) (whole : Outcome) → LeadsTo (world_of told c.args.setup.now) behind c.args.self.now whole → GoesOn (world_of told c.args.setup.now) behind c.enter.new.self whole ended)
     (λ ended goes behind whole left.
     goes behind whole
     (subst (λ (move : Move). Follows (world_of told c.args.setup.now) behind (behind_piece c.args.self.now c.run_piece.new.layout) whole move) c.in-Enter.is
-    (follows (world_of told c.args.setup.now) behind c.args.self.now whole c.run_piece.new.layout c.index-as_slice-self.result c.in_ok-led.led at c.requires.goes_on (c.in_ok-led.ensures.leads told is) left)))
+    (follows (world_of told c.args.setup.now) behind c.args.self.now whole c.run_piece.new.layout (piece_seen c.piece-piece.result) c.in_ok-led.led c.piece-piece.ensures.shown c.requires.goes_on (c.in_ok-led.ensures.leads told is) left)))
     (c.enter.ensures.leads told (c.in_ok-led.ensures.same ∙ is))
 
 pub returns-in-Onward-clause-advances : goal.returns-in-Onward-clause-advances

@@ -1,14 +1,11 @@
-use Rattle.std.proofs.Common.{sym, ◌∙◌, ap, arith, length, length-drop, ◌≡◌, ◌≤◌, ◌<◌, ◌+◌, ◌∷◌, get_or, take, drop, List, ℕ, slice_get, Some, refl, Bool}
-use Rattle.pp_tokens.specs.declared.token.Kind.{Kind}
+use Rattle.std.proofs.Common.{sym, ◌∙◌, ap, arith, length, ◌≡◌, ◌≤◌, ◌<◌, ◌+◌, ◌∷◌, get_or, List, ℕ, slice_get, Some, refl}
 use Rattle.std.specs.Option.{option_and_then}
 use Rattle.std.proofs.lemmas.Option.{slice_get_read}
 use Rattle.pp_tokens.specs.declared.token.Token.{Token}
 use Rattle.pp_tokens.specs.Lines.{LexedFile}
+use Rattle.pp_tokens.specs.Seen.{token_at}
 use Rattle.pp_tokens.proofs.Places.{range_is, tokens_at, line_past, within_at, token_within, token_past}
 use Rattle.pp_tokens.proofs.lexer.Lexed.token.Goals as goal
-
-abbrev a_token : Kind → List ℕ → ℕ → Bool → Token
-a_token kind text line space = record { kind = kind; text = text; line = line; space = space }
 
 pub returns-then-len-line : goal.returns-then-len-line
 returns-then-len-line c =
@@ -39,8 +36,8 @@ returns-then-index-start c =
     ∙ token_past text places c.line_start-start.result c.index.result.now c.args.place range.0 range.1 c.if-index-start.true)
     ∙ ap (λ (f : LexedFile). option_and_then (λ (ts : List Token). slice_get ts c.args.place) (slice_get f.lines c.args.line)) c.self.view_is
 
-pub index-p-requires : goal.index-p-requires
-index-p-requires c =
+pub index-requires-2 : goal.index-requires-2
+index-requires-2 c =
     let text = c.self.inside.text.items in
     let places = c.self.inside.places.items in
     let ends = c.self.inside.ends.items in
@@ -49,8 +46,8 @@ index-p-requires c =
     let range = range_is places ends c.args.line c.line_start-start.result c.index.result.now c.self.invariant.0 below c.index.ensures start in
     omega (arith, range.0, range.1, c.if-index-start.false, c.self.inside.places.ok.0)
 
-pub split_at-requires : goal.split_at-requires
-split_at-requires c =
+pub token_of-requires : goal.token_of-requires
+token_of-requires c =
     let text = c.self.inside.text.items in
     let places = c.self.inside.places.items in
     let ends = c.self.inside.ends.items in
@@ -58,27 +55,8 @@ split_at-requires c =
     let start : c.line_start-start.result ≡ get_or (0 ∷ ends) c.args.line 0 = c.line_start-start.ensures ∙ ap (λ (l : List ℕ). get_or (0 ∷ l) c.args.line 0) c.deref.ensures.value in
     let range = range_is places ends c.args.line c.line_start-start.result c.index.result.now c.self.invariant.0 below c.index.ensures start in
     let place_below : c.line_start-start.result + c.args.place < length places = omega (arith, range.0, range.1, c.if-index-start.false) in
-    let p = c.index-p.result.now in
-    let found : slice_get places (c.line_start-start.result + c.args.place) ≡ Some p =
-    slice_get_read places (length places) (c.line_start-start.result + c.args.place) p refl place_below c.index-p.ensures in
-    let within : p.start + p.length ≤ length text = within_at text places (c.line_start-start.result + c.args.place) p c.self.invariant.1 found in
-    omega (arith, within, ap length c.deref-2.ensures.value)
-
-pub split_at-requires-2 : goal.split_at-requires-2
-split_at-requires-2 c =
-    let text = c.self.inside.text.items in
-    let places = c.self.inside.places.items in
-    let ends = c.self.inside.ends.items in
-    let below : c.args.line < length ends = omega (arith, c.if-len-line.false, c.len.ensures, c.self.inside.ends.ok.0) in
-    let start : c.line_start-start.result ≡ get_or (0 ∷ ends) c.args.line 0 = c.line_start-start.ensures ∙ ap (λ (l : List ℕ). get_or (0 ∷ l) c.args.line 0) c.deref.ensures.value in
-    let range = range_is places ends c.args.line c.line_start-start.result c.index.result.now c.self.invariant.0 below c.index.ensures start in
-    let place_below : c.line_start-start.result + c.args.place < length places = omega (arith, range.0, range.1, c.if-index-start.false) in
-    let p = c.index-p.result.now in
-    let found : slice_get places (c.line_start-start.result + c.args.place) ≡ Some p =
-    slice_get_read places (length places) (c.line_start-start.result + c.args.place) p refl place_below c.index-p.ensures in
-    let within : p.start + p.length ≤ length text = within_at text places (c.line_start-start.result + c.args.place) p c.self.invariant.1 found in
-    let behind : c.split_at.result.1.now ≡ drop p.start text = c.split_at.ensures.back ∙ ap (drop p.start) c.deref-2.ensures.value in
-    omega (arith, within, ap length behind, length-drop p.start text)
+    let found = slice_get_read places (length places) (c.line_start-start.result + c.args.place) c.index-2.result.now refl place_below c.index-2.ensures in
+    rw c.deref-2.ensures.value (within_at text places (c.line_start-start.result + c.args.place) c.index-2.result.now c.self.invariant.1 found)
 
 pub returns : goal.returns
 returns c =
@@ -89,13 +67,10 @@ returns c =
     let start : c.line_start-start.result ≡ get_or (0 ∷ ends) c.args.line 0 = c.line_start-start.ensures ∙ ap (λ (l : List ℕ). get_or (0 ∷ l) c.args.line 0) c.deref.ensures.value in
     let range = range_is places ends c.args.line c.line_start-start.result c.index.result.now c.self.invariant.0 below c.index.ensures start in
     let place_below : c.line_start-start.result + c.args.place < length places = omega (arith, range.0, range.1, c.if-index-start.false) in
-    let p = c.index-p.result.now in
+    let p = c.index-2.result.now in
     let found : slice_get places (c.line_start-start.result + c.args.place) ≡ Some p =
-    slice_get_read places (length places) (c.line_start-start.result + c.args.place) p refl place_below c.index-p.ensures in
-    let within : p.start + p.length ≤ length text = within_at text places (c.line_start-start.result + c.args.place) p c.self.invariant.1 found in
-    let behind : c.split_at.result.1.now ≡ drop p.start text = c.split_at.ensures.back ∙ ap (drop p.start) c.deref-2.ensures.value in
-    let spelling : c.split_at-2.result.0.now ≡ take p.length (drop p.start text) = c.split_at-2.ensures.front ∙ ap (take p.length) behind in
-    ap (λ (t : List ℕ). Some (a_token p.kind t p.line p.space)) spelling
+    slice_get_read places (length places) (c.line_start-start.result + c.args.place) p refl place_below c.index-2.ensures in
+    ap (λ (t : Token). Some t) (c.token_of.ensures ∙ ap (λ (l : List ℕ). token_at l p) c.deref-2.ensures.value)
     ∙ sym (ap (option_and_then (λ (ts : List Token). slice_get ts c.args.place)) (tokens_at text places ends c.args.line c.line_start-start.result c.index.result.now below range.2 start)
     ∙ token_within text places c.line_start-start.result c.index.result.now c.args.place p c.if-index-start.false found)
     ∙ ap (λ (f : LexedFile). option_and_then (λ (ts : List Token). slice_get ts c.args.place) (slice_get f.lines c.args.line)) c.self.view_is

@@ -1,0 +1,111 @@
+// The pieces of a file, lent from its lexed form.
+ghost use Rattle.std.specs.Prelude.{◌≡◌, ◌<◌, ◌≤◌, ◌+◌, [], length, map, get_or, IfOk};
+ghost use Rattle.directive_scan.specs.Directives.{pieces};
+ghost use Rattle.directive_scan.specs.Groups.{malformed_by, outline, role_of};
+ghost use Rattle.directive_scan.specs.Spots.{piece_seen, directive_seen};
+
+use crate::conditional::Malformed;
+use crate::directive::Directive;
+use crate::outline::first_malformed;
+use crate::scanner::directive_at;
+use crate::spots::{Spot, spots};
+use pp_tokens::{Lexed, Tokens};
+use std::alloc::{AllocError, Global};
+use std::marker::Model;
+
+/// A lexed file, cut into its pieces (ISO C 6.10): its directives, and the runs of text lines between them. No token is
+/// copied: a piece is lent, and a directive's tokens are made where it is read.
+#[derive(Drop)]
+pub struct Pieces {
+    lexed: Lexed,
+    spots: Vec<Spot>,
+}
+
+impl Model for Pieces {
+    ghost use Rattle.std.specs.Prelude.{List, map};
+    ghost use Rattle.directive_scan.specs.declared.directive.Piece.{Piece};
+    ghost use Rattle.directive_scan.specs.Spots.{piece_at, EachKnowsRole};
+
+    ghost Value = { List Piece };
+
+    ghost view = { λ p. map (piece_at p.lexed) p.spots.items };
+
+    ghost invariant = { λ p. EachKnowsRole p.lexed p.spots.items };
+}
+
+/// A directive that lies in its file.
+#[derive(Clone, Copy, Drop)]
+pub struct DirectiveRef<'a> {
+    lexed: &'a Lexed,
+    line: usize,
+}
+
+/// A piece that lies in its file: the tokens of a run, or a directive with the physical line, from 1, of its `#`.
+#[derive(Clone, Copy, Drop)]
+pub enum PieceRef<'a> {
+    Run(Tokens<'a>),
+    Line { at: u32, what: DirectiveRef<'a> },
+}
+
+impl Pieces {
+    /// The pieces of a lexed file. Time is linear in its lines; the only error is want of memory.
+    pub fn of(alloc: Global, lexed: Lexed) -> Result<Pieces, AllocError>
+        ensures { IfOk result (λ ps. ps ≡ pieces lexed.lines) }
+    {
+        let spots = spots(alloc, &lexed)?;
+        Ok(Pieces { lexed, spots })
+    }
+
+    /// Those of a file without lines: none.
+    #[tactic(auto, unfolding(crate::specs::Spots::EachKnowsRole))]
+    pub fn empty(alloc: Global) -> Pieces
+        ensures { result ≡ [] }
+    {
+        Pieces {
+            lexed: Lexed::empty(alloc),
+            spots: Vec::new(alloc),
+        }
+    }
+
+    /// How many there are.
+    pub fn len(&self) -> usize
+        ensures { result ≡ length self.now }
+    {
+        self.spots.len()
+    }
+
+    /// The first malformed line of the file: an `#elif`, `#else` or `#endif` that has no place there, or at the end of
+    /// the file the last opening that isn't ended. `None` where its conditionals nest. No token is read.
+    pub fn malformed(&self, alloc: Global) -> Result<Option<Malformed>, AllocError>
+        ensures { IfOk result (λ found. found ≡ malformed_by (outline role_of self.now)) }
+    {
+        first_malformed(alloc, &self.spots)
+    }
+
+    /// The piece with a number, from 0.
+    pub fn piece(&self, number: usize) -> PieceRef<'_>
+        requires { number < length self.now }
+        ensures shown { piece_seen result ≡ get_or self.now number (piece_seen result) }
+        ensures few { number + 1 ≤ 18446744073709551615 }
+    {
+        match self.spots[number] {
+            Spot::Text { from, end } => PieceRef::Run(self.lexed.tokens(from, end)),
+            Spot::Line { line, at, .. } => PieceRef::Line {
+                at,
+                what: DirectiveRef {
+                    lexed: &self.lexed,
+                    line,
+                },
+            },
+        }
+    }
+}
+
+impl<'a> DirectiveRef<'a> {
+    /// The directive, with a copy of the tokens that it needs. The only error is want of memory.
+    pub fn read(&self, alloc: Global) -> Result<Directive, AllocError>
+        ensures { IfOk result (λ d. d ≡ directive_seen self.now) }
+    {
+        directive_at(alloc, self.lexed, self.line)
+    }
+}

@@ -1,0 +1,49 @@
+// The tokens of a stretch of a lexed file, one after another.
+ghost use Rattle.std.specs.Prelude.{◌≡◌, ◌-◌, take, drop};
+ghost use Rattle.pp_tokens.specs.Lines.{all_tokens};
+ghost use Rattle.pp_tokens.specs.Tokens.{rest_of};
+
+use crate::lexer::Lexed;
+use crate::token::TokenRef;
+
+/// The tokens of a stretch of a lexed file that are still to come. A copy goes on by itself; each token costs the same,
+/// wherever it stands.
+#[derive(Clone, Copy, Drop)]
+pub struct Tokens<'a> {
+    lexed: &'a Lexed,
+    at: usize,
+    end: usize,
+}
+
+impl Lexed {
+    /// The tokens from one number up to another, as `token_at` counts them.
+    pub fn tokens(&self, from: usize, end: usize) -> Tokens<'_>
+        ensures { rest_of result ≡ take (end - from) (drop from (all_tokens self.now)) }
+    {
+        Tokens {
+            lexed: self,
+            at: from,
+            end,
+        }
+    }
+}
+
+impl<'a> Iterator for Tokens<'a> {
+    ghost use Rattle.std.specs.Iterator.{YieldsFirstBy, item_count};
+    ghost use Rattle.pp_tokens.specs.Tokens.{token_seen, rest_of};
+
+    type Item = TokenRef<'a>;
+
+    ghost next_gives = { YieldsFirstBy token_seen rest_of };
+
+    ghost remaining = { item_count rest_of };
+
+    fn next(&mut self) -> Option<TokenRef<'a>> {
+        if self.at >= self.end {
+            return None;
+        }
+        let token = self.lexed.token_at(self.at)?;
+        self.at += 1;
+        Some(token)
+    }
+}
