@@ -7,7 +7,7 @@ use Rattle.std.specs.Option.{option_copied, option_flatten}
 use Rattle.std.proofs.lemmas.Cmp.{nat_list_eq_equiv}
 use Rattle.indexmap.specs.IndexMap.{insert_entry}
 use Rattle.macro_defs.specs.MacroDefinition.{MacroDefinition}
-use Rattle.macro_defs.specs.Table.{Entries, lookup, with_definition, Sets}
+use Rattle.macro_defs.specs.Table.{Entries, lookup, names_of, with_definition, Sets}
 use Rattle.macro_defs.specs.Stored.{seen}
 
 abbrev Defined : Type 0
@@ -87,6 +87,16 @@ module _ {A : Type 0} where
           → lookup (seen (if b then (e.0, None) ∷ es else e ∷ map.set_value (is_key k) es None)) n ≡ (if bytes_eq k n then None else (if bytes_eq n e.0.items then e.1 else lookup (seen es) n))
       by true same rest = here k e.0.items n None e.1 (lookup (seen es) n) same
       by false apart rest = ap (λ (r : Defined). if bytes_eq n e.0.items then e.1 else r) rest ∙ there k e.0.items n None e.1 (lookup (seen es) n) apart
+
+  -- a definition that is written over leaves the names
+  pub written_names : (es : Stored A) (k : List ℕ) → names_of (seen (map.set_value (is_key k) es None)) ≡ names_of (seen es)
+  written_names [] k = refl
+  written_names (e ∷ es) k = by (is_key k e.0) (written_names es k)
+    where
+      by : (b : Bool) → names_of (seen (map.set_value (is_key k) es None)) ≡ names_of (seen es)
+          → names_of (seen (if b then (e.0, None) ∷ es else e ∷ map.set_value (is_key k) es None)) ≡ e.0.items ∷ names_of (seen es)
+      by true rest = refl
+      by false rest = ap (λ (names : List (List ℕ)). e.0.items ∷ names) rest
 
   -- a map that lacks the name
   pub absent_sets : (es : Stored A) (k : List ℕ) → map.lookup (is_key k) es ≡ None → Sets (seen es) k None (seen es)

@@ -1,5 +1,5 @@
 -- Which definition each name has (ISO C 6.10.3.5), and which names are defined (6.10.1).
-use Rattle.std.specs.Prelude.{◌≡◌, ℕ, Bool, true, ◌||◌, List, [], ◌∷◌, if◌then◌else◌, Option, Some, None, is_some, codes, bytes_eq}
+use Rattle.std.specs.Prelude.{◌≡◌, ℕ, Bool, true, ◌||◌, List, [], ◌∷◌, map, if◌then◌else◌, Option, Some, None, is_some, codes, bytes_eq}
 use Rattle.pp_tokens.specs.declared.Kind.{Kind}
 use Rattle.pp_tokens.specs.declared.Kind.TheVariants.{Number, Str}
 use Rattle.macro_defs.specs.declared.definition.Shape.TheVariants.{Object}
@@ -9,6 +9,10 @@ use Rattle.macro_defs.specs.MacroDefinition.{MacroDefinition}
 -- or None where it was undefined since.
 abbrev pub Entries : Type 0
 Entries = List (List ℕ × Option MacroDefinition)
+
+-- the names that were ever defined, in the order of the first definitions
+abbrev pub names_of : Entries → List (List ℕ)
+names_of entries = map (λ e. e.0) entries
 
 -- the definition of a name, unless it was undefined since
 unfoldable pub lookup : Entries → List ℕ → Option MacroDefinition

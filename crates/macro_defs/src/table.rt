@@ -29,7 +29,7 @@ impl Model for MacroTable {
 impl MacroTable {
     ghost use Rattle.std.specs.Prelude.{◌≡◌, length, slice_get, IfOk, OnOk, OnErr, MatchOption, Some, None};
     ghost use Rattle.std.specs.Option.{option_map, option_copied};
-    ghost use Rattle.macro_defs.specs.Table.{lookup, is_defined, with_definition, Sets, one_token, initial_entries};
+    ghost use Rattle.macro_defs.specs.Table.{lookup, names_of, is_defined, with_definition, Sets, one_token, initial_entries};
 
     /// The macros that every translation begins with (ISO C 6.10.8.1): `__STDC__`, `__STDC_VERSION__`, `__STDC_HOSTED__`,
     /// `__DATE__` and `__TIME__`, the last two those of the epoch.
@@ -74,17 +74,20 @@ impl MacroTable {
         }
     }
 
-    /// Defines a name, whether or not it has a definition. After a refusal the table is as before.
+    /// Defines a name, whether or not it has a definition. A name that was never defined goes behind all others. After a
+    /// refusal the table is as before.
     pub fn define(&mut self, name: Bytes, definition: Definition) -> Result<(), AllocError>
         ensures ok { OnOk result (Sets self.old name (Some definition) self.new) }
+        ensures placed { OnOk result (self.new ≡ with_definition self.old name (Some definition)) }
         ensures err { OnErr result (self.new ≡ self.old) }
     {
         self.put(name, definition)
     }
 
-    /// Takes a name's definition away, if it has one (ISO C 6.10.3.5 paragraph 2).
+    /// Takes a name's definition away, if it has one (ISO C 6.10.3.5 paragraph 2). The name keeps its place.
     pub fn undef(&mut self, name: &[u8])
-        ensures { Sets self.old name.now None self.new }
+        ensures sets { Sets self.old name.now None self.new }
+        ensures names { names_of self.new ≡ names_of self.old }
     {
         if let Some(definition) = self.entries.get_mut(name) {
             *definition = None;
