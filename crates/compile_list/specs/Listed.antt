@@ -1,60 +1,93 @@
 -- The jobs that a compile list asks for.
-use Rattle.std.specs.Prelude.{ℕ, List, [], ◌∷◌, length, Bool, false, ◌||◌, if◌then◌else◌, nat_le, nat_lt, nat_eq, ◌+◌, ◌==◌, Option, None, Some, Result, Ok, Err}
-use Rattle.std.specs.List.{list_any, filter, slice_split, position_or_len, before_first}
+use Rattle.std.specs.Prelude.{ℕ, List, [], ◌∷◌, ◌++◌, length, map, Bool, true, false, ◌||◌, ◌+◌, ◌==◌, if◌then◌else◌, nat_le, nat_lt, bytes_eq, Option, None, Some, Result, Ok, Err}
+use Rattle.std.specs.List.{list_any, filter, filter_map, slice_split}
+use Rattle.std.specs.Option.{option_map, is_none}
+use Rattle.bstr.specs.Text.{lines_of, without_terminator}
 use Rattle.tree_model.specs.Paths.{Text}
 use Rattle.job_words.specs.declared.job.Job.{Job}
 use Rattle.job_words.specs.Words.{reading}
 use Rattle.job_words.specs.declared.reading.WordError.{WordError}
-use Rattle.compile_list.specs.declared.list.ListWhy.{ListWhy}
-use Rattle.compile_list.specs.declared.list.ListWhy.TheVariants.{NotBuilt, Words}
+use Rattle.compile_list.specs.declared.refused.ListError.{ListError}
+use Rattle.compile_list.specs.declared.refused.ListWhy.{ListWhy}
+use Rattle.compile_list.specs.declared.refused.ListWhy.TheVariants.{Escape, Limit, Words, Output}
 
--- the line at which a list is refused, 0 for the list as a whole, and why
-pub record ListRefusal : Type 0 where
-  pub line : ℕ
-  pub why : ListWhy
+-- the lines: `\n` or `\r\n` ends one, and the last may lack it; a `\r` that no `\n` follows is a byte like others
+abbrev pub list_lines : Text → List Text
+list_lines bytes = map without_terminator (lines_of bytes)
 
-abbrev pub line_of_why : ListWhy → ℕ
-line_of_why NotBuilt = 0
-line_of_why (Words why) = 1
+-- ---- the words of a line ----
 
-abbrev pub refused_for : ListWhy → ListRefusal
-refused_for why = record { line = line_of_why why; why = why }
-
--- a space or a tab, which stands between words
+-- a space or a tab
 abbrev pub is_blank : ℕ → Bool
 is_blank b = (b == 32) || (b == 9)
 
--- a byte that no line of a list may have so far: a `\`, or one that ends a line
-abbrev pub is_strange : ℕ → Bool
-is_strange b = (b == 92) || ((b == 10) || (b == 13))
+-- a byte of a word, or None for a blank, which stands between words
+abbrev pub unit_of : ℕ → Option ℕ
+unit_of b = if is_blank b then None else Some b
 
--- the words of a line: its parts between blanks that aren't empty
-abbrev pub line_words : Text → List Text
-line_words line = filter (λ part. nat_lt 0 (length part)) (slice_split is_blank line)
+-- a unit in front of others
+abbrev pub with_unit : Option ℕ → Option (List (Option ℕ)) → Option (List (Option ℕ))
+with_unit unit behind = option_map (λ units. unit ∷ units) behind
 
--- all but a line feed at the end, where it is the only one
-abbrev pub line_of : Text → Option Text
-line_of bytes = if nat_eq (position_or_len (λ b. b == 10) bytes + 1) (length bytes) then Some (before_first (λ b. b == 10) bytes) else None
+-- the units of a line: a `\` and the byte behind it are that byte as a byte of a word; none where a `\` ends the line
+unfoldable pub units : Text → Option (List (Option ℕ))
+units [] = Some []
+units (b ∷ []) = if b == 92 then None else Some (unit_of b ∷ [])
+units (b ∷ c ∷ line) = elim (b == 92) [ true ↦ with_unit (Some c) (units line) | false ↦ with_unit (unit_of b) (units (c ∷ line)) ]
+
+-- the bytes of a part between blanks
+abbrev pub part_bytes : List (Option ℕ) → Text
+part_bytes part = filter_map (λ unit. unit) part
+
+-- the parts between blanks that aren't empty
+abbrev pub unit_words : List (Option ℕ) → List Text
+unit_words units = filter (λ word. nat_lt 0 (length word)) (map part_bytes (slice_split (λ unit. is_none unit) units))
+
+-- the words of a line; none where a `\` ends it
+abbrev pub line_words : Text → Option (List Text)
+line_words line = option_map unit_words (units line)
+
+-- ---- the job of a line ----
 
 abbrev pub begins_comment : Text → Bool
 begins_comment [] = false
 begins_comment (b ∷ line) = b == 35
 
-abbrev pub listed : Result Job WordError → Result (List Job) ListRefusal
-listed (Ok job) = Ok (job ∷ [])
-listed (Err why) = Err (refused_for (Words why))
+-- an earlier job has the output's name
+abbrev pub is_taken : Text → List Job → Bool
+is_taken output jobs = list_any (λ (job : Job). bytes_eq output job.output) jobs
 
--- the job of a line's words: a working directory and compile words
-abbrev pub job_of_words : List Text → Result (List Job) ListRefusal
-job_of_words [] = Err (refused_for NotBuilt)
-job_of_words (cwd ∷ []) = Err (refused_for NotBuilt)
-job_of_words (cwd ∷ word ∷ words) = listed (reading cwd (word ∷ words))
+-- jobs, and the one that was read behind them
+abbrev pub with_read : List Job → Result Job WordError → Result (List Job) ListWhy
+with_read jobs (Err why) = Err (Words why)
+with_read jobs (Ok job) = if is_taken job.output jobs then Err Output else Ok (jobs ++ job ∷ [])
 
-abbrev pub job_of_line : Option Text → Result (List Job) ListRefusal
-job_of_line None = Err (refused_for NotBuilt)
-job_of_line (Some line) = if begins_comment line || list_any is_strange line then Err (refused_for NotBuilt) else job_of_words (line_words line)
+-- jobs, and the one that a line's words ask for behind them, if they aren't 20,000: a working directory and compile words
+abbrev pub with_words : List Job → Option (List Text) → Result (List Job) ListWhy
+with_words jobs None = Err Escape
+with_words jobs (Some []) = Ok jobs
+with_words jobs (Some (cwd ∷ words)) = if nat_le 20000 (length jobs) then Err Limit else with_read jobs (reading cwd words)
 
--- The jobs of a list of at most 16,777,216 bytes: one line of a working directory and compile words, with a line feed;
--- anything else isn't built.
-unfoldable pub jobs_of : Text → Result (List Job) ListRefusal
-jobs_of bytes = if nat_le (length bytes) 16777216 then job_of_line (line_of bytes) else Err (refused_for NotBuilt)
+-- the jobs of the lines in front of a line, and its own, if it gives one; or why it is refused
+abbrev pub with_line : List Job → Text → Result (List Job) ListWhy
+with_line jobs line = if begins_comment line then Ok jobs else with_words jobs (line_words line)
+
+-- ---- the jobs of a list ----
+
+-- jobs are read on from, and the line at which they are refused is told by its number
+abbrev pub and_on : ℕ → (List Job → Result (List Job) ListError) → Result (List Job) ListWhy → Result (List Job) ListError
+and_on number next (Ok jobs) = next jobs
+and_on number next (Err why) = Err (record { line = number; why = why })
+
+-- the jobs of the lines in front, and those of these lines, of which the first has this number
+unfoldable pub jobs_from : ℕ → List Job → List Text → Result (List Job) ListError
+jobs_from number jobs [] = Ok jobs
+jobs_from number jobs (line ∷ lines) = and_on number (λ more. jobs_from (number + 1) more lines) (with_line jobs line)
+
+-- a list of more than 16,777,216 bytes is refused as a whole
+abbrev pub too_long : ListError
+too_long = record { line = 0; why = Limit }
+
+-- The jobs of a list, whose lines are counted from 1; or the first line that is refused, and why.
+unfoldable pub jobs_of : Text → Result (List Job) ListError
+jobs_of bytes = if nat_le (length bytes) 16777216 then jobs_from 1 [] (list_lines bytes) else Err too_long

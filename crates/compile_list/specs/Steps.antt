@@ -1,23 +1,36 @@
--- What reading a list comes to.
-use Rattle.std.specs.Prelude.{◌≡◌, ℕ, List, [], ◌∷◌, Option, Result, Ok, Err}
+-- What reading a list comes to, and what the code has of it on the way.
+use Rattle.std.specs.Prelude.{◌≡◌, ◌≢◌, ℕ, List, [], ◌∷◌, ◌++◌, length, map, take, nat_lt, bytes_eq, Option, Some, Result, Ok, Err}
+use Rattle.std.specs.HashSet.{HashSet, contains_by}
+use Rattle.std.specs.List.{filter}
 use Rattle.std.specs.Option.{ForSome}
 use Rattle.base_types.specs.Causes.{Rose}
+use Rattle.tree_model.specs.Paths.{Text}
 use Rattle.job_words.specs.declared.job.Job.{Job}
 use Rattle.job_words.specs.Words.{IsJob}
-use Rattle.compile_list.specs.declared.list.ListWhy.{ListWhy}
+use Rattle.compile_list.specs.declared.line.LineWords.{LineWords}
 use Rattle.compile_list.specs.declared.listed.NoJob.{NoJob}
 use Rattle.compile_list.specs.declared.listed.NoJob.TheVariants as no_job
-use Rattle.compile_list.specs.Listed.{ListRefusal, jobs_of, refused_for}
-
--- the one job that was read, or why there is none
-abbrev pub given : Result Job ListWhy → Result (List Job) ListRefusal
-given (Ok job) = Ok (job ∷ [])
-given (Err why) = Err (refused_for why)
+use Rattle.compile_list.specs.Listed.{jobs_of, is_taken, unit_words}
 
 -- A list of these bytes, of which those are left afterwards, gives its one job and was read to its end; or it is refused,
--- or the count of its faults rose, or there was no memory.
+-- or has no job or several, of which nothing is built, or the count of its faults rose, or there was no memory.
 abbrev pub ListGives : Option (List ℕ) → Option (List ℕ) → ℕ → ℕ → Result Job NoJob → Type 0
 ListGives before now from to (Ok job) = IsJob job × (ForSome before (λ bytes. jobs_of bytes ≡ Ok (job ∷ [])) × ForSome now (λ rest. rest ≡ []))
-ListGives before now from to (Err (no_job.Refused why)) = ForSome before (λ bytes. jobs_of bytes ≡ Err (refused_for why))
+ListGives before now from to (Err (no_job.Refused error)) = ForSome before (λ bytes. jobs_of bytes ≡ Err error)
+ListGives before now from to (Err no_job.NotBuilt) = ForSome before (λ bytes. (jobs : List Job) × (jobs_of bytes ≡ Ok jobs) × (length jobs ≢ 1))
 ListGives before now from to (Err no_job.Fault) = Rose from to
 ListGives before now from to (Err no_job.Memory) = Unit {0}
+
+-- ---- on the way ----
+
+-- a word of these bytes, if there are any
+abbrev pub word_in : Text → List Text
+word_in word = filter (λ word. nat_lt 0 (length word)) (word ∷ [])
+
+-- the first 1,002 words of what was read of a line and of these units behind it
+abbrev pub kept : LineWords → List (Option ℕ) → List Text
+kept words units = take 1002 (words.ended ++ unit_words (map (λ b. Some b) words.word.items ++ units))
+
+-- a set has the names of the outputs of jobs
+abbrev pub HasOutputs : {S : Type 0} → HashSet Text S → List Job → Type 0
+HasOutputs outputs jobs = (output : Text) → contains_by (λ other. bytes_eq output other) outputs ≡ is_taken output jobs

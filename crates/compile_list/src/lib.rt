@@ -1,8 +1,16 @@
-//! The compile list: read from any source to its end, and the job that it gives.
+//! The compile list: the jobs that its bytes ask for, and the one job of a list that is read from any source.
 #![tactic(auto)]
 
-mod list;
+mod bytes;
+mod jobs;
+mod line;
 mod listed;
+mod lists;
+mod refused;
+#[cfg(test)]
+mod tests;
 
-pub use list::ListWhy;
+pub use line::words_of_line;
 pub use listed::{NoJob, listed_job};
+pub use lists::read_list;
+pub use refused::{ListError, ListWhy};

@@ -4,8 +4,10 @@
 --     Places      the last `.` of a name, and what stands behind the last `/` of a text
 --     EachOnce    texts, each at its first place alone
 --     Jobs        what a reading keeps, and how long its words are
+--     FirstWords  more words than are read
 pub mod Fronts
 pub mod Steps
 pub mod Places
 pub mod EachOnce
 pub mod Jobs
+pub mod FirstWords

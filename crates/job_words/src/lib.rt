@@ -8,5 +8,5 @@ mod reading;
 mod word;
 
 pub use job::Job;
-pub use laws::{equal_jobs_are_same, jobs_are_short, jobs_keep_words};
+pub use laws::{equal_jobs_are_same, first_words_decide, jobs_are_short, jobs_keep_words};
 pub use reading::{WordError, read_words};
