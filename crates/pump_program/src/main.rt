@@ -36,15 +36,17 @@ use tree_model::{Cached, Tree};
 
 const HELP: &str = "usage: pump_program order - --hosts HOST -j 1 < LIST
 
-LIST has one line: a working directory, and the words of a compile command
-without the compiler's name, with one C source in them. Of its options -I,
--iquote, -isystem, -idirafter, -include, -o and -trigraphs are read, and those
-without effect on preprocessing passed over. The source is preprocessed as
-`cc -E` would, by a daemon that gets just the files that it may include, or else
-here. So far the daemon is in this process: HOST is read and not dialed. The
-text is written below the folder `out`, under the name of -o, also where that
-begins with `/`, or the source's with `.i`. A report is written to standard
-output, and a line on what failed, and why, to standard error.
+A line of LIST asks for a job, and so far one line does: a working directory,
+and the words of a compile command without the compiler's name, with one C
+source in them; a `\\` makes the byte behind it one of a word, and a line that
+begins with # is passed over. Of the options -I, -iquote, -isystem, -idirafter,
+-include, -o and -trigraphs are read, and those without effect on preprocessing
+passed over. The source is preprocessed as `cc -E` would, by a daemon that gets
+just the files that it may include, or else here. So far the daemon is in this
+process: HOST is read and not dialed. The text is written below the folder
+`out`, under the name of -o, also where that begins with `/`, or the source's
+with `.i`. A report is written to standard output, and a line on what failed,
+and why, to standard error.
 
 status: 0 a text, 1 a diagnostic, 2 wrong words, 3 a wrong list, 4 a failed
 read, write or start, 5 out of memory, 6 a failed read of the tree";

@@ -1,7 +1,6 @@
 // What a run says on standard error: what the host failed at, what is wrong with the list, and why.
 use crate::folder::Folder;
 use crate::wrong_list::{WrongList, wrong_list};
-use base_types::Bytes;
 use command_line::{tell, wrong_words};
 use io_edges::{FolderOuts, HostFault};
 use std::io;
@@ -56,16 +55,13 @@ fn tell_list<R: Eprint + AllocGlobal>(rt: &R, list: Option<&[u8]>) {
 }
 
 fn tell_wrong<R: Eprint>(rt: &R, wrong: &WrongList) {
-    let why = wrong.why;
-    match &wrong.word {
-        Some(word) => tell_word(rt, word, why),
-        None => {
-            let _ = eprintln!(rt; "{NAME}: list line 1: {why}");
+    let WrongList { line, word, why } = wrong;
+    let _ = match (line, word) {
+        (0, _) => eprintln!(rt; "{NAME}: list: {why}"),
+        (line, None) => eprintln!(rt; "{NAME}: list line {line}: {why}"),
+        (line, Some(word)) => {
+            let word = word.as_slice().escape_ascii();
+            eprintln!(rt; "{NAME}: list line {line}: '{word}': {why}")
         }
-    }
-}
-
-fn tell_word<R: Eprint>(rt: &R, word: &Bytes, why: &str) {
-    let word = word.as_slice().escape_ascii();
-    let _ = eprintln!(rt; "{NAME}: list line 1: '{word}': {why}");
+    };
 }

@@ -1,94 +1,105 @@
-// What is wrong with a list that gives no job, in words.
-use base_types::{Bytes, List};
+// What is wrong with a list that isn't one of one job, in words.
+use base_types::Bytes;
+use bstr::ByteSlice;
+use compile_list::{ListError, ListWhy, read_list, words_of_line};
 use job_words::{WordError, read_words};
 use std::alloc::{AllocError, Global};
 
-/// Why a list gives no job, and the word of its line at which that shows.
+/// The line of a list that is wrong, 0 for the list as a whole; the word at which that shows, if it does; and what is wrong.
 #[derive(Drop)]
 pub struct WrongList {
+    pub line: u32,
     pub word: Option<Bytes>,
     pub why: &'static str,
 }
 
 impl WrongList {
-    fn of(why: &'static str) -> WrongList {
-        WrongList { word: None, why }
-    }
-}
-
-/// What is wrong with a list; None where it gives a job. An error is want of memory.
-pub fn wrong_list(alloc: Global, list: &[u8]) -> Result<Option<WrongList>, AllocError> {
-    if let Some(why) = wrong_line(list) {
-        return Ok(Some(WrongList::of(why)));
-    }
-    let words = words_in(alloc, list)?;
-    match words.as_slice() {
-        [cwd, words @ ..] => wrong_words(alloc, cwd.as_slice(), words),
-        [] => Ok(None),
-    }
-}
-
-// Why a list isn't one line of a working directory and compile words.
-fn wrong_line(list: &[u8]) -> Option<&'static str> {
-    let [line @ .., last] = list else {
-        return Some("nothing is in it");
-    };
-    if line.contains(&b'\n') {
-        return Some("more than one line isn't built");
-    }
-    if *last != b'\n' {
-        return Some("its line has no end");
-    }
-    if line.first() == Some(&b'#') {
-        return Some("a comment isn't built");
-    }
-    if line.iter().any(|b| matches!(b, b'\\' | b'\r')) {
-        return Some("a `\\` or a carriage return isn't built");
-    }
-    if count_words(line) < 2 {
-        return Some("no compile words");
-    }
-    None
-}
-
-fn is_blank(b: &u8) -> bool {
-    matches!(b, b' ' | b'\t')
-}
-
-fn count_words(line: &[u8]) -> usize {
-    line.split(is_blank).filter(|part| !part.is_empty()).count()
-}
-
-// The words of a list's line.
-fn words_in(alloc: Global, list: &[u8]) -> Result<List<Bytes>, AllocError> {
-    let mut words = List::new(alloc);
-    for part in list.split(|b| is_blank(b) || *b == b'\n') {
-        if !part.is_empty() {
-            words.push(Bytes::copy_of(alloc, part)?)?;
+    fn of(line: u32, why: &'static str) -> WrongList {
+        WrongList {
+            line,
+            word: None,
+            why,
         }
     }
-    Ok(words)
 }
 
-// Why compile words give no job.
-fn wrong_words(
-    alloc: Global,
-    cwd: &[u8],
-    words: &[Bytes],
-) -> Result<Option<WrongList>, AllocError> {
-    let why = match read_words(alloc, cwd, words) {
-        Ok(_) => return Ok(None),
-        Err(WordError::Memory) => return Err(AllocError),
-        Err(why) => why,
+/// What is wrong with a list; None where it has one job. An error is want of memory.
+pub fn wrong_list(alloc: Global, list: &[u8]) -> Result<Option<WrongList>, AllocError> {
+    let ListError { line, why } = match read_list(alloc, list) {
+        Ok(jobs) => return Ok(wrong_count(jobs.len())),
+        Err(error) => error,
     };
-    let word = match word_at_fault(alloc, cwd, words, why) {
+    match why {
+        ListWhy::Escape => Ok(Some(WrongList::of(line, "a `\\` at the end (escape)"))),
+        ListWhy::Limit => Ok(Some(WrongList::of(line, limit(line)))),
+        ListWhy::Words(_) | ListWhy::Output => wrong_job(alloc, line, line_at(list, line)),
+        ListWhy::Memory => Err(AllocError),
+    }
+}
+
+// What is wrong with so many jobs.
+fn wrong_count(jobs: usize) -> Option<WrongList> {
+    match jobs {
+        0 => Some(WrongList::of(0, "no job is in it")),
+        1 => None,
+        _ => Some(WrongList::of(0, "more than one job isn't built")),
+    }
+}
+
+fn limit(line: u32) -> &'static str {
+    match line {
+        0 => "more than 16,777,216 bytes (limit)",
+        _ => "more than 20,000 jobs (limit)",
+    }
+}
+
+// A line of a list by its number, from 1.
+fn line_at(list: &[u8], number: u32) -> &[u8] {
+    for (place, line) in list.lines().enumerate() {
+        if place + 1 == number as usize {
+            return line;
+        }
+    }
+    list
+}
+
+// What is wrong with the job of a line.
+fn wrong_job(alloc: Global, line: u32, text: &[u8]) -> Result<Option<WrongList>, AllocError> {
+    let Ok(words) = words_of_line(alloc, text) else {
+        return Err(AllocError);
+    };
+    let [cwd, words @ ..] = words.as_slice() else {
+        return Ok(None);
+    };
+    let cwd = cwd.as_slice();
+    match read_words(alloc, cwd, words) {
+        Ok(job) => at_word(
+            alloc,
+            line,
+            Some(job.output()),
+            "an earlier job's output (output)",
+        ),
+        Err(WordError::Memory) => Err(AllocError),
+        Err(why) => at_word(
+            alloc,
+            line,
+            word_at_fault(alloc, cwd, words, why),
+            reason(why),
+        ),
+    }
+}
+
+fn at_word(
+    alloc: Global,
+    line: u32,
+    word: Option<&[u8]>,
+    why: &'static str,
+) -> Result<Option<WrongList>, AllocError> {
+    let word = match word {
         Some(word) => Some(Bytes::copy_of(alloc, word)?),
         None => None,
     };
-    Ok(Some(WrongList {
-        word,
-        why: reason(why),
-    }))
+    Ok(Some(WrongList { line, word, why }))
 }
 
 // The word at which a reason shows.

@@ -1,6 +1,5 @@
 -- Lemmas.
 --     Lines       the lines of refusals
---     RefusalLines  the lines that say why a list is refused
 --     Counted     what the words ask of ends that are seen
 --     Still       ends that nothing was done at
 --     Refused     runs that are refused before their job
@@ -8,7 +7,6 @@
 --     Ran         runs that did their job
 --     ServedAll   exchanges that daemons answered
 pub mod Lines
-pub mod RefusalLines
 pub mod Counted
 pub mod Still
 pub mod Refused

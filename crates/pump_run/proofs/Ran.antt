@@ -117,6 +117,6 @@ module _ (given : Given) (before : Outside) (fresh : AllByRecursion IsFresh befo
     status_is = status-of before after done.job done.client status done.way deeds done.outcome told.status_is told.no_memory;
     daemons = record { begun = refl; running = refl; asked = refl };
     answered = answered;
-    complete = λ served tree named settings asks bytes left_is jobs lists still.
+    complete = λ served tree named settings asks bytes left_is one lists still.
         (let ends_still = calm-first still.ends in calm tree 4096 job done deeds (over-tree served tree named gives) (record { tree = ends_still.0; wire = ends_still.1.0; outs = ends_still.1.1.0 }), tt);
   }

@@ -13,13 +13,15 @@ use Rattle.job_ends.specs.declared.record.JobOutcome.TheVariants as end
 use Rattle.job_ends.specs.Works.{Work}
 use Rattle.job_words.specs.declared.reading.WordError.{WordError}
 use Rattle.job_words.specs.declared.reading.WordError.TheVariants as word
-use Rattle.compile_list.specs.declared.list.ListWhy.{ListWhy}
-use Rattle.compile_list.specs.declared.list.ListWhy.TheVariants.{NotBuilt, Words}
+use Rattle.compile_list.specs.declared.refused.ListError.{ListError}
+use Rattle.compile_list.specs.declared.refused.ListWhy.{ListWhy}
+use Rattle.compile_list.specs.declared.refused.ListWhy.TheVariants as list
 
 -- how a run may end: refused before its jobs, or with its jobs run
 pub data Ending : Type 0 where
   Usage : Ending
-  ListRefused : ℕ → ListWhy → Ending
+  ListRefused : ListError → Ending
+  ListNotBuilt : Ending
   ListFault : Ending
   SpawnFault : Ending
   NoMemory : Ending
@@ -101,14 +103,19 @@ word_number word.Limit = codes "6"
 word_number word.Cwd = codes "7"
 word_number word.Memory = codes "8"
 
+-- why a line of the list is refused
 abbrev pub why_text : ListWhy → List ℕ
-why_text NotBuilt = codes "not built"
-why_text (Words why) = codes "words " ++ word_number why
+why_text list.Escape = codes "escape"
+why_text list.Limit = codes "limit"
+why_text (list.Words why) = codes "words " ++ word_number why
+why_text list.Output = codes "output"
+why_text list.Memory = codes "memory"
 
 -- the whole text of the report
 abbrev pub report_text : Ending → List ℕ
 report_text Usage = codes "pump: usage" ++ 10 ∷ []
-report_text (ListRefused line why) = codes "pump: list " ++ decimal line ++ codes ": " ++ why_text why ++ 10 ∷ []
+report_text (ListRefused error) = codes "pump: list " ++ decimal error.line ++ codes ": " ++ why_text error.why ++ 10 ∷ []
+report_text ListNotBuilt = codes "pump: list 0: not built" ++ 10 ∷ []
 report_text ListFault = codes "pump: list read fault" ++ 10 ∷ []
 report_text SpawnFault = codes "pump: spawn fault" ++ 10 ∷ []
 report_text NoMemory = codes "pump: memory" ++ 10 ∷ []

@@ -11,7 +11,7 @@
 --     the report and the status say what happened            report, status_is                  report_text (Report), StatusIs
 --     nothing stands in the way but want of memory,          complete                           IsComplete
 --         where nothing failed
-use Rattle.std.specs.Prelude.{◌≡◌, Ok, Err, ℕ, ◌<◌, ◌⊎◌, List, [], length, take, Bool, true, false, cond, Option, None, Some, IfSome, IsSome, if◌then◌else◌}
+use Rattle.std.specs.Prelude.{◌≡◌, ◌≢◌, Ok, Err, ℕ, ◌<◌, ◌⊎◌, List, [], ◌∷◌, length, take, Bool, true, false, cond, Option, None, Some, IfSome, IsSome, if◌then◌else◌}
 use Rattle.std.specs.List.{list_any, AllByRecursion}
 use Rattle.std.specs.Option.{ForSome}
 use Rattle.tree_model.specs.Trees.{FileTree}
@@ -30,7 +30,7 @@ use Rattle.job_ends.specs.Record.{known}
 use Rattle.job_ends.specs.Works.{Work, EachEnd, ToHosts, EachRecord, EachServed, EachAgrees, EachCalm, is_memory, is_out_fault, is_tree_fault, is_diag}
 use Rattle.compile_list.specs.Listed.{jobs_of}
 use Rattle.run_words.specs.Asked.{Settings, settings_of}
-use Rattle.pump_run.specs.Report.{Ending, Usage, ListRefused, ListFault, SpawnFault, NoMemory, Ran, report_text}
+use Rattle.pump_run.specs.Report.{Ending, Usage, ListRefused, ListNotBuilt, ListFault, SpawnFault, NoMemory, Ran, report_text}
 
 -- ---- the outside before the call and after it ----
 
@@ -70,7 +70,8 @@ asked_for given before = settings_of (length before.ends) given.words
 -- the jobs that were run: none after a refusal
 abbrev pub ran : Ending → List Work
 ran Usage = []
-ran (ListRefused line why) = []
+ran (ListRefused error) = []
+ran ListNotBuilt = []
 ran ListFault = []
 ran SpawnFault = []
 ran NoMemory = []
@@ -120,7 +121,8 @@ Readable before = ForSome before.left (λ bytes. (jobs : List Job) × (jobs_of b
 -- the cause of each ending
 abbrev pub HasEnding : Given → Outside → Outside → Ending → Type 0
 HasEnding given before after Usage = asked_for given before ≡ None
-HasEnding given before after (ListRefused line why) = AsksSomething given before × ForSome before.left (λ bytes. jobs_of bytes ≡ Err (record { line = line; why = why }))
+HasEnding given before after (ListRefused error) = AsksSomething given before × ForSome before.left (λ bytes. jobs_of bytes ≡ Err error)
+HasEnding given before after ListNotBuilt = AsksSomething given before × ForSome before.left (λ bytes. (jobs : List Job) × (jobs_of bytes ≡ Ok jobs) × (length jobs ≢ 1))
 HasEnding given before after ListFault = AsksSomething given before × Rose before.counts.list after.counts.list
 HasEnding given before after SpawnFault = AsksSomething given before × (Readable before × Rose before.counts.spawner after.counts.spawner)
 HasEnding given before after NoMemory = Unit {0}
@@ -152,7 +154,8 @@ OutsideRose before after =
 -- the status of a run that isn't 5 for want of memory outside its jobs
 abbrev pub StatusIs : Outside → Outside → Ending → ℕ → Type 0
 StatusIs before after Usage status = status ≡ 2
-StatusIs before after (ListRefused line why) status = status ≡ 3
+StatusIs before after (ListRefused error) status = status ≡ 3
+StatusIs before after ListNotBuilt status = status ≡ 3
 StatusIs before after ListFault status = status ≡ 4
 StatusIs before after SpawnFault status = status ≡ 4
 StatusIs before after NoMemory status = ⊥
@@ -177,11 +180,12 @@ pub record NoFaults (before after : Outside) : Type 0 where
   pub report : Rose before.counts.report after.counts.report → ⊥
   pub ends : EachCalm before.ends after.ends
 
--- where the words and the list are in their grammars and nothing failed, all jobs were run, and only want of memory stood in the way
+-- where the words and the list are in their grammars, the list has one job and nothing failed, it was run, and only want of memory stood in the way
 abbrev pub IsComplete : Given → Outside → Outside → Ending → ℕ → Type 0
 IsComplete given before after (Ran works) status = AllByRecursion (λ (w : Work). IsCalm w.done.way w.done.outcome) works
 IsComplete given before after Usage status = ⊥
-IsComplete given before after (ListRefused line why) status = ⊥
+IsComplete given before after (ListRefused error) status = ⊥
+IsComplete given before after ListNotBuilt status = ⊥
 IsComplete given before after ListFault status = ⊥
 IsComplete given before after SpawnFault status = ⊥
 IsComplete given before after NoMemory status = status ≡ 5
@@ -196,7 +200,7 @@ pub record IsRun (given : Given) (before after : Outside) (status : ℕ) : Type 
   pub status_is : (status ≡ 5) ⊎ StatusIs before after ending status
   pub daemons : DaemonsHold given ending status before after
   pub answered : EachAnsweredBy given.peer after.ends
-  pub complete : EachServed after.ends → ForSome given.named (λ tree. (settings : Settings) → asked_for given before ≡ Some settings → (bytes : List ℕ) → before.left ≡ Some bytes → (jobs : List Job) → jobs_of bytes ≡ Ok jobs → NoFaults before after → IsComplete given before after ending status)
+  pub complete : EachServed after.ends → ForSome given.named (λ tree. (settings : Settings) → asked_for given before ≡ Some settings → (bytes : List ℕ) → before.left ≡ Some bytes → (job : Job) → jobs_of bytes ≡ Ok (job ∷ []) → NoFaults before after → IsComplete given before after ending status)
 
 -- what contracts see of the outside, from the members of the bounds
 abbrev pub outside : List EndSeen → Option (List ℕ) → ℕ → List (ℕ × Host) → List Host → Bool → ℕ → Option (List ℕ) → ℕ → Outside

@@ -11,14 +11,13 @@ use Rattle.job_ends.specs.declared.record.JobOutcome.{JobOutcome}
 use Rattle.job_ends.specs.declared.record.JobOutcome.TheVariants as end
 use Rattle.job_ends.specs.Outside.{EndSeen}
 use Rattle.job_ends.specs.Record.{DidJob, known}
-use Rattle.compile_list.specs.Listed.{line_of_why}
-use Rattle.compile_list.specs.declared.list.ListWhy.{ListWhy}
+use Rattle.compile_list.specs.declared.refused.ListError.{ListError}
 use Rattle.pump_run.specs.Report.{ListRefused, report_text, jobs_text}
 use Rattle.pump_run.specs.Run.{IsPut}
 
 -- the line that says why a list is refused
-unfoldable pub refusal_text_of : ListWhy → List ℕ
-refusal_text_of why = report_text (ListRefused (line_of_why why) why)
+unfoldable pub refusal_text_of : ListError → List ℕ
+refusal_text_of error = report_text (ListRefused error)
 
 -- ---- the job ----
 

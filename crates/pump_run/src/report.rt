@@ -1,13 +1,12 @@
 // The report of the jobs.
 ghost use Rattle.std.specs.Prelude.{◌≡◌, ◌++◌, [], ◌∷◌, count_by, codes, IfOk, OnOk};
-ghost use Rattle.compile_list.specs.declared.list.ListWhy.TheVariants.{Words};
 ghost use Rattle.pump_run.specs.Steps.{refusal_text_of};
-ghost use Rattle.pump_run.specs.Report.{jobs_text, job_text, totals_text, outcome_text, after_text, way_text, refusal_text, is_remote, is_local, is_broken};
+ghost use Rattle.pump_run.specs.Report.{why_text, word_number, jobs_text, job_text, totals_text, outcome_text, after_text, way_text, refusal_text, is_remote, is_local, is_broken};
 
 use base_types::Bytes;
 use build_clients::{Cause, Done, JobOutcome, Way};
 use closure_fixpoint::Refusal;
-use compile_list::ListWhy;
+use compile_list::{ListError, ListWhy};
 use job_words::WordError;
 use std::alloc::{AllocError, Global};
 
@@ -25,28 +24,45 @@ pub fn report_of(alloc: Global, records: &[Done]) -> Result<Bytes, AllocError>
 }
 
 /// The line that says why a list is refused.
-pub fn refusal_line(why: ListWhy) -> &'static [u8]
-    ensures { result.now ≡ refusal_text_of why }
+#[tactic(auto, unfolding(crate::specs::Steps::refusal_text_of))]
+pub fn refusal_line(alloc: Global, error: ListError) -> Result<Bytes, AllocError>
+    ensures { IfOk result (λ line. line ≡ refusal_text_of error) }
+{
+    let ListError { line, why } = error;
+    let mut text = Vec::new(alloc);
+    let head = format!(in alloc; "pump: list {line}: ")?;
+    text.extend_from_slice(head.as_bytes())?;
+    text.extend_from_slice(why_words(why))?;
+    text.extend_from_slice(b"\n")?;
+    Ok(Bytes::of(text))
+}
+
+// Why a list is refused, in words.
+fn why_words(why: ListWhy) -> &'static [u8]
+    ensures { result.now ≡ why_text why }
 {
     match why {
-        ListWhy::NotBuilt => b"pump: list 0: not built\n",
-        ListWhy::Words(why) => words_line(why),
+        ListWhy::Escape => b"escape",
+        ListWhy::Limit => b"limit",
+        ListWhy::Words(why) => words_words(why),
+        ListWhy::Output => b"output",
+        ListWhy::Memory => b"memory",
     }
 }
 
-// The line that says why words give no job.
-fn words_line(why: WordError) -> &'static [u8]
-    ensures { result.now ≡ refusal_text_of (Words why) }
+// Why words give no job, by its number.
+fn words_words(why: WordError) -> &'static [u8]
+    ensures { result.now ≡ codes "words " ++ word_number why }
 {
     match why {
-        WordError::NoSource => b"pump: list 1: words 1\n",
-        WordError::TwoSources => b"pump: list 1: words 2\n",
-        WordError::Unknown => b"pump: list 1: words 3\n",
-        WordError::NoOperand => b"pump: list 1: words 4\n",
-        WordError::BadMacro => b"pump: list 1: words 5\n",
-        WordError::Limit => b"pump: list 1: words 6\n",
-        WordError::Cwd => b"pump: list 1: words 7\n",
-        WordError::Memory => b"pump: list 1: words 8\n",
+        WordError::NoSource => b"words 1",
+        WordError::TwoSources => b"words 2",
+        WordError::Unknown => b"words 3",
+        WordError::NoOperand => b"words 4",
+        WordError::BadMacro => b"words 5",
+        WordError::Limit => b"words 6",
+        WordError::Cwd => b"words 7",
+        WordError::Memory => b"words 8",
     }
 }
 

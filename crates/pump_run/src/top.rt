@@ -17,15 +17,15 @@ use std::sync::Wait;
 use std::thread::Threads;
 use tree_model::Tree;
 
-/// Does the jobs of a compile list: reads the words `order - --hosts HOST -j 1`, and the list, which is one line of a
-/// working directory and compile words; does its job at the first of the ends, puts the job's text on that end's outs, and
-/// writes the report: a line for the job and one of totals, or one line that says why nothing was done. The ends weren't
+/// Does the jobs of a compile list: reads the words `order - --hosts HOST -j 1`, and the list, of which only one with one job
+/// is built so far; does its job at the first of the ends, puts the job's text on that end's outs, and writes the report: a
+/// line for the job and one of totals, or one line that says why nothing was done. The ends weren't
 /// used before, and there are as many as clients at least. The spawner isn't called: hosts are given by name.
 ///
 /// The status is the first of these that holds:
 /// - 5: there was no memory, for a job or outside the jobs;
 /// - 2: the words aren't in their grammar, or ask for more clients than there are ends;
-/// - 3: the list isn't in its grammar, or its words give no job;
+/// - 3: the list is refused, or has no job or several;
 /// - 4: the list, the outs or the report failed;
 /// - 6: the tree failed in some job;
 /// - 1: some job has a diagnostic;
@@ -57,7 +57,15 @@ pub fn pump<T: Tree, W: Wire, O: Outs, P: Spawner, S: Source, K: Sink, R: Thread
     };
     let job = match listed_job(alloc, list) {
         Ok(job) => job,
-        Err(NoJob::Refused(why)) => return refuse(report, refusal_line(why), REFUSED),
+        Err(NoJob::Refused(error)) => {
+            let Ok(line) = refusal_line(alloc, error) else {
+                return refuse(report, b"pump: memory\n".as_slice(), NO_MEMORY);
+            };
+            return refuse(report, line.as_slice(), REFUSED);
+        }
+        Err(NoJob::NotBuilt) => {
+            return refuse(report, b"pump: list 0: not built\n".as_slice(), REFUSED);
+        }
         Err(NoJob::Fault) => {
             return refuse(report, b"pump: list read fault\n".as_slice(), FAULT);
         }

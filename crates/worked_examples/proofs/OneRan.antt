@@ -17,7 +17,7 @@ use Rattle.job_ends.specs.Record.{Known, known}
 use Rattle.job_ends.specs.Works.{Work, EachEnd, EndHolds, EachRecord, EachServed, EachAgrees, JobAgrees, works_of, is_memory, is_out_fault, is_tree_fault, is_diag}
 use Rattle.compile_list.specs.Listed.{jobs_of}
 use Rattle.run_words.specs.Asked.{Settings, settings_of, settings_in, settings_with, is_grammar, within_ends}
-use Rattle.pump_run.specs.Report.{Ending, Usage, ListRefused, ListFault, SpawnFault, NoMemory, Ran, report_text, jobs_text}
+use Rattle.pump_run.specs.Report.{Ending, Usage, ListRefused, ListNotBuilt, ListFault, SpawnFault, NoMemory, Ran, report_text, jobs_text}
 use Rattle.pump_run.specs.Run.{Given, Outside, IsRun, JobsRan, StatusIs, HasEnding, Reports, OutsideRose, ServedByDaemon, IsDaemon, EachTells, ran, given}
 
 -- the one job that was run, and what is known of it
@@ -119,7 +119,8 @@ module _ (tree : FileTree) (peer : List ℕ → List ℕ → Type 0) (words : Li
   of_status : (ending : Ending) → HasEnding (given (Some tree) peer words) before after ending → EachEnd 0 (ran ending) (e ∷ []) (now ∷ [])
       → StatusIs before after ending status → Reports (report_text ending) status before after → OneRan tree job status before after now
   of_status Usage cause each is report = absurd (omega (arith, is, small))
-  of_status (ListRefused line why) cause each is report = absurd (omega (arith, is, small))
+  of_status (ListRefused error) cause each is report = absurd (omega (arith, is, small))
+  of_status ListNotBuilt cause each is report = absurd (omega (arith, is, small))
   of_status ListFault cause each is report = absurd (omega (arith, is, small))
   of_status SpawnFault cause each is report = absurd (omega (arith, is, small))
   of_status NoMemory cause each is report = absurd is

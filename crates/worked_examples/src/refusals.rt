@@ -1,7 +1,7 @@
 // Words and lists that are refused.
 use crate::example::{JOB, Run};
 
-pub const RUNS: [Run<'static>; 10] = [
+pub const RUNS: [Run<'static>; 15] = [
     Run {
         name: "other words",
         words: &["order", "x"],
@@ -10,24 +10,59 @@ pub const RUNS: [Run<'static>; 10] = [
         ..JOB
     },
     Run {
-        name: "no line of a list",
+        name: "no absolute directory and no source",
         list: "nonsense",
         status: 3,
+        report: "pump: list 1: words 7\n",
+        ..JOB
+    },
+    Run {
+        name: "an empty list",
+        list: "",
+        status: 3,
         report: "pump: list 0: not built\n",
+        ..JOB
+    },
+    Run {
+        name: "a list of comments and blanks",
+        list: "# /w a.c\n\n \t\r\n#\\\n",
+        status: 3,
+        report: "pump: list 0: not built\n",
+        ..JOB
+    },
+    Run {
+        name: "two jobs",
+        list: "/w a.c\n/w b.c\n",
+        status: 3,
+        report: "pump: list 0: not built\n",
+        ..JOB
+    },
+    Run {
+        name: "an output that an earlier job has",
+        list: "/w a.c\n/w ./a.c\n",
+        status: 3,
+        report: "pump: list 2: output\n",
+        ..JOB
+    },
+    Run {
+        name: "an output that a job before the last has",
+        list: "/w a.c\n\n# b\n/w b.c\n/v -o a.i c.c\n",
+        status: 3,
+        report: "pump: list 5: output\n",
+        ..JOB
+    },
+    Run {
+        name: "a line that ends with an escape",
+        list: "/w a.c\n/w b.c c.c\\\r\n",
+        status: 3,
+        report: "pump: list 2: escape\n",
         ..JOB
     },
     Run {
         name: "a directory alone",
         list: "/w\n",
         status: 3,
-        report: "pump: list 0: not built\n",
-        ..JOB
-    },
-    Run {
-        name: "a quoted blank",
-        list: "/w a\\ b.c\n",
-        status: 3,
-        report: "pump: list 0: not built\n",
+        report: "pump: list 1: words 1\n",
         ..JOB
     },
     Run {

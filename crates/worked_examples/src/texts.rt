@@ -2,7 +2,7 @@
 use crate::example::{JOB, Placed, Run};
 use crate::header::{HEADER, RECEIVED, SENT, TEXT};
 
-pub const RUNS: [Run<'static>; 5] = [
+pub const RUNS: [Run<'static>; 7] = [
     Run {
         name: "an empty source",
         files: &[Placed {
@@ -32,6 +32,29 @@ pub const RUNS: [Run<'static>; 5] = [
         sent: SENT,
         received: RECEIVED,
         ..HEADER
+    },
+    Run {
+        name: "comments and blank lines around a job",
+        list: "# jobs\n\n/w a.c\r\n \t\n# /w b.c",
+        report: "job 0 text 57 remote\njobs 1 remote 1 local 0 broken 0\n",
+        text: TEXT,
+        sent: SENT,
+        received: RECEIVED,
+        ..HEADER
+    },
+    Run {
+        name: "an escaped blank is a byte of a word",
+        list: "/w a\\ b.c -o a.i\n",
+        files: &[Placed {
+            path: "/w/a b.c",
+            body: "int x;\n",
+        }],
+        report: "job 0 text 22 remote\njobs 1 remote 1 local 0 broken 0\n",
+        text: "# 1 \"/w/a b.c\"\nint x;\n",
+        sent: "DIST00000103CDIR00000002/wARGC00000003ARGV00000005a b.cARGV00000002-oARGV00000003a.iNFIL00000002\
+               NAME00000002/wMDIR00000000NAME00000008/w/a b.cFILE00000007int x;\n",
+        received: "DONE00000103STAT00000000SERR00000000DOTI00000016# 1 \"/w/a b.c\"\nint x;\n",
+        ..JOB
     },
     Run {
         name: "a header of a directory",

@@ -1,11 +1,11 @@
 use Rattle.std.proofs.Common.{ℕ, List, map, Bor, ◌∙◌, ap}
 use Rattle.job_ends.specs.Outside.{seen_end}
 use Rattle.run_words.specs.Asked.{settings_with}
-use Rattle.compile_list.specs.declared.list.ListWhy.{ListWhy}
+use Rattle.compile_list.specs.declared.refused.ListError.{ListError}
 use Rattle.pump_run.specs.Steps.{refusal_text_of}
 use Rattle.pump_run.specs.Run.{outside, given}
 use Rattle.pump_run.proofs.Counted.{asked-seen}
-use Rattle.pump_run.proofs.Refused.{usage-run, list-refused-run, fault-run, starved-run}
+use Rattle.pump_run.proofs.Refused.{usage-run, list-refused-run, not-built-run, fault-run, starved-run}
 use Rattle.pump_run.proofs.Ran.{ran-run}
 use Rattle.pump_run.proofs.top.pump.Goals as goal
 
@@ -20,6 +20,17 @@ returns-in_default g c =
           (asked-seen seen c.args.ends.now.items (map asked_words c.args.words.now) _ (rw c.number_of.ensures at c.in_default.ensures)) c.as_slice.ensures c.refuse.ensures;
     }
 
+pub returns-in_default-refusal_line : goal.returns-in_default-refusal_line
+returns-in_default-refusal_line g c =
+    let asked_words : Bor (List ℕ) → List ℕ = λ w. w.now in
+    let the_given = given g.T.Of.Frozen.named g.W.Wire.peer (map asked_words c.args.words.now) in
+    let seen = seen_end {F = g.row.T-Of.Denot} g.T.Tree.told g.T.Tree.faults g.T.Tree.reads g.W.Wire.talk g.W.Wire.state g.W.Wire.faults g.O.Outs.kept g.O.Outs.faults in
+    let before = outside (map seen c.args.ends.now.items) (g.S.Source.left c.args.list.now) (g.S.Source.faults c.args.list.now) (g.P.Spawner.begun c.args.spawner.now) (g.P.Spawner.running c.args.spawner.now) (g.P.Spawner.asked c.args.spawner.now) (g.P.Spawner.faults c.args.spawner.now) (g.K.Sink.held c.args.report.now) (g.K.Sink.faults c.args.report.now) in
+    record {
+      run = starved-run the_given before c.requires.fresh (g.S.Source.left c.listed_job.new.list) (g.K.Sink.held c.refuse-in_default-refusal_line.new.report) (g.S.Source.faults c.listed_job.new.list) (g.K.Sink.faults c.refuse-in_default-refusal_line.new.report) c.refuse-in_default-refusal_line.result c.as_slice-in_default-refusal_line.result.now
+          c.as_slice-in_default-refusal_line.ensures c.refuse-in_default-refusal_line.ensures;
+    }
+
 pub returns-in-Err-Refused : goal.returns-in-Err-Refused
 returns-in-Err-Refused g c =
     let asked_words : Bor (List ℕ) → List ℕ = λ w. w.now in
@@ -27,8 +38,19 @@ returns-in-Err-Refused g c =
     let seen = seen_end {F = g.row.T-Of.Denot} g.T.Tree.told g.T.Tree.faults g.T.Tree.reads g.W.Wire.talk g.W.Wire.state g.W.Wire.faults g.O.Outs.kept g.O.Outs.faults in
     let before = outside (map seen c.args.ends.now.items) (g.S.Source.left c.args.list.now) (g.S.Source.faults c.args.list.now) (g.P.Spawner.begun c.args.spawner.now) (g.P.Spawner.running c.args.spawner.now) (g.P.Spawner.asked c.args.spawner.now) (g.P.Spawner.faults c.args.spawner.now) (g.K.Sink.held c.args.report.now) (g.K.Sink.faults c.args.report.now) in
     record {
-      run = list-refused-run the_given before c.requires.fresh (g.S.Source.left c.listed_job.new.list) (g.K.Sink.held c.refuse-in-Err-Refused.new.report) (g.S.Source.faults c.listed_job.new.list) (g.K.Sink.faults c.refuse-in-Err-Refused.new.report) c.refuse-in-Err-Refused.result c.refusal_line.result.now
-          c.in-Err-Refused.why (settings_with c.in-Some.name.now, asked-seen seen c.args.ends.now.items (map asked_words c.args.words.now) _ (rw c.number_of.ensures at c.in-Some.ensures)) (rw c.in-Err-Refused.field-0-is at c.in-Err-Refused.ensures) (c.refusal_line.ensures ∙ ap (λ (why : ListWhy). refusal_text_of why) c.in-Err-Refused.why-is) c.refuse-in-Err-Refused.ensures;
+      run = list-refused-run the_given before c.requires.fresh (g.S.Source.left c.listed_job.new.list) (g.K.Sink.held c.refuse-in-Err-Refused.new.report) (g.S.Source.faults c.listed_job.new.list) (g.K.Sink.faults c.refuse-in-Err-Refused.new.report) c.refuse-in-Err-Refused.result c.as_slice-in-Err-Refused.result.now
+          c.in-Err-Refused.error (settings_with c.in-Some.name.now, asked-seen seen c.args.ends.now.items (map asked_words c.args.words.now) _ (rw c.number_of.ensures at c.in-Some.ensures)) (rw c.in-Err-Refused.field-0-is at c.in-Err-Refused.ensures) (c.as_slice-in-Err-Refused.ensures ∙ c.in-Ok-refusal_line.ensures ∙ ap (λ (error : ListError). refusal_text_of error) c.in-Err-Refused.error-is) c.refuse-in-Err-Refused.ensures;
+    }
+
+pub returns-in-Err-NotBuilt : goal.returns-in-Err-NotBuilt
+returns-in-Err-NotBuilt g c =
+    let asked_words : Bor (List ℕ) → List ℕ = λ w. w.now in
+    let the_given = given g.T.Of.Frozen.named g.W.Wire.peer (map asked_words c.args.words.now) in
+    let seen = seen_end {F = g.row.T-Of.Denot} g.T.Tree.told g.T.Tree.faults g.T.Tree.reads g.W.Wire.talk g.W.Wire.state g.W.Wire.faults g.O.Outs.kept g.O.Outs.faults in
+    let before = outside (map seen c.args.ends.now.items) (g.S.Source.left c.args.list.now) (g.S.Source.faults c.args.list.now) (g.P.Spawner.begun c.args.spawner.now) (g.P.Spawner.running c.args.spawner.now) (g.P.Spawner.asked c.args.spawner.now) (g.P.Spawner.faults c.args.spawner.now) (g.K.Sink.held c.args.report.now) (g.K.Sink.faults c.args.report.now) in
+    record {
+      run = not-built-run the_given before c.requires.fresh (g.S.Source.left c.listed_job.new.list) (g.K.Sink.held c.refuse-in-Err-NotBuilt.new.report) (g.S.Source.faults c.listed_job.new.list) (g.K.Sink.faults c.refuse-in-Err-NotBuilt.new.report) c.refuse-in-Err-NotBuilt.result c.as_slice-in-Err-NotBuilt.result.now
+          (settings_with c.in-Some.name.now, asked-seen seen c.args.ends.now.items (map asked_words c.args.words.now) _ (rw c.number_of.ensures at c.in-Some.ensures)) (rw c.in-Err-NotBuilt.field-0-is at c.in-Err-NotBuilt.ensures) c.as_slice-in-Err-NotBuilt.ensures c.refuse-in-Err-NotBuilt.ensures;
     }
 
 pub returns-in-Err-Fault : goal.returns-in-Err-Fault
