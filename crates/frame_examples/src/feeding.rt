@@ -1,34 +1,12 @@
-// Frames fed to a reader in one piece, byte by byte, and in two pieces cut at each place.
-use crate::edits::{behind, front};
-use crate::shown::{check_text, readable, shown_answer, shown_request};
-use base_types::List;
-use job_frames::{Answer, Fed, FrameError, ReplyReader, RequestReader};
-use job_words::Job;
-use std::alloc::Global;
-use std::process::Abort;
-use tree_model::{CanonPath, Entry};
-
-/// The verdict that a frame comes to: `More` with fewer bytes than `at`, and `fed` with so many.
-#[derive(Clone, Copy, Drop)]
-pub struct Verdict {
-    pub fed: Fed,
-    pub at: usize,
-}
-
-/// The verdict on a frame that isn't whole, and in which nothing is wrong.
-pub const GOING: Verdict = Verdict {
-    fed: Fed::More,
-    at: 0,
-};
+// Frames fed to a reader byte by byte, in two pieces cut at each place, and with more bytes behind them.
+use crate::shown::{add_answer, add_entries, add_job, add_verdict};
+use bstr::ByteSlice;
+use job_frames::{Fed, ReplyReader, RequestReader};
+use std::alloc::{AllocError, Global};
+use std::fmt::Write;
 
 /// A reader that is fed in pieces.
 pub trait Reader: Drop {
-    /// What a whole frame says.
-    type Given: Drop;
-
-    /// The verdict on a whole frame and bytes behind it.
-    const BEHIND: Fed;
-
     /// A reader to which nothing has come.
     fn begin(alloc: Global) -> Self;
 
@@ -38,18 +16,11 @@ pub trait Reader: Drop {
     /// The verdict where no byte follows.
     fn stop(&mut self) -> Fed;
 
-    /// What was read, of a whole frame.
-    fn give(self) -> Option<Self::Given>;
-
-    /// What a whole frame says, as text.
-    fn show(rt: &impl Abort, alloc: Global, given: &Self::Given) -> Vec<u8>;
+    /// Adds what a whole frame says, on lines.
+    fn say(self, text: &mut String) -> Result<(), AllocError>;
 }
 
 impl Reader for RequestReader {
-    type Given = (Job, List<(CanonPath, Entry)>);
-
-    const BEHIND: Fed = Fed::Done;
-
     fn begin(alloc: Global) -> Self {
         RequestReader::new(alloc)
     }
@@ -62,20 +33,18 @@ impl Reader for RequestReader {
         self.end()
     }
 
-    fn give(self) -> Option<Self::Given> {
-        self.finish()
-    }
-
-    fn show(rt: &impl Abort, alloc: Global, given: &Self::Given) -> Vec<u8> {
-        shown_request(rt, alloc, &given.0, given.1.as_slice())
+    fn say(self, text: &mut String) -> Result<(), AllocError> {
+        match self.finish() {
+            None => Ok(()),
+            Some((job, entries)) => {
+                add_entries(text, entries.as_slice())?;
+                add_job(text, &job)
+            }
+        }
     }
 }
 
 impl Reader for ReplyReader {
-    type Given = Answer;
-
-    const BEHIND: Fed = Fed::Refused(FrameError::Order);
-
     fn begin(alloc: Global) -> Self {
         ReplyReader::new(alloc)
     }
@@ -88,150 +57,177 @@ impl Reader for ReplyReader {
         self.end()
     }
 
-    fn give(self) -> Option<Self::Given> {
-        self.finish()
-    }
-
-    fn show(rt: &impl Abort, alloc: Global, given: &Self::Given) -> Vec<u8> {
-        shown_answer(rt, alloc, given)
-    }
-}
-
-// The verdict where more bytes follow.
-fn followed<R: Reader>(fed: Fed) -> Fed {
-    match fed {
-        Fed::Done => R::BEHIND,
-        other => other,
+    fn say(self, text: &mut String) -> Result<(), AllocError> {
+        match self.finish() {
+            None => Ok(()),
+            Some(answer) => add_answer(text, &answer),
+        }
     }
 }
 
-// The verdict where no byte follows.
-fn ended(fed: Fed) -> Fed {
-    match fed {
-        Fed::More => Fed::Refused(FrameError::Cut),
-        other => other,
+/// A frame: its bytes, the first of them that a case puts there, and the bytes that come behind it.
+#[derive(Drop)]
+pub struct Frame<'x> {
+    pub alloc: Global,
+    pub bytes: &'x [u8],
+    pub place: usize,
+    pub behind: &'x [u8],
+}
+
+// What a reader answers to a frame byte by byte: the verdicts before its first byte, behind each, and behind its end; and
+// what the frame says.
+#[derive(Drop)]
+struct Course {
+    verdicts: Vec<Fed>,
+    says: String,
+}
+
+impl Course {
+    fn at(&self, n: usize) -> Fed {
+        self.verdicts.get(n).copied().unwrap_or(Fed::More)
+    }
+
+    // What `feed_cut` sees.
+    fn cut(&self, n: usize, len: usize) -> [Fed; 6] {
+        let end = self.at(len.saturating_add(1));
+        [self.at(n), self.at(len), self.at(len), end, end, end]
     }
 }
 
-// The verdict on the first n bytes of a frame.
-fn expected<R: Reader>(verdict: Verdict, n: usize) -> Fed {
-    if n < verdict.at {
-        return Fed::More;
+/// Adds what a frame gives.
+pub fn add_frame<R: Reader>(text: &mut String, frame: &Frame<'_>) -> Result<(), AllocError> {
+    let mut course = Course {
+        verdicts: Vec::new(frame.alloc),
+        says: String::new(frame.alloc),
+    };
+    run::<R>(frame, &mut course)?;
+    add_course::<R>(text, frame, &course)
+}
+
+fn run<R: Reader>(frame: &Frame<'_>, course: &mut Course) -> Result<(), AllocError> {
+    let mut reader = R::begin(frame.alloc);
+    feed_bytes(&mut reader, frame.bytes, &mut course.verdicts)?;
+    reader.say(&mut course.says)
+}
+
+fn feed_bytes<R: Reader>(
+    reader: &mut R,
+    bytes: &[u8],
+    verdicts: &mut Vec<Fed>,
+) -> Result<(), AllocError> {
+    verdicts.push(reader.take(b""))?;
+    for byte in bytes {
+        verdicts.push(reader.take([*byte].as_slice()))?;
     }
-    if n == verdict.at {
-        return verdict.fed;
+    verdicts.push(reader.stop())?;
+    Ok(())
+}
+
+fn add_course<R: Reader>(
+    text: &mut String,
+    frame: &Frame<'_>,
+    course: &Course,
+) -> Result<(), AllocError> {
+    add_changes(text, frame, course.verdicts.as_slice())?;
+    text.push_str(course.says.as_str())?;
+    add_behind::<R>(text, frame, course)?;
+    for n in 0..=frame.bytes.len() {
+        add_cut::<R>(text, frame, course, n)?;
     }
-    followed::<R>(verdict.fed)
+    Ok(())
 }
 
-/// The verdict on these bytes is the one that is wanted.
-pub fn check_fed(rt: &impl Abort, bytes: &[u8], fed: Fed, want: Fed) {
-    assert!(rt;
-        fed == want,
-        "{fed:?} in place of {want:?} on {:?}",
-        readable(bytes)
-    );
-}
-
-/// A reader to which these bytes came gives what was read exactly where its verdict is `Done`.
-pub fn check_gives<R: Reader>(rt: &impl Abort, bytes: &[u8], reader: R, fed: Fed) {
-    assert!(rt;
-        reader.give().is_some() == (fed == Fed::Done),
-        "{fed:?} on {:?}",
-        readable(bytes)
-    );
-}
-
-// A reader that comes to this verdict with its first piece.
-fn begun<R: Reader>(rt: &impl Abort, alloc: Global, piece: &[u8], fed: Fed) -> R {
-    let mut reader = R::begin(alloc);
-    check_fed(rt, piece, reader.take(piece), fed);
-    reader
-}
-
-// A reader that came to this verdict keeps it: it ends with it, and gives what was read exactly where it is `Done`.
-fn check_end<R: Reader>(rt: &impl Abort, bytes: &[u8], mut reader: R, fed: Fed) {
-    let last = ended(fed);
-    check_fed(rt, bytes, reader.take(b""), fed);
-    check_fed(rt, bytes, reader.stop(), last);
-    check_fed(rt, bytes, reader.take(b""), last);
-    check_fed(rt, bytes, reader.stop(), last);
-    check_gives(rt, bytes, reader, fed);
-}
-
-/// Bytes behind a first piece that came to a verdict, or was cut, don't change it, but behind a whole frame.
-pub fn check_behind<R: Reader>(
-    rt: &impl Abort,
-    alloc: Global,
-    piece: &[u8],
-    fed: Fed,
-    more: &[u8],
-) {
-    let mut reader = begun::<R>(rt, alloc, piece, fed);
-    let last = followed::<R>(ended(fed));
-    if fed == Fed::More {
-        check_fed(rt, piece, reader.stop(), last);
+fn add_changes(text: &mut String, frame: &Frame<'_>, verdicts: &[Fed]) -> Result<(), AllocError> {
+    let mut before = Fed::More;
+    for (n, fed) in verdicts.iter().enumerate() {
+        if *fed != before {
+            add_change(text, frame, n, *fed)?;
+        }
+        before = *fed;
     }
-    check_fed(rt, piece, reader.take(more), last);
-    check_fed(rt, piece, reader.take(b"R"), last);
-    check_fed(rt, piece, reader.stop(), last);
-    check_gives(rt, piece, reader, last);
+    Ok(())
 }
 
-// The verdicts where a frame comes byte by byte.
-fn check_bytes<R: Reader>(rt: &impl Abort, alloc: Global, frame: &[u8], verdict: Verdict) {
-    let mut reader = R::begin(alloc);
-    for (i, byte) in frame.iter().enumerate() {
-        let fed = reader.take([*byte].as_slice());
-        check_fed(rt, front(frame, i + 1), fed, expected::<R>(verdict, i + 1));
+// A verdict that comes with so many bytes, or at the frame's end.
+fn add_change(text: &mut String, frame: &Frame<'_>, n: usize, fed: Fed) -> Result<(), AllocError> {
+    text.push_str("   ")?;
+    add_verdict(text, fed)?;
+    if n > frame.bytes.len() {
+        return text.push_str(" at its end\n");
     }
-    check_end(rt, frame, reader, expected::<R>(verdict, frame.len()));
+    let came = &frame.bytes[frame.place.min(n)..n];
+    writeln!(text, " after {}", came.escape_bytes())
 }
 
-// The verdicts where a frame comes in two pieces, the first of n bytes.
-fn check_cut<R: Reader>(rt: &impl Abort, alloc: Global, frame: &[u8], n: usize, verdict: Verdict) {
-    let last = expected::<R>(verdict, frame.len());
-    let mut reader = begun::<R>(rt, alloc, front(frame, n), expected::<R>(verdict, n));
-    check_fed(rt, frame, reader.take(behind(frame, n)), last);
-    check_end(rt, frame, reader, last);
-}
-
-/// A frame comes to this verdict, in whatever pieces.
-pub fn check<R: Reader>(rt: &impl Abort, alloc: Global, frame: &[u8], verdict: Verdict) {
-    let last = expected::<R>(verdict, frame.len());
-    check_end(rt, frame, begun::<R>(rt, alloc, frame, last), last);
-    check_behind::<R>(rt, alloc, frame, last, b"DIST00000103");
-    check_bytes::<R>(rt, alloc, frame, verdict);
-    for n in 0..frame.len() {
-        check_cut::<R>(rt, alloc, frame, n, verdict);
+// Bytes behind a frame, or behind its end where it isn't whole, and then its end.
+fn feed_behind<R: Reader>(reader: &mut R, frame: &Frame<'_>) -> [Fed; 3] {
+    if reader.take(frame.bytes) == Fed::More {
+        let _ = reader.stop();
     }
+    [reader.take(frame.behind), reader.take(b"R"), reader.stop()]
 }
 
-/// The frame of these parts comes to this verdict, in whatever pieces.
-pub fn check_parts<R: Reader>(rt: &impl Abort, alloc: Global, parts: &[&[u8]], verdict: Verdict) {
-    let frame = parts.concat(alloc).expect(rt, "memory for a frame");
-    check::<R>(rt, alloc, frame.as_slice(), verdict);
-}
-
-// A reader to which a whole frame came byte by byte.
-fn filled<R: Reader>(rt: &impl Abort, alloc: Global, frame: &[u8]) -> R {
-    let mut reader = R::begin(alloc);
-    for byte in frame {
-        reader.take([*byte].as_slice());
+fn add_behind<R: Reader>(
+    text: &mut String,
+    frame: &Frame<'_>,
+    course: &Course,
+) -> Result<(), AllocError> {
+    let mut reader = R::begin(frame.alloc);
+    let seen = feed_behind(&mut reader, frame);
+    let says = said(frame.alloc, reader)?;
+    let end = course.at(frame.bytes.len().saturating_add(1));
+    if seen == [end; 3] && says.as_str() == course.says.as_str() {
+        return Ok(());
     }
-    check_fed(rt, frame, reader.stop(), Fed::Done);
-    reader
+    text.push_str("    with more behind it:")?;
+    add_seen(text, seen.as_slice(), says.as_str())
 }
 
-// A reader gives this.
-fn check_given<R: Reader>(rt: &impl Abort, alloc: Global, reader: R, text: &[u8]) {
-    let given = reader.give().expect(rt, "what a whole frame says");
-    let shown = R::show(rt, alloc, &given);
-    check_text(rt, shown.as_slice(), text);
+// What a reader to which all has come says.
+fn said<R: Reader>(alloc: Global, reader: R) -> Result<String, AllocError> {
+    let mut says = String::new(alloc);
+    reader.say(&mut says)?;
+    Ok(says)
 }
 
-/// A whole frame says this, in one piece and byte by byte.
-pub fn check_says<R: Reader>(rt: &impl Abort, alloc: Global, frame: &[u8], text: &[u8]) {
-    check_given(rt, alloc, begun::<R>(rt, alloc, frame, Fed::Done), text);
-    check_given(rt, alloc, filled::<R>(rt, alloc, frame), text);
+// Verdicts, each that isn't the one before it, and what is said then.
+fn add_seen(text: &mut String, verdicts: &[Fed], says: &str) -> Result<(), AllocError> {
+    let mut before = None;
+    for fed in verdicts {
+        if before != Some(*fed) {
+            add_verdict(text, *fed)?;
+        }
+        before = Some(*fed);
+    }
+    write!(text, "\n{says}")
+}
+
+// A frame in two pieces, the first of n bytes, and then its end, twice, each time behind an empty piece.
+fn feed_cut<R: Reader>(reader: &mut R, bytes: &[u8], n: usize) -> [Fed; 6] {
+    let (first, rest) = bytes.split_at(n.min(bytes.len()));
+    [
+        reader.take(first),
+        reader.take(rest),
+        reader.take(b""),
+        reader.stop(),
+        reader.take(b""),
+        reader.stop(),
+    ]
+}
+
+// Nothing where a frame in two pieces is answered as byte by byte.
+fn add_cut<R: Reader>(
+    text: &mut String,
+    frame: &Frame<'_>,
+    course: &Course,
+    n: usize,
+) -> Result<(), AllocError> {
+    let mut reader = R::begin(frame.alloc);
+    let seen = feed_cut(&mut reader, frame.bytes, n);
+    let says = said(frame.alloc, reader)?;
+    if seen == course.cut(n, frame.bytes.len()) && says.as_str() == course.says.as_str() {
+        return Ok(());
+    }
+    write!(text, "    cut at {n}:")?;
+    add_seen(text, seen.as_slice(), says.as_str())
 }

@@ -1,107 +1,110 @@
 // Images: the entries of a request alone.
-use crate::edits::{NFIL, behind, front, good};
-use crate::entries::image_of;
-use crate::shown::{check_text, readable, shown};
-use base_types::Bytes;
-use job_frames::{FrameError, read_entries};
+ghost use Rattle.std.specs.Prelude.{All, IsTrue};
+ghost use Rattle.job_frames.specs.Request.{HasSpelling, IsSpellable};
+
+use crate::shown::{add_bytes, add_entries};
+use base_types::{Bytes, List};
+use job_frames::{read_entries, write_entries};
 use std::alloc::{AllocError, Global};
-use std::process::Abort;
+use std::fmt::Write;
+use tree_model::{CanonPath, Entry};
 
-// The entries of the good request.
-fn image() -> &'static [u8] {
-    behind(good(), NFIL)
-}
+type Entries = List<(CanonPath, Entry)>;
 
-// What an image is read as, on lines, or `refused`.
-fn read(rt: &impl Abort, alloc: Global, image: &[u8]) -> Vec<u8> {
+/// Adds what an image gives: why it is refused, or its entries and, where none is a link, the image that is written of
+/// them.
+pub fn add_image(text: &mut String, alloc: Global, image: &[u8]) -> Result<(), AllocError> {
     match read_entries(alloc, image) {
-        Ok(entries) => shown(rt, alloc, entries.as_slice()),
-        Err(_) => b"refused".to_vec(alloc).expect(rt, "memory for a text"),
+        Err(why) => writeln!(text, "    {why:?}"),
+        Ok(entries) => add_read(text, alloc, entries.as_slice()),
     }
 }
 
-// An image has these entries.
-fn check_read(rt: &impl Abort, alloc: Global, image: &[u8], lines: &[u8]) {
-    check_text(rt, read(rt, alloc, image).as_slice(), lines);
+fn add_read(
+    text: &mut String,
+    alloc: Global,
+    entries: &[(CanonPath, Entry)],
+) -> Result<(), AllocError> {
+    add_entries(text, entries)?;
+    let image = image_of(alloc, entries)?;
+    if image.len() == 0 {
+        return Ok(());
+    }
+    add_bytes(text, "    written", image.as_slice())
 }
 
-// A text is refused as an image.
-fn check_refused(rt: &impl Abort, alloc: Global, image: &[u8], why: FrameError) {
-    let refused = read_entries(alloc, image).err();
-    assert!(rt;
-        refused == Some(why),
-        "{refused:?} by {:?}",
-        readable(image)
-    );
+// An entry that isn't a link and whose path and node have spellings in an image.
+fn fits(entry: &(CanonPath, Entry)) -> bool
+    ensures { IsTrue result → HasSpelling entry.now }
+{
+    let path = entry.0.bytes();
+    path.len() <= 4096 && node_fits(&entry.1)
 }
 
-#[test]
-fn reads_entries(rt: HostRuntime) {
-    let alloc = rt.alloc();
-    check_read(&rt, alloc, b"NFIL00000000", b"");
-    let lines = b"/w dir\n/w/a.c file #include \"b.h\"\nint x;\n\n/w/b.h file int y;\n\n";
-    check_read(&rt, alloc, image(), lines);
-    let link = b"NFIL00000002NAME00000002/lLINK00000003a/bNAME00000002/wFILE00000000";
-    check_read(&rt, alloc, link, b"/l link a/b\n/w file \n");
+fn node_fits(entry: &Entry) -> bool
+    ensures { IsTrue result → IsSpellable entry.now }
+{
+    match entry {
+        Entry::Dir => true,
+        Entry::File(body) => body.len() <= 16777216,
+        Entry::Link(_) => false,
+    }
 }
 
-// The image of an image's entries; nothing where it is none.
-fn rewritten(alloc: Global, image: &[u8]) -> Result<Bytes, AllocError> {
+fn all_fit(entries: &[(CanonPath, Entry)]) -> bool
+    ensures { IsTrue result → All HasSpelling entries.now }
+{
+    entries.iter().all(|entry| fits(entry))
+}
+
+// The image of entries; empty where they are more than 100,000, or one is a link or outside the limits of an image.
+fn image_of(alloc: Global, entries: &[(CanonPath, Entry)]) -> Result<Bytes, AllocError> {
+    if entries.len() > 100000 || !all_fit(entries) {
+        return Ok(Bytes::new(alloc));
+    }
+    write_entries(alloc, entries)
+}
+
+/// How many bytes the image of so many directories has, and how many entries are read from it.
+pub fn add_directories(
+    text: &mut String,
+    alloc: Global,
+    count: usize,
+    path: &[u8],
+) -> Result<(), AllocError> {
+    let entries = directories(alloc, count, path)?;
+    let image = image_of(alloc, entries.as_slice())?;
+    let bytes = image.len();
+    let read = count_of(alloc, image.as_slice());
+    writeln!(text, "    {bytes} bytes, {read} entries")
+}
+
+fn count_of(alloc: Global, image: &[u8]) -> usize {
     match read_entries(alloc, image) {
-        Ok(entries) => image_of(alloc, entries.as_slice()),
-        Err(_) => Ok(Bytes::new(alloc)),
+        Ok(entries) => entries.len(),
+        Err(_) => 0,
     }
 }
 
-#[test]
-fn writes_what_it_reads(rt: HostRuntime) {
-    let written = rewritten(rt.alloc(), image()).expect(&rt, "memory for an image");
-    check_text(&rt, written.as_slice(), image());
+fn directories(alloc: Global, count: usize, path: &[u8]) -> Result<Entries, AllocError> {
+    let mut entries = List::new(alloc);
+    for n in 0..count {
+        add_directory(alloc, &mut entries, path, n)?;
+    }
+    Ok(entries)
 }
 
-#[test]
-fn is_cut_at_each_place(rt: HostRuntime) {
-    for n in 0..image().len() {
-        check_refused(&rt, rt.alloc(), front(image(), n), FrameError::Cut);
+// A directory whose path ends with five decimal digits.
+fn add_directory(
+    alloc: Global,
+    entries: &mut Entries,
+    path: &[u8],
+    n: usize,
+) -> Result<(), AllocError> {
+    let digits = format!(in alloc; "{n:05}")?;
+    let path = [path, digits.as_bytes()].concat(alloc)?;
+    if let Some(path) = CanonPath::read(alloc, &path)? {
+        entries.push((path, Entry::Dir))?;
     }
-}
-
-// Texts that are refused.
-const WRONG: &[(&[u8], FrameError)] = &[
-    (b"", FrameError::Cut),
-    (b"NFIL0000000", FrameError::Cut),
-    (b"NFIL00000001", FrameError::Cut),
-    (b"NFIL000186a0", FrameError::Cut),
-    (b"NFIL000186a1", FrameError::Limit),
-    (b"NFIL0000000g", FrameError::Digits),
-    (b"NFIL00000000N", FrameError::Order),
-    (b"DIST00000103", FrameError::Token),
-    // A byte behind the entries of the good request.
-    (
-        b"NFIL00000003\
-NAME00000002/wMDIR00000000\
-NAME00000006/w/a.cFILE00000016#include \"b.h\"\nint x;\n\
-NAME00000006/w/b.hFILE00000007int y;\nN",
-        FrameError::Order,
-    ),
-    // Entries.
-    (
-        b"NFIL00000001NAME00000002/lLINK00000003a\0b",
-        FrameError::Limit,
-    ),
-    (b"NFIL00000001NAME00000002/wFILE01000001", FrameError::Limit),
-    (b"NFIL00000001NAME00000004/w/a", FrameError::Parent),
-    (b"NFIL00000001NAME00000002//", FrameError::Parent),
-    (
-        b"NFIL00000002NAME00000002/wMDIR00000000NAME00000002/w",
-        FrameError::Order,
-    ),
-    (b"NFIL00000001NAME00000002/wDIR", FrameError::Token),
-];
-
-#[test]
-fn refuses_other_texts(rt: HostRuntime) {
-    for (image, why) in WRONG {
-        check_refused(&rt, rt.alloc(), image, *why);
-    }
+    Ok(())
 }
