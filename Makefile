@@ -2,7 +2,7 @@
 #               daemon's program a stored request
 # make check    the gate: all proofs, edits that must fail, tests and programs; then each header of the host is lexed twice,
 #               walks in random trees are compared with the host's own, and the programs are tried with what is wrong
-# make bench    measures the lexer, searches, macro expansion and the program, some against gcc: docs/PERFORMANCE.md
+# make bench    measures the programs, most beside gcc and tcc: docs/PERFORMANCE.md
 .PHONY: demo check bench
 
 demo:

@@ -1,24 +1,26 @@
 #!/bin/sh
-# Measures the lexer, searches, macro expansion, the daemon and the program: see docs/PERFORMANCE.md. An argument is the
-# number of runs of each measurement.
+# Measures the programs, most beside gcc and tcc: see docs/PERFORMANCE.md. An argument is the number of rounds.
 cd "$(dirname "$0")/.." || exit 1
 mkdir -p out/bench
 
-# Builds a program as LLVM builds it.
+# Builds programs as LLVM builds them, and prints the names of those that are built.
 build() {
-    log=$PWD/out/bench/$1.log
-    if ! (cd "crates/$1" && rt run -- --version) > "$log" 2>&1; then
-        echo "$1 isn't built: see $log" >&2
-        return 1
-    fi
+    for program in "$@"; do
+        log=$PWD/out/bench/$program.log
+        if (cd "crates/$program" && rt run -- --version) > "$log" 2>&1; then
+            echo "$program"
+        else
+            echo "$program isn't built: see $log" >&2
+        fi
+    done
 }
 
-build lex_program || exit 1
-build tree_program || exit 1
-pump=crates/pump_program/out/pump_program
-build pump_program || pump=none
-expand=crates/expand_program/out/expand_program
-build expand_program || expand=none
-daemon=crates/pumpd/out/pumpd
-build pumpd || daemon=none
-exec python3 tools/bench.py crates/lex_program/out/lex_program crates/tree_program/out/tree_program "$pump" "$expand" "$daemon" "${1:-5}"
+programs=$(build lex_program expand_program tree_program pump_program pumpd share_program)
+counter=out/bench/count_malloc.so
+if ! gcc -O2 -shared -fPIC tools/count_malloc.c -o "$counter" 2> out/bench/count_malloc.log; then
+    echo "allocations aren't counted: see out/bench/count_malloc.log" >&2
+    counter=none
+fi
+python3 tools/real_text.py out/bench/real
+# Each program's name is a word of its own.
+exec python3 -B tools/bench.py "${1:-5}" "$counter" out/bench/real $programs
