@@ -18,7 +18,8 @@ build() {
     fi
 }
 
-for program in pump_program pumpd lex_program tree_program expand_program; do
+examples='token_examples expansion_examples frame_examples tree_examples'
+for program in pump_program pumpd lex_program tree_program expand_program share_program $examples; do
     build $program
 done
 cd "$work" || exit 1
@@ -84,14 +85,24 @@ try 2 '' "pumpd: $wrong pumpd --help" empty "$daemon"
 try 2 '' "pumpd: $wrong pumpd --help" empty "$daemon" --port 3632
 try 2 '' "pumpd: $wrong pumpd --help" empty "$daemon" "$odd"
 try 3 '' '' . "$daemon" --inetd
-for name in lex_program tree_program expand_program; do
+for name in lex_program tree_program expand_program share_program; do
     try 2 '' 'usage: *' empty "$(program $name)"
     try 2 '' "$name: $wrong $name --help" empty "$(program $name)" count "$odd"
 done
 for numbers in '1x 2' '+1 2' '01 2' '-1 2' '4294967296 2'; do
     try 2 '' 'usage: *' empty "$(program tree_program)" search $numbers
+    try 2 '' 'usage: *' empty "$(program share_program)" memo $numbers
+done
+for threads in 0 65; do
+    try 2 '' 'usage: *' empty "$(program share_program)" slots $threads 1
+done
+printf 'no such case\n' > odd-case
+for name in $examples; do
+    try 2 '' 'usage: *' empty "$(program $name)" more
+    try 2 '*' "$name: line *" odd-case "$(program $name)"
 done
 try 0 '2 found' '' empty "$(program tree_program)" search 3 2
+try 0 'taken 4000' '' empty "$(program share_program)" slots 4 1000
 
 # What is no file, or isn't there.
 mkfifo fifo
@@ -103,12 +114,12 @@ done
 try 1 '' 'gone.c: No such file or directory*' empty "$(program lex_program)" count gone.c
 
 # Lists that give no job.
-list 3 'pump: list 0: not built' 'list line 1: nothing is in it' ''
-list 3 'pump: list 0: not built' 'list line 1: its line has no end' '/w a.c'
-list 3 'pump: list 0: not built' "list line 1: more than one line isn't built" '/w a.c\n/w b.c\n'
-list 3 'pump: list 0: not built' "list line 1: a comment isn't built" '# a.c\n'
-list 3 'pump: list 0: not built' "list line 1: a *carriage return isn't built" '/w a.c\r\n'
-list 3 'pump: list 0: not built' 'list line 1: no compile words' '/w\n'
+list 3 'pump: list 0: not built' 'list: no job is in it' ''
+list 3 'pump: list 0: not built' 'list: no job is in it' '# a.c\n\n'
+list 3 'pump: list 0: not built' "list: more than one job isn't built" '/w a.c\r\n/w b.c'
+list 3 'pump: list 1: escape' 'list line 1: a *at the end (escape)' '/w a.c\\'
+list 3 'pump: list 3: output' "list line 3: 'a.i': an earlier job's output (output)" '/w a.c\n\n/w ./a.c\n'
+list 3 'pump: list 2: words 3' "list line 2: '-q r': unknown option (words 3)" '# a.c\n/w a.c -q\\ r\n'
 list 3 'pump: list 1: words 1' 'list line 1: no source (words 1)' '/w -c\n'
 list 3 'pump: list 1: words 2' "list line 1: 'b.c': a second source (words 2)" '/w -I i a.c b.c -O2\n'
 list 3 'pump: list 1: words 3' "list line 1: '-q': unknown option (words 3)" '/w -I -q a.c -q -z\n'
@@ -154,7 +165,7 @@ if [ -c /dev/full ]; then
     printf '%s\n' "$work/src a.c" > list
     full 4 "pump_program: standard output: $space" list "$pump" order - --hosts localhost -j 1
     full 4 '' "$top/crates/pumpd/stdin" "$daemon" --inetd
-    for name in pump_program pumpd lex_program tree_program expand_program; do
+    for name in pump_program pumpd lex_program tree_program expand_program share_program $examples; do
         full 4 "$name: $space" empty "$(program $name)" --help
     done
 else
