@@ -50,6 +50,7 @@ impl Calls {
         ensures unlisted { result ≡ false → Member self.new.made self.old.fails → ⊥ }
         ensures later { self.old.faults ≤ self.new.faults }
         ensures rose { result ≡ true → Rose self.old.faults self.new.faults }
+        ensures no_fault { result ≡ false → self.new.faults ≡ self.old.faults }
     {
         self.made = self.made.saturating_add(1);
         self.failing.fails_at(&self.made)

@@ -39,6 +39,7 @@ impl<N: PartialEq> Failing<N> {
         ensures unlisted { result ≡ false → Member number.now self.old.fails → ⊥ }
         ensures later { self.old.faults ≤ self.new.faults }
         ensures rose { result ≡ true → Rose self.old.faults self.new.faults }
+        ensures no_fault { result ≡ false → self.new.faults ≡ self.old.faults }
     {
         let due = self.list.contains(number);
         if due {

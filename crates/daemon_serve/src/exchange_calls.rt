@@ -38,6 +38,7 @@ impl ExchangeCalls {
         ensures unlisted { result ≡ false → Member (self.new.exchange, self.new.made) self.new.failing.fails → ⊥ }
         ensures later { self.old.failing.faults ≤ self.new.failing.faults }
         ensures rose { result ≡ true → Rose self.old.failing.faults self.new.failing.faults }
+        ensures no_fault { result ≡ false → self.new.failing.faults ≡ self.old.failing.faults }
     {
         self.exchange = self.dials;
         self.dials = self.dials.saturating_add(1);
@@ -52,6 +53,7 @@ impl ExchangeCalls {
         ensures unlisted { result ≡ false → Member (self.new.exchange, self.new.made) self.new.failing.fails → ⊥ }
         ensures later { self.old.failing.faults ≤ self.new.failing.faults }
         ensures rose { result ≡ true → Rose self.old.failing.faults self.new.failing.faults }
+        ensures no_fault { result ≡ false → self.new.failing.faults ≡ self.old.failing.faults }
     {
         self.made = self.made.saturating_add(1);
         self.failing.fails_at(&(self.exchange, self.made))

@@ -1,5 +1,5 @@
 // A wire whose other side is an answerer in memory.
-ghost use Rattle.std.specs.Prelude.{◌≡◌, ◌≤◌, ◌<◌, ℕ, [], ◌++◌, ◌∷◌, take, length, Some, IfOk, OnOk, OnErr, All, cond, nat_eq};
+ghost use Rattle.std.specs.Prelude.{◌≡◌, ◌≤◌, ◌<◌, ℕ, [], ◌++◌, ◌∷◌, take, length, Some, IfOk, OnOk, OnErr, All, cond, nat_eq, IsErrOf};
 ghost use Rattle.std.specs.Io.{ReadsAtMost};
 ghost use Rattle.base_types.specs.Calls.{FailsAsListed};
 ghost use Rattle.base_types.specs.Causes.{HasCause};
@@ -88,6 +88,7 @@ impl<P: Answerer> Wire for MemWire<P> {
         ensures still { OnErr result (⟦<MemWire<P> as Wire>⟧.state self.new ≡ ⟦<MemWire<P> as Wire>⟧.state self.old) }
         ensures answered { EachAnswered P.may (⟦<MemWire<P> as Wire>⟧.talk self.new) }
         ensures cause { HasCause LinkFault.Down (⟦<MemWire<P> as Wire>⟧.faults self.old) (⟦<MemWire<P> as Wire>⟧.faults self.new) result }
+        ensures no_fault { (IsErrOf result LinkFault.Down → ⊥) → ⟦<MemWire<P> as Wire>⟧.faults self.new ≡ ⟦<MemWire<P> as Wire>⟧.faults self.old }
         ensures listed { FailsAsListed LinkFault.Down self.new.calls.failing (last_call self.new.calls) result }
         ensures counted { self.new.calls ≡ dial_made self.old.calls }
     {
@@ -108,6 +109,7 @@ impl<P: Answerer> Wire for MemWire<P> {
         ensures still { ⟦<MemWire<P> as Wire>⟧.state self.new ≡ ⟦<MemWire<P> as Wire>⟧.state self.old }
         ensures answered { EachAnswered P.may (⟦<MemWire<P> as Wire>⟧.talk self.new) }
         ensures cause { HasCause LinkFault.Down (⟦<MemWire<P> as Wire>⟧.faults self.old) (⟦<MemWire<P> as Wire>⟧.faults self.new) result }
+        ensures no_fault { (IsErrOf result LinkFault.Down → ⊥) → ⟦<MemWire<P> as Wire>⟧.faults self.new ≡ ⟦<MemWire<P> as Wire>⟧.faults self.old }
         ensures listed { FailsAsListed LinkFault.Down self.new.calls.failing (last_call self.new.calls) result }
         ensures counted { self.new.calls ≡ call_made self.old.calls }
     {
@@ -128,6 +130,7 @@ impl<P: Answerer> Wire for MemWire<P> {
         ensures still { OnErr result (⟦<MemWire<P> as Wire>⟧.state self.new ≡ ⟦<MemWire<P> as Wire>⟧.state self.old) }
         ensures answered { EachAnswered P.may (⟦<MemWire<P> as Wire>⟧.talk self.new) }
         ensures cause { HasCause LinkFault.Down (⟦<MemWire<P> as Wire>⟧.faults self.old) (⟦<MemWire<P> as Wire>⟧.faults self.new) result }
+        ensures no_fault { (IsErrOf result LinkFault.Down → ⊥) → ⟦<MemWire<P> as Wire>⟧.faults self.new ≡ ⟦<MemWire<P> as Wire>⟧.faults self.old }
         ensures listed { FailsAsListed LinkFault.Down self.new.calls.failing (last_call self.new.calls) result }
         ensures counted { self.new.calls ≡ call_made self.old.calls }
     {
@@ -154,6 +157,7 @@ impl<P: Answerer> Wire for MemWire<P> {
         ensures still { ⟦<MemWire<P> as Wire>⟧.state self.new ≡ ⟦<MemWire<P> as Wire>⟧.state self.old }
         ensures answered { EachAnswered P.may (⟦<MemWire<P> as Wire>⟧.talk self.new) }
         ensures cause { HasCause LinkFault.Down (⟦<MemWire<P> as Wire>⟧.faults self.old) (⟦<MemWire<P> as Wire>⟧.faults self.new) result }
+        ensures no_fault { (IsErrOf result LinkFault.Down → ⊥) → ⟦<MemWire<P> as Wire>⟧.faults self.new ≡ ⟦<MemWire<P> as Wire>⟧.faults self.old }
         ensures listed { FailsAsListed LinkFault.Down self.new.calls.failing (last_call self.new.calls) result }
         ensures counted { self.new.calls ≡ call_made self.old.calls }
     {
@@ -177,6 +181,7 @@ impl<P: Answerer> Wire for MemWire<P> {
         ensures closed { ⟦<MemWire<P> as Wire>⟧.state self.new ≡ LinkState.Closed }
         ensures same { ⟦<MemWire<P> as Wire>⟧.talk self.new ≡ ⟦<MemWire<P> as Wire>⟧.talk self.old }
         ensures later { ⟦<MemWire<P> as Wire>⟧.faults self.old ≤ ⟦<MemWire<P> as Wire>⟧.faults self.new }
+        ensures no_fault { ⟦<MemWire<P> as Wire>⟧.faults self.new ≡ ⟦<MemWire<P> as Wire>⟧.faults self.old }
         ensures calls { self.new.calls ≡ self.old.calls }
     {
         self.state = LinkState::Closed;

@@ -1,5 +1,5 @@
 // Named bodies that are written, and the same in memory.
-ghost use Rattle.std.specs.Prelude.{◌≡◌, ◌≤◌, ℕ, List, [], ◌∷◌, Some, None, Option, OnOk, OnErr, IfErr, ◌++◌};
+ghost use Rattle.std.specs.Prelude.{◌≡◌, ◌≤◌, ℕ, List, [], ◌∷◌, Some, None, Option, OnOk, OnErr, IfErr, ◌++◌, IsErrOf};
 ghost use Rattle.base_types.specs.Calls.{FailsAsListed};
 ghost use Rattle.base_types.specs.Causes.{HasCause, raised};
 ghost use Rattle.base_types.specs.Told.{added};
@@ -78,6 +78,7 @@ impl Outs for MemOuts {
         ensures ok { OnOk result (⟦<MemOuts as Outs>⟧.kept self.new ≡ added ((name.now, body.now) ∷ []) (⟦<MemOuts as Outs>⟧.kept self.old)) }
         ensures err { OnErr result (⟦<MemOuts as Outs>⟧.kept self.new ≡ ⟦<MemOuts as Outs>⟧.kept self.old) }
         ensures cause { HasCause OutFault.Fault (⟦<MemOuts as Outs>⟧.faults self.old) (⟦<MemOuts as Outs>⟧.faults self.new) result }
+        ensures no_fault { (IsErrOf result OutFault.Fault → ⊥) → ⟦<MemOuts as Outs>⟧.faults self.new ≡ ⟦<MemOuts as Outs>⟧.faults self.old }
         ensures counted { ⟦<MemOuts as Counted>⟧.calls self.new ≡ raised (⟦<MemOuts as Counted>⟧.calls self.old) }
         ensures listed { FailsAsListed OutFault.Fault (⟦<MemOuts as Counted>⟧.fails self.old) (⟦<MemOuts as Counted>⟧.calls self.new) result }
         ensures same_list { ⟦<MemOuts as Counted>⟧.fails self.new ≡ ⟦<MemOuts as Counted>⟧.fails self.old }

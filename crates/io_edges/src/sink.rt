@@ -1,5 +1,5 @@
 // Bytes that are written, and the same in memory.
-ghost use Rattle.std.specs.Prelude.{◌≡◌, ◌≤◌, ℕ, List, [], length, Some, None, Option};
+ghost use Rattle.std.specs.Prelude.{◌≡◌, ◌≤◌, ℕ, List, [], length, Some, None, Option, IsErrOf};
 ghost use Rattle.base_types.specs.Calls.{FailsAsListed};
 ghost use Rattle.base_types.specs.Causes.{HasCause, raised};
 ghost use Rattle.io_edges.specs.Edges.{PutsPiece};
@@ -72,6 +72,7 @@ impl Sink for MemSink {
     fn put(&mut self, piece: &[u8]) -> Result<(), WriteFault>
         ensures bytes { PutsPiece (⟦<MemSink as Sink>⟧.held self.old) (⟦<MemSink as Sink>⟧.held self.new) result piece.now }
         ensures cause { HasCause WriteFault.Fault (⟦<MemSink as Sink>⟧.faults self.old) (⟦<MemSink as Sink>⟧.faults self.new) result }
+        ensures no_fault { (IsErrOf result WriteFault.Fault → ⊥) → ⟦<MemSink as Sink>⟧.faults self.new ≡ ⟦<MemSink as Sink>⟧.faults self.old }
         ensures counted { ⟦<MemSink as Counted>⟧.calls self.new ≡ raised (⟦<MemSink as Counted>⟧.calls self.old) }
         ensures listed { FailsAsListed WriteFault.Fault (⟦<MemSink as Counted>⟧.fails self.old) (⟦<MemSink as Counted>⟧.calls self.new) result }
         ensures same_list { ⟦<MemSink as Counted>⟧.fails self.new ≡ ⟦<MemSink as Counted>⟧.fails self.old }

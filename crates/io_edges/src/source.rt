@@ -1,5 +1,5 @@
 // Bytes that are read, and the same in memory.
-ghost use Rattle.std.specs.Prelude.{◌≡◌, ◌≤◌, ◌<◌, ℕ, List, length, drop, take, Some, None, Option, IfOk, true, false};
+ghost use Rattle.std.specs.Prelude.{◌≡◌, ◌≤◌, ◌<◌, ℕ, List, length, drop, take, Some, None, Option, IfOk, true, false, IsErrOf};
 ghost use Rattle.std.specs.Io.{ReadsAtMost};
 ghost use Rattle.std.specs.Io.KnownBytes.{IsAtEnd};
 ghost use Rattle.base_types.specs.Calls.{FailsAsListed};
@@ -73,6 +73,7 @@ impl Source for MemSource {
         ensures bytes { TakesFront (⟦<MemSource as Source>⟧.left self.old) (⟦<MemSource as Source>⟧.left self.new) result room.new }
         ensures end { IfOk result (λ n. n ≡ 0 → IsAtEnd (⟦<MemSource as Source>⟧.left self.new)) }
         ensures cause { HasCause ReadFault.Fault (⟦<MemSource as Source>⟧.faults self.old) (⟦<MemSource as Source>⟧.faults self.new) result }
+        ensures no_fault { (IsErrOf result ReadFault.Fault → ⊥) → ⟦<MemSource as Source>⟧.faults self.new ≡ ⟦<MemSource as Source>⟧.faults self.old }
         ensures counted { ⟦<MemSource as Counted>⟧.calls self.new ≡ raised (⟦<MemSource as Counted>⟧.calls self.old) }
         ensures listed { FailsAsListed ReadFault.Fault (⟦<MemSource as Counted>⟧.fails self.old) (⟦<MemSource as Counted>⟧.calls self.new) result }
         ensures same_list { ⟦<MemSource as Counted>⟧.fails self.new ≡ ⟦<MemSource as Counted>⟧.fails self.old }

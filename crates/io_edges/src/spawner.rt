@@ -1,5 +1,5 @@
 // What starts daemons and stops them.
-ghost use Rattle.std.specs.Prelude.{◌≡◌, ◌≤◌, ◌<◌, ℕ, List, ◌∷◌, [], ◌++◌, Bool, true, false, IfOk, OnOk, OnErr, length, drop};
+ghost use Rattle.std.specs.Prelude.{◌≡◌, ◌≤◌, ◌<◌, ℕ, List, ◌∷◌, [], ◌++◌, Bool, true, false, IfOk, OnOk, OnErr, length, drop, IsErrOf};
 ghost use Rattle.base_types.specs.Calls.{FailsAsListed};
 ghost use Rattle.base_types.specs.Causes.{HasCause, raised};
 ghost use Rattle.io_edges.specs.Daemons.{localhost, starts_of, hosts_of};
@@ -119,6 +119,7 @@ impl Spawner for MemSpawner {
         ensures running_err { OnErr result (⟦<MemSpawner as Spawner>⟧.running self.new ≡ ⟦<MemSpawner as Spawner>⟧.running self.old) }
         ensures asked_err { OnErr result (⟦<MemSpawner as Spawner>⟧.asked self.new ≡ ⟦<MemSpawner as Spawner>⟧.asked self.old) }
         ensures cause { HasCause SpawnFault.Fault (⟦<MemSpawner as Spawner>⟧.faults self.old) (⟦<MemSpawner as Spawner>⟧.faults self.new) result }
+        ensures no_fault { (IsErrOf result SpawnFault.Fault → ⊥) → ⟦<MemSpawner as Spawner>⟧.faults self.new ≡ ⟦<MemSpawner as Spawner>⟧.faults self.old }
         ensures counted { ⟦<MemSpawner as Counted>⟧.calls self.new ≡ raised (⟦<MemSpawner as Counted>⟧.calls self.old) }
         ensures listed { FailsAsListed SpawnFault.Fault (⟦<MemSpawner as Counted>⟧.fails self.old) (⟦<MemSpawner as Counted>⟧.calls self.new) result }
         ensures same_list { ⟦<MemSpawner as Counted>⟧.fails self.new ≡ ⟦<MemSpawner as Counted>⟧.fails self.old }
@@ -140,6 +141,7 @@ impl Spawner for MemSpawner {
         ensures running_err { OnErr result (⟦<MemSpawner as Spawner>⟧.running self.new ≡ ⟦<MemSpawner as Spawner>⟧.running self.old) }
         ensures asked { ⟦<MemSpawner as Spawner>⟧.asked self.new ≡ true }
         ensures cause { HasCause SpawnFault.Fault (⟦<MemSpawner as Spawner>⟧.faults self.old) (⟦<MemSpawner as Spawner>⟧.faults self.new) result }
+        ensures no_fault { (IsErrOf result SpawnFault.Fault → ⊥) → ⟦<MemSpawner as Spawner>⟧.faults self.new ≡ ⟦<MemSpawner as Spawner>⟧.faults self.old }
         ensures counted { ⟦<MemSpawner as Counted>⟧.calls self.new ≡ raised (⟦<MemSpawner as Counted>⟧.calls self.old) }
         ensures listed { FailsAsListed SpawnFault.Fault (⟦<MemSpawner as Counted>⟧.fails self.old) (⟦<MemSpawner as Counted>⟧.calls self.new) result }
         ensures same_list { ⟦<MemSpawner as Counted>⟧.fails self.new ≡ ⟦<MemSpawner as Counted>⟧.fails self.old }

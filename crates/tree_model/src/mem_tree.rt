@@ -154,6 +154,7 @@ impl<F: Frozen> Tree for MemTree<F> {
         ensures form { IfOk result IsNode }
         ensures never_large { IsErrOf result TreeError.Large → ⊥ }
         ensures cause { HasCause TreeError.Fault (⟦<MemTree<F> as Tree>⟧.faults self.old) (⟦<MemTree<F> as Tree>⟧.faults self.new) result }
+        ensures no_fault { (IsErrOf result TreeError.Fault → ⊥) → ⟦<MemTree<F> as Tree>⟧.faults self.new ≡ ⟦<MemTree<F> as Tree>⟧.faults self.old }
         ensures no_read { ⟦<MemTree<F> as Tree>⟧.reads self.new ≡ ⟦<MemTree<F> as Tree>⟧.reads self.old }
         ensures counted { ⟦<MemTree<F> as Counted>⟧.calls self.new ≡ raised (⟦<MemTree<F> as Counted>⟧.calls self.old) }
         ensures listed { FailsAsListed TreeError.Fault (⟦<MemTree<F> as Counted>⟧.fails self.old) (⟦<MemTree<F> as Counted>⟧.calls self.new) result }
@@ -171,6 +172,7 @@ impl<F: Frozen> Tree for MemTree<F> {
         ensures form { IfOk result IsBody }
         ensures large { IfSome (⟦<MemTree<F> as Tree>⟧.told self.old) (λ tree. IsErrOf result TreeError.Large → IsTooLarge tree path.now) }
         ensures cause { HasCause TreeError.Fault (⟦<MemTree<F> as Tree>⟧.faults self.old) (⟦<MemTree<F> as Tree>⟧.faults self.new) result }
+        ensures no_fault { (IsErrOf result TreeError.Fault → ⊥) → ⟦<MemTree<F> as Tree>⟧.faults self.new ≡ ⟦<MemTree<F> as Tree>⟧.faults self.old }
         ensures one_read { ⟦<MemTree<F> as Tree>⟧.reads self.new ≡ raised (⟦<MemTree<F> as Tree>⟧.reads self.old) }
         ensures counted { ⟦<MemTree<F> as Counted>⟧.calls self.new ≡ raised (⟦<MemTree<F> as Counted>⟧.calls self.old) }
         ensures listed { FailsAsListed TreeError.Fault (⟦<MemTree<F> as Counted>⟧.fails self.old) (⟦<MemTree<F> as Counted>⟧.calls self.new) result }
