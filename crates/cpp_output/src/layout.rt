@@ -50,18 +50,6 @@ impl Model for Layout {
     ghost invariant = { λ l. length l.text ≤ text_limit };
 }
 
-// A token whose spelling is lent.
-fn lent(token: &Token) -> TokenRef<'_>
-    ensures { token_seen result ≡ token.now }
-{
-    TokenRef {
-        kind: token.kind,
-        text: token.text.as_slice(),
-        line: token.line,
-        space: token.space,
-    }
-}
-
 impl Layout {
     /// The output of the source that is shown under a name: its first marker. A name goes into a marker as it is,
     /// so the caller escapes it.
@@ -127,7 +115,7 @@ impl Layout {
         // With no tokens, the limit is kept since it was kept before.
         let _ = &self.text;
         for token in tokens {
-            self.put(&lent(token))?;
+            self.put(&token.as_ref())?;
         }
         Ok(())
     }
@@ -230,7 +218,7 @@ impl Layout {
         ensures full { IsErrOf result LayError.Full → text_limit < length (self.old.text ++ on_line self.old.last tokens.now) }
     {
         for token in tokens {
-            self.append_token(&lent(token))?;
+            self.append_token(&token.as_ref())?;
         }
         Ok(())
     }

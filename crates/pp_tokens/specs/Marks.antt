@@ -21,9 +21,13 @@ is_string t = elim t.kind [ Str ↦ true | _ ↦ false ]
 abbrev pub is_literal : Token → Bool
 is_literal t = elim t.kind [ Str ↦ true | Char ↦ true | _ ↦ false ]
 
+-- whether the kind is that of punctuators (6.4.6)
+abbrev pub punctuates : Kind → Bool
+punctuates k = elim k [ Punct ↦ true | _ ↦ false ]
+
 -- whether the token is a punctuator (6.4.6)
 abbrev pub is_punctuator : Token → Bool
-is_punctuator t = elim t.kind [ Punct ↦ true | _ ↦ false ]
+is_punctuator t = punctuates t.kind
 
 -- whether the token is the punctuator with this spelling (6.4.6)
 abbrev pub is_mark : List ℕ → Token → Bool

@@ -1,7 +1,9 @@
 -- Owned and borrowed tokens, and those of a stretch of a lexed file.
-use Rattle.std.specs.Prelude.{◌-◌, List, take, drop}
+use Rattle.std.specs.Prelude.{ℕ, ◌-◌, List, take, drop}
 use Rattle.pp_tokens.specs.declared.token.Token.{Token}
 use Rattle.pp_tokens.specs.declared.token.TokenRef.{TokenRef}
+use Rattle.pp_tokens.specs.declared.token_cow.Spelling.{Spelling}
+use Rattle.pp_tokens.specs.declared.token_cow.Spelling.TheVariants.{Lent, Owned}
 use Rattle.pp_tokens.specs.declared.tokens.Tokens.{Tokens}
 use Rattle.pp_tokens.specs.Lines.{all_tokens}
 
@@ -12,3 +14,8 @@ token_seen t = record { kind = t.kind; text = t.text.now; line = t.line; space =
 -- the tokens that are still to come
 abbrev pub rest_of : Tokens → List Token
 rest_of tokens = take (tokens.end - tokens.at) (drop tokens.at (all_tokens tokens.lexed.now))
+
+-- the bytes of a spelling, whoever owns them
+abbrev pub spelled : Spelling → List ℕ
+spelled (Lent text) = text.now
+spelled (Owned text) = text.value

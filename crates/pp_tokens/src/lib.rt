@@ -12,6 +12,7 @@ mod quoted;
 mod single;
 mod source;
 mod token;
+mod token_cow;
 mod tokens;
 mod unpaired;
 
@@ -21,4 +22,5 @@ pub use lexer::{Lexed, lex};
 pub use plain::{is_plain, is_simple_name};
 pub use single::single_token;
 pub use token::{Kind, Token, TokenRef};
+pub use token_cow::TokenCow;
 pub use tokens::Tokens;

@@ -1,6 +1,6 @@
 // A preprocessing token, owned or borrowed.
 ghost use Rattle.std.specs.Prelude.{◌≡◌, IfOk};
-ghost use Rattle.pp_tokens.specs.Marks.{names, is_identifier, is_string, is_literal, is_punctuator, is_mark, is_hash, is_pasting, is_reserved};
+ghost use Rattle.pp_tokens.specs.Marks.{names, punctuates, is_identifier, is_string, is_literal, is_punctuator, is_mark, is_hash, is_pasting, is_reserved};
 ghost use Rattle.pp_tokens.specs.Tokens.{token_seen};
 
 use base_types::Bytes;
@@ -36,6 +36,13 @@ fn names(kind: Kind) -> bool
     matches!(kind, Kind::Ident)
 }
 
+// Whether the kind is that of punctuators.
+fn punctuates(kind: Kind) -> bool
+    ensures { result ≡ punctuates kind }
+{
+    matches!(kind, Kind::Punct)
+}
+
 impl Token {
     /// Whether it is an identifier (ISO C 6.4.2).
     pub fn is_identifier(&self) -> bool
@@ -62,7 +69,7 @@ impl Token {
     pub fn is_punctuator(&self) -> bool
         ensures { result ≡ is_punctuator self.now }
     {
-        self.kind == Kind::Punct
+        punctuates(self.kind)
     }
 
     /// Whether it is the punctuator with this spelling (ISO C 6.4.6).
@@ -92,6 +99,18 @@ impl Token {
     {
         self.is_identifier() && self.text.as_slice().starts_with(b"__")
     }
+
+    /// The token, lent.
+    pub fn as_ref(&self) -> TokenRef<'_>
+        ensures { token_seen result ≡ self.now }
+    {
+        TokenRef {
+            kind: self.kind,
+            text: self.text.as_slice(),
+            line: self.line,
+            space: self.space,
+        }
+    }
 }
 
 /// A preprocessing token whose spelling is a slice of a file's text.
@@ -104,6 +123,20 @@ pub struct TokenRef<'a> {
 }
 
 impl<'a> TokenRef<'a> {
+    /// Whether it is an identifier (ISO C 6.4.2).
+    pub fn is_identifier(&self) -> bool
+        ensures { result ≡ is_identifier (token_seen self.now) }
+    {
+        names(self.kind)
+    }
+
+    /// Whether it is the punctuator with this spelling (ISO C 6.4.6).
+    pub fn is_mark(&self, spelling: &[u8]) -> bool
+        ensures { result ≡ is_mark spelling.now (token_seen self.now) }
+    {
+        punctuates(self.kind) && self.text == spelling
+    }
+
     /// Whether it is an identifier that begins with two underscores (ISO C 7.1.3).
     pub fn is_reserved(&self) -> bool
         ensures { result ≡ is_reserved (token_seen self.now) }

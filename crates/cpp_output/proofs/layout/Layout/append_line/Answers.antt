@@ -11,29 +11,29 @@ loop-token-preserved c =
     c.args.tokens.now
     c.loop-token.token-index
     c.token-item.result
-    (token_seen c.lent.result)
+    (token_seen c.as_ref.result)
     c.loop-token.self
     c.append_token.new.self
     (c.args.self.now.text ++ on_line c.args.self.now.last c.args.tokens.now)
     (omega arith)
     c.token-item.is
-    c.lent.ensures
+    c.as_ref.ensures
     c.in_ok-append_token.ensures.ok
     c.loop-token.invariant
 
 pub returns-in_err-append_token-clause-full : goal.returns-in_err-append_token-clause-full
 returns-in_err-append_token-clause-full c =
-    let longer : length (with_token c.loop-token.self (token_seen c.lent.result)).text ≤ length (c.args.self.now.text ++ on_line c.args.self.now.last c.args.tokens.now) =
+    let longer : length (with_token c.loop-token.self (token_seen c.as_ref.result)).text ≤ length (c.args.self.now.text ++ on_line c.args.self.now.last c.args.tokens.now) =
     line_longer
     c.args.tokens.now
     c.loop-token.token-index
     c.token-item.result
-    (token_seen c.lent.result)
+    (token_seen c.as_ref.result)
     c.loop-token.self
     (c.args.self.now.text ++ on_line c.args.self.now.last c.args.tokens.now)
     (omega arith)
     c.token-item.is
-    c.lent.ensures
+    c.as_ref.ensures
     c.loop-token.invariant in
     grind arith
 

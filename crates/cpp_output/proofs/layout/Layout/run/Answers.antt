@@ -11,17 +11,17 @@ loop-token-init c = record { same = refl; within = rw (← c.self.view_is) c.sel
 
 pub returns-in_err-put-clause-full : goal.returns-in_err-put-clause-full
 returns-in_err-put-clause-full c =
-    let longer : length (after_event c.loop-token.self (put (token_seen c.lent.result))).text ≤ length (after_events c.args.self.now (map put c.args.tokens.now)).text =
+    let longer : length (after_event c.loop-token.self (put (token_seen c.as_ref.result))).text ≤ length (after_events c.args.self.now (map put c.args.tokens.now)).text =
     run_longer
     c.args.tokens.now
     c.loop-token.token-index
     c.token-item.result
-    (token_seen c.lent.result)
+    (token_seen c.as_ref.result)
     c.loop-token.self
     (after_events c.args.self.now (map put c.args.tokens.now))
     (omega arith)
     c.token-item.is
-    c.lent.ensures
+    c.as_ref.ensures
     c.loop-token.invariant.same in
     grind arith
 
@@ -32,13 +32,13 @@ loop-token-preserved c = record {
       c.args.tokens.now
       c.loop-token.token-index
       c.token-item.result
-      (token_seen c.lent.result)
+      (token_seen c.as_ref.result)
       c.loop-token.self
       c.put.new.self
       (after_events c.args.self.now (map put c.args.tokens.now))
       (omega arith)
       c.token-item.is
-      c.lent.ensures
+      c.as_ref.ensures
       c.in_ok-put.ensures.ok.0
       c.loop-token.invariant.same;
   within = c.in_ok-put.ensures.ok.1;

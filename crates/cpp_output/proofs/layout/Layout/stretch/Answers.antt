@@ -1,5 +1,5 @@
 -- One token more.
-use Rattle.std.proofs.Common.{◌≤◌, length, map, refl, arith}
+use Rattle.std.proofs.Common.{◌≤◌, length, map, arith}
 use Rattle.pp_tokens.specs.Tokens.{rest_of, token_seen}
 use Rattle.cpp_output.specs.Layout.{put}
 use Rattle.cpp_output.specs.Laid.{after_event, after_events}
