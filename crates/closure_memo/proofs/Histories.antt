@@ -4,6 +4,7 @@ use Rattle.std.proofs.lemmas.List.Sums.{sum_by-append, fold-append}
 use Rattle.std.proofs.lemmas.Grind.{common_steps}
 use Rattle.std.proofs.lemmas.List.{take-append-le}
 use Rattle.std.proofs.Math.Seq.{take-append_seam}
+use Rattle.std.specs.List.{count_by}
 use Rattle.closure_memo.specs.declared.step.MemoCall.{MemoCall}
 use Rattle.closure_memo.specs.History.{is_new, keeps_key, has_new, new_weight, kept_weight, seen_keys, MayFollow, IsLegal}
 
@@ -25,6 +26,9 @@ each_snoc P xs x each last place y at = ⊎_elim
 
 pub weight_snoc : (steps : List MemoCall) (s : MemoCall) → kept_weight (steps ++ s ∷ []) ≡ kept_weight steps + cond (is_new s.what) s.weight 0
 weight_snoc steps s = sum_by-append (λ (s : MemoCall). cond (is_new s.what) s.weight 0) steps (s ∷ []) ∙ omega arith
+
+pub news_snoc : (steps : List MemoCall) (s : MemoCall) → count_by (λ call. is_new call.what) (steps ++ s ∷ []) ≡ count_by (λ call. is_new call.what) steps + cond (is_new s.what) 1 0
+news_snoc steps s = sum_by-append (λ (s : MemoCall). cond (is_new s.what) 1 0) steps (s ∷ []) ∙ omega arith
 
 pub seen_snoc : (steps : List MemoCall) (s : MemoCall) → seen_keys (steps ++ s ∷ []) ≡ max (seen_keys steps) (s.key + 1)
 seen_snoc steps s = fold-append (λ seen (call : MemoCall). max seen (call.key + 1)) 0 steps (s ∷ [])

@@ -2,6 +2,7 @@
 use Rattle.std.proofs.Common.{arith, ◌≡◌, ℕ, zero, suc, ◌+◌, ◌<◌, ◌≤◌, Bool, true, false, ◌&&◌, ◌==◌, cond, nat_lt, List, [], ◌∷◌, ◌++◌, length, slice_get, slice_set, Option, Some, None, is_some, refl, sym, ap, ◌∙◌, subst, ⊎_elim}
 use Rattle.std.proofs.lemmas.Grind.{common_steps}
 use Rattle.std.proofs.lemmas.List.{length-set}
+use Rattle.std.specs.List.{count_by}
 use Rattle.std.specs.Option.{option_map}
 use Rattle.closure_memo.specs.declared.step.MemoCall.{MemoCall}
 use Rattle.closure_memo.specs.declared.step.What.TheVariants as what
@@ -9,9 +10,9 @@ use Rattle.closure_memo.specs.declared.step.Kept.{Kept}
 use Rattle.closure_memo.specs.declared.step.Kept.TheVariants as kept
 use Rattle.closure_memo.specs.History.{is_new, has_new, new_weight, kept_weight, seen_keys, MayFollow, AreNumbered}
 use Rattle.closure_memo.specs.Memo.{Memo, memo_call, value_at, with_place, with_value, publication, what_of, look_of, number_of, with_key, found, after_look, publish_of, after_publish, IsMemo}
-use Rattle.closure_memo.proofs.Histories.{get_snoc, each_snoc, weight_snoc, seen_snoc, legal_more, weight_is_new, weight_stays, weight_first}
+use Rattle.closure_memo.proofs.Histories.{get_snoc, each_snoc, weight_snoc, news_snoc, seen_snoc, legal_more, weight_is_new, weight_stays, weight_first}
 use Rattle.closure_memo.proofs.Keys.{number_within, keys_grow, keys_then, key_is_there, key_then, distinct_then}
-use Rattle.closure_memo.proofs.Values.{value_placed, places_grow, value_set_here, value_set_else}
+use Rattle.closure_memo.proofs.Values.{value_placed, values_placed, values_more, places_grow, value_set_here, value_set_else}
 
 mapped_some : {A B : Type 0} (f : A → B) (o : Option A) → is_some (option_map f o) ≡ is_some o
 mapped_some f (Some x) = refl
@@ -82,6 +83,7 @@ module _ {K V : Type 0} (eq : K → K → Bool) (Right : K → V → Type 0) (we
           numbered = numbered_then eq key same memo.keys memo.steps s its holds.numbered;
           places = placed_fits memo holds key;
           values = λ n. ap (option_map weigh) (value_placed (number_of eq key memo.keys) memo.values n) ∙ holds.values n ∙ sym (weight_stays n memo.steps s (ap (λ b. b && (s.key == n)) other));
+          news = news_snoc memo.steps s ∙ ap (λ b. count_by (λ (call : MemoCall). is_new call.what) memo.steps + cond b 1 0) other ∙ omega (arith, holds.news, values_placed (number_of eq key memo.keys) memo.values);
           right = λ n k v at is. right_then memo holds key n k v at (sym (value_placed (number_of eq key memo.keys) memo.values n) ∙ is);
         },
       )
@@ -117,6 +119,7 @@ module _ {K V : Type 0} (eq : K → K → Bool) (Right : K → V → Type 0) (we
       numbered = numbered_then eq key same memo.keys memo.steps s refl holds.numbered;
       places = length-set placed number (Some v) ∙ placed_fits memo holds key;
       values = λ n. value n (number == n) refl;
+      news = news_snoc memo.steps s ∙ omega (arith, holds.news, values_placed number memo.values, values_more placed number v (number_placed memo holds key) unset);
       right = λ n k u at is. right_at n k u at is (number == n) refl;
     },
   )
@@ -129,6 +132,9 @@ module _ {K V : Type 0} (eq : K → K → Bool) (Right : K → V → Type 0) (we
 
       placed : List (Option V)
       placed = with_place number memo.values
+
+      unset : is_some (value_at number placed) ≡ false
+      unset = ap is_some (value_placed number memo.values number) ∙ found_is_new memo holds number ∙ none
 
       weight : kept_weight (memo.steps ++ s ∷ []) ≡ kept_weight memo.steps + weigh v
       weight = weight_snoc memo.steps s

@@ -1,7 +1,9 @@
 -- The values that are kept under numbers, once a place was added or a value put.
-use Rattle.std.proofs.Common.{arith, ◌≡◌, ℕ, zero, suc, ◌+◌, ◌<◌, ◌≤◌, Bool, true, false, ◌==◌, cond, nat_lt, List, [], ◌∷◌, ◌++◌, length, slice_set, Option, Some, None, refl, ap, ◌∙◌, inl, inr, ◌⊎◌}
+use Rattle.std.proofs.Common.{arith, ◌≡◌, ℕ, zero, suc, ◌+◌, ◌<◌, ◌≤◌, Bool, true, false, ◌==◌, cond, nat_lt, List, [], ◌∷◌, ◌++◌, length, slice_set, Option, Some, None, is_some, refl, ap, ◌∙◌, inl, inr, ◌⊎◌}
 use Rattle.std.proofs.lemmas.Grind.{common_steps}
 use Rattle.std.proofs.lemmas.List.{length-append}
+use Rattle.std.proofs.lemmas.List.Sums.{sum_by-cons, sum_by-append}
+use Rattle.std.specs.List.{count_by}
 use Rattle.closure_memo.specs.Memo.{value_at, with_place}
 
 -- an empty place at the end has no value
@@ -39,3 +41,25 @@ value_set_else (w ∷ values) zero zero v other = absurd (grind (arith, common_s
 value_set_else (w ∷ values) zero (suc n) v other = refl
 value_set_else (w ∷ values) (suc number) zero v other = refl
 value_set_else (w ∷ values) (suc number) (suc n) v other = value_set_else values number n v (grind (arith, common_steps, other))
+
+values_cons : {V : Type 0} (v : Option V) (values : List (Option V)) → count_by is_some (v ∷ values) ≡ cond (is_some v) 1 0 + count_by is_some values
+values_cons v values = sum_by-cons (λ w. cond (is_some w) 1 0) v values
+
+-- a place holds no value before one is put
+pub values_placed : {V : Type 0} (number : ℕ) (values : List (Option V)) → count_by is_some (with_place number values) ≡ count_by is_some values
+values_placed {V = V} number values = go (nat_lt number (length values)) refl
+  where
+    go : (b : Bool) → nat_lt number (length values) ≡ b → count_by is_some (with_place number values) ≡ count_by is_some values
+    go true e = ap (λ b. count_by is_some (cond b values (values ++ None ∷ []))) e
+    go false e =
+        let more : count_by is_some (values ++ None ∷ []) ≡ count_by is_some values + 0 = sum_by-append (λ (v : Option V). cond (is_some v) 1 0) values (None ∷ []) in
+        ap (λ b. count_by is_some (cond b values (values ++ None ∷ []))) e ∙ more ∙ omega arith
+
+-- a value that is put where there was none is one more
+pub values_more : {V : Type 0} (values : List (Option V)) (number : ℕ) (v : V) → number < length values → is_some (value_at number values) ≡ false
+    → count_by is_some (slice_set values number (Some v)) ≡ count_by is_some values + 1
+values_more [] number v less none = absurd (omega (arith, less))
+values_more (Some w ∷ values) zero v less none = absurd (grind (arith, common_steps, none))
+values_more (None ∷ values) zero v less none = omega (arith, values_cons (Some v) values, values_cons None values)
+values_more (w ∷ values) (suc number) v less none =
+    omega (arith, values_cons w (slice_set values number (Some v)), values_cons w values, values_more values number v (omega (arith, less)) none)

@@ -107,9 +107,12 @@ pub record AreNumbered {K : Type 0} (keys : List K) (steps : List MemoCall) : Ty
   pub all_seen : seen_keys steps ≡ length keys
   pub listed : (place : ℕ) (call : MemoCall) → slice_get steps place ≡ Some call → call.key < length keys
 
--- a client's number, and how many looks, looks that found a value, and publications it made
+-- a client's number, and how many looks, looks that found a value, publications, publications whose value was kept, and
+-- publications that the limit refused it made
 pub record Tally : Type 0 where
   pub client : ℕ
   pub looks : ℕ
   pub hits : ℕ
   pub publications : ℕ
+  pub news : ℕ
+  pub fulls : ℕ

@@ -1,6 +1,6 @@
 -- The memo as a machine: its history, its keys, and the value that was kept under each. A look and a publication are each one step.
 use Rattle.std.specs.Prelude.{◌≡◌, ℕ, ◌+◌, Bool, cond, nat_lt, List, [], ◌∷◌, ◌++◌, length, slice_get, slice_set, Option, Some, None, is_some}
-use Rattle.std.specs.List.{position_or_len}
+use Rattle.std.specs.List.{position_or_len, count_by}
 use Rattle.std.specs.Option.{option_map, option_flatten}
 use Rattle.closure_memo.specs.declared.step.MemoCall.{MemoCall}
 use Rattle.closure_memo.specs.declared.step.What.{What}
@@ -8,7 +8,7 @@ use Rattle.closure_memo.specs.declared.step.What.TheVariants as what
 use Rattle.closure_memo.specs.declared.step.Kept.{Kept}
 use Rattle.closure_memo.specs.declared.step.Kept.TheVariants as kept
 use Rattle.tree_model.specs.Trees.{FileTree}
-use Rattle.closure_memo.specs.History.{IsLegal, AreNumbered, kept_weight, new_weight}
+use Rattle.closure_memo.specs.History.{IsLegal, AreNumbered, is_new, kept_weight, new_weight}
 
 -- the limit of weight, the keys by first sight, of each key the value that was kept, if any, and the history
 pub record Memo (K V : Type 0) : Type 0 where
@@ -88,10 +88,11 @@ abbrev pub RightIn : {K V : Type 0} → Option FileTree → (FileTree → K → 
 RightIn named right key v = (tree : FileTree) → named ≡ Some tree → right tree key v
 
 -- what every memo keeps: a legal history, whose keys are numbered by first sight, and of each New the value, which has the
--- weight that the history says and is right for its key
+-- weight that the history says and is right for its key; it has as many News as values were kept
 pub record IsMemo {K V : Type 0} (Right : K → V → Type 0) (weigh : V → ℕ) (memo : Memo K V) : Type 0 where
   pub legal : IsLegal memo.limit memo.steps
   pub numbered : AreNumbered memo.keys memo.steps
   pub places : length memo.values ≡ length memo.keys
   pub values : (number : ℕ) → option_map weigh (value_at number memo.values) ≡ new_weight number memo.steps
+  pub news : count_by (λ call. is_new call.what) memo.steps ≡ count_by is_some memo.values
   pub right : (number : ℕ) (key : K) (v : V) → slice_get memo.keys number ≡ Some key → value_at number memo.values ≡ Some v → Right key v

@@ -68,7 +68,7 @@ pub fn fill_and_ask<R: Wait>(
     keys: u32,
     rounds: u32,
 ) -> Result<Counts, AllocError> {
-    one_client::<Brand, Brand, Brand, R>(
+    one_client::<Brand, Brand, Brand, Brand, Brand, R>(
         rt,
         alloc,
         keys,
@@ -76,10 +76,12 @@ pub fn fill_and_ask<R: Wait>(
         Blank::new(1),
         Blank::new(1),
         Blank::new(1),
+        Blank::new(1),
+        Blank::new(1),
     )
 }
 
-fn one_client<L: Ledger, H: Ledger, P: Ledger, R: Wait>(
+fn one_client<L: Ledger, H: Ledger, P: Ledger, N: Ledger, F: Ledger, R: Wait>(
     rt: &R,
     alloc: Global,
     keys: u32,
@@ -87,20 +89,32 @@ fn one_client<L: Ledger, H: Ledger, P: Ledger, R: Wait>(
     looks: Blank,
     hits: Blank,
     publications: Blank,
+    news: Blank,
+    fulls: Blank,
 ) -> Result<Counts, AllocError>
     requires looks { (looks.name ≡ L.name) × (looks.parts ≡ L.parts) × (looks.parts ≡ 1) }
     requires hits { (hits.name ≡ H.name) × (hits.parts ≡ H.parts) × (hits.parts ≡ 1) }
     requires publications { (publications.name ≡ P.name) × (publications.parts ≡ P.parts) × (publications.parts ≡ 1) }
+    requires news { (news.name ≡ N.name) × (news.parts ≡ N.parts) × (news.parts ≡ 1) }
+    requires fulls { (fulls.name ≡ F.name) × (fulls.parts ≡ F.parts) × (fulls.parts ≡ 1) }
 {
-    let (memo, mut shares) = Shared::<Number, L, H, P>::new(alloc, 1, looks, hits, publications)?;
+    let (memo, mut shares) = Shared::<Number, L, H, P, N, F>::new(
+        alloc,
+        1,
+        looks,
+        hits,
+        publications,
+        news,
+        fulls,
+    )?;
     call_in_rounds(rt, &memo, &mut shares[0], keys, rounds)?;
     Ok(counts_of(memo.gather(shares).steps()))
 }
 
-fn call_in_rounds<L: Ledger, H: Ledger, P: Ledger, R: Wait>(
+fn call_in_rounds<L: Ledger, H: Ledger, P: Ledger, N: Ledger, F: Ledger, R: Wait>(
     rt: &R,
-    memo: &Shared<Number, L, H, P>,
-    share: &mut Share<L, H, P>,
+    memo: &Shared<Number, L, H, P, N, F>,
+    share: &mut Share<L, H, P, N, F>,
     keys: u32,
     rounds: u32,
 ) -> Result<(), AllocError> {
@@ -111,10 +125,10 @@ fn call_in_rounds<L: Ledger, H: Ledger, P: Ledger, R: Wait>(
     Ok(())
 }
 
-fn publish_each<L: Ledger, H: Ledger, P: Ledger, R: Wait>(
+fn publish_each<L: Ledger, H: Ledger, P: Ledger, N: Ledger, F: Ledger, R: Wait>(
     rt: &R,
-    memo: &Shared<Number, L, H, P>,
-    share: &mut Share<L, H, P>,
+    memo: &Shared<Number, L, H, P, N, F>,
+    share: &mut Share<L, H, P, N, F>,
     keys: u32,
 ) -> Result<(), AllocError> {
     for key in 0..keys {
@@ -123,10 +137,10 @@ fn publish_each<L: Ledger, H: Ledger, P: Ledger, R: Wait>(
     Ok(())
 }
 
-fn look_for_each<L: Ledger, H: Ledger, P: Ledger, R: Wait>(
+fn look_for_each<L: Ledger, H: Ledger, P: Ledger, N: Ledger, F: Ledger, R: Wait>(
     rt: &R,
-    memo: &Shared<Number, L, H, P>,
-    share: &mut Share<L, H, P>,
+    memo: &Shared<Number, L, H, P, N, F>,
+    share: &mut Share<L, H, P, N, F>,
     keys: u32,
 ) -> Result<(), AllocError> {
     for key in 0..keys {

@@ -8,3 +8,9 @@ ghosts-check_one_client-H-Ledger g a = record { name = a.hits.name; parts = a.hi
 
 abbrev pub ghosts-check_one_client-P-Ledger : goal.ghosts-check_one_client-P-Ledger
 ghosts-check_one_client-P-Ledger g a = record { name = a.publications.name; parts = a.publications.parts }
+
+abbrev pub ghosts-check_one_client-N-Ledger : goal.ghosts-check_one_client-N-Ledger
+ghosts-check_one_client-N-Ledger g a = record { name = a.news.name; parts = a.news.parts }
+
+abbrev pub ghosts-check_one_client-F-Ledger : goal.ghosts-check_one_client-F-Ledger
+ghosts-check_one_client-F-Ledger g a = record { name = a.fulls.name; parts = a.fulls.parts }

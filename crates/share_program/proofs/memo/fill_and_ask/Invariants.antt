@@ -8,3 +8,9 @@ ghosts-one_client-H-Ledger g a = record { name = a.hits.name; parts = a.hits.par
 
 abbrev pub ghosts-one_client-P-Ledger : goal.ghosts-one_client-P-Ledger
 ghosts-one_client-P-Ledger g a = record { name = a.publications.name; parts = a.publications.parts }
+
+abbrev pub ghosts-one_client-N-Ledger : goal.ghosts-one_client-N-Ledger
+ghosts-one_client-N-Ledger g a = record { name = a.news.name; parts = a.news.parts }
+
+abbrev pub ghosts-one_client-F-Ledger : goal.ghosts-one_client-F-Ledger
+ghosts-one_client-F-Ledger g a = record { name = a.fulls.name; parts = a.fulls.parts }

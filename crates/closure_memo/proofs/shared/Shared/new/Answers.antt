@@ -14,6 +14,16 @@ loop-client-preserved g c =
       search rules,
       search rules,
       search rules,
-      (rw c.in_ok-push.ensures.items (sum_by-append (λ s. s.looks) c.loop-client.shares.items _ ∙ omega (arith, at, c.split_off.ensures.amount)), rw c.in_ok-push.ensures.items (sum_by-append (λ s. s.hits) c.loop-client.shares.items _ ∙ omega (arith, at, c.split_off-in-loop-client.ensures.amount)), rw c.in_ok-push.ensures.items (sum_by-append (λ s. s.publications) c.loop-client.shares.items _ ∙ omega (arith, at, c.split_off-in-loop-client-2.ensures.amount))),
-      rw c.in_ok-push.ensures.items (map-append (λ s. s.client) c.loop-client.shares.items _ ∙ ap (λ l. l ++ c.loop-client.client ∷ []) at.8 ∙ sym (range_snoc c.loop-client.client)),
+      search rules,
+      search rules,
+      search rules,
+      search rules,
+      (
+        rw c.in_ok-push.ensures.items (sum_by-append (λ s. s.looks) c.loop-client.shares.items _ ∙ omega (arith, at, c.split_off.ensures.amount)),
+        rw c.in_ok-push.ensures.items (sum_by-append (λ s. s.hits) c.loop-client.shares.items _ ∙ omega (arith, at, c.split_off-in-loop-client.ensures.amount)),
+        rw c.in_ok-push.ensures.items (sum_by-append (λ s. s.publications) c.loop-client.shares.items _ ∙ omega (arith, at, c.split_off-in-loop-client-2.ensures.amount)),
+        rw c.in_ok-push.ensures.items (sum_by-append (λ s. s.news) c.loop-client.shares.items _ ∙ omega (arith, at, c.split_off-in-loop-client-3.ensures.amount)),
+        rw c.in_ok-push.ensures.items (sum_by-append (λ s. s.fulls) c.loop-client.shares.items _ ∙ omega (arith, at, c.split_off-in-loop-client-4.ensures.amount)),
+      ),
+      rw c.in_ok-push.ensures.items (map-append (λ s. s.client) c.loop-client.shares.items _ ∙ ap (λ l. l ++ c.loop-client.client ∷ []) at.12 ∙ sym (range_snoc c.loop-client.client)),
     )
