@@ -5,3 +5,4 @@ pub mod Pieces
 pub mod Bodies
 pub mod Forms
 pub mod SameLemmas
+pub mod Places

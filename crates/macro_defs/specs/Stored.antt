@@ -1,7 +1,11 @@
--- How maps and sets of names are seen.
-use Rattle.std.specs.Prelude.{ℕ, List, map, Option, Vec}
+-- How maps and sets of names are seen, and what a definition keeps beside its value.
+use Rattle.std.specs.Prelude.{ℕ, List, [], ◌∷◌, map, Option, None, Vec, if◌then◌else◌, bytes_eq}
 use Rattle.std.specs.Borrow.{Bor}
+use Rattle.indexmap.specs.IndexMap.{IndexMap, get_by}
+use Rattle.pp_tokens.specs.declared.Token.{Token}
+use Rattle.pp_tokens.specs.Marks.{is_identifier}
 use Rattle.macro_defs.specs.MacroDefinition.{MacroDefinition}
+use Rattle.macro_defs.specs.Arguments.{argument_named}
 use Rattle.macro_defs.specs.Table.{Entries}
 
 -- the entries of a map, each key as its bytes
@@ -11,3 +15,16 @@ seen entries = map (λ e. (e.0.items, e.1)) entries
 -- the spellings in a set of names
 abbrev pub spelled : List (Bor (List ℕ)) → List (List ℕ)
 spelled names = map (λ n. n.now) names
+
+-- the number that a map has for a name
+abbrev pub number_at : {S : Type 0} → IndexMap (Bor (List ℕ)) ℕ S → List ℕ → Option ℕ
+number_at numbers name = get_by (λ n. bytes_eq name n.now) numbers
+
+-- the number that a map has for the name that a token is
+abbrev pub number_named : {S : Type 0} → IndexMap (Bor (List ℕ)) ℕ S → Token → Option ℕ
+number_named numbers t = if is_identifier t then number_at numbers t.text else None
+
+-- for each token of a replacement list the argument that it names; nothing where there are no parameters
+abbrev pub numbers_kept : List (List ℕ) → List Token → List (Option ℕ)
+numbers_kept [] body = []
+numbers_kept (name ∷ names) body = map (argument_named (name ∷ names)) body

@@ -54,3 +54,15 @@ fn copy_token(alloc: Global, token: &Token) -> Result<Token, AllocError>
         space: token.space,
     })
 }
+
+// A copy of the numbers of parameters.
+pub(crate) fn copy_numbers(
+    alloc: Global,
+    numbers: &[Option<u32>],
+) -> Result<Vec<Option<u32>>, AllocError>
+    ensures { IfOk result (λ copy. copy.items ≡ numbers.now) }
+{
+    let mut copy = Vec::new(alloc);
+    copy.extend_from_slice(numbers)?;
+    Ok(copy)
+}

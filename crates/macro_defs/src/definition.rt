@@ -1,7 +1,8 @@
 // A macro definition.
 ghost use Rattle.std.specs.Prelude.{◌≡◌, map};
 
-use crate::copies::{copy_shape, copy_tokens};
+use crate::copies::{copy_numbers, copy_shape, copy_tokens};
+use crate::numbers::numbers_in;
 use crate::sameness::{same_shape, same_tokens};
 use base_types::{Bytes, List};
 use pp_tokens::Token;
@@ -23,28 +24,38 @@ pub enum Shape {
 pub struct Definition {
     shape: Shape,
     body: List<Token>,
+    // for each token of the body the number of the parameter that it names; empty where there are no parameters
+    named: Vec<Option<u32>>,
 }
 
 impl Model for Definition {
-    ghost use Rattle.std.specs.Prelude.{map};
+    ghost use Rattle.std.specs.Prelude.{◌≡◌, map};
     ghost use Rattle.macro_defs.specs.MacroDefinition.{MacroDefinition, without_line};
+    ghost use Rattle.macro_defs.specs.Arguments.{parameters_in};
+    ghost use Rattle.macro_defs.specs.Stored.{numbers_kept};
 
     ghost Value = { MacroDefinition };
 
     ghost view = { λ d. record { shape = d.shape; body = map without_line d.body } };
+
+    ghost invariant = { λ d. d.named.items ≡ numbers_kept (parameters_in d.shape) d.body };
 }
 
 impl Definition {
     ghost use Rattle.std.specs.Prelude.{◌≡◌, map, IfOk};
     ghost use Rattle.macro_defs.specs.Defining.{definition_of};
     ghost use Rattle.macro_defs.specs.MacroDefinition.{without_line};
+    ghost use Rattle.macro_defs.specs.Arguments.{parameter_at};
 
     /// A definition of this form with this replacement list. Any list is taken: of one that `read_define` refuses, expansion leaves
     /// out a `#` that no parameter follows and a `##` that stands first or last (ISO C 6.10.3.2 paragraph 1, 6.10.3.3 paragraph 1).
-    pub fn new(shape: Shape, body: List<Token>) -> Definition
-        ensures { result ≡ definition_of shape body }
+    /// The tokens of a macro with parameters are looked up among these here, once: time is linear in both lists, on average. No
+    /// memory is taken where there are no parameters. The only error is want of memory, which is also what more than 2^32 parameters give.
+    pub fn new(alloc: Global, shape: Shape, body: List<Token>) -> Result<Definition, AllocError>
+        ensures { IfOk result (λ d. d ≡ definition_of shape body) }
     {
-        Definition { shape, body }
+        let named = numbers_in(alloc, &shape, body.as_slice())?;
+        Ok(Definition { shape, body, named })
     }
 
     pub fn shape(&self) -> &Shape
@@ -59,7 +70,8 @@ impl Definition {
     {
         let shape = copy_shape(alloc, &self.shape)?;
         let body = copy_tokens(alloc, self.body.as_slice())?;
-        Ok(Definition { shape, body })
+        let named = copy_numbers(alloc, self.named.as_slice())?;
+        Ok(Definition { shape, body, named })
     }
 
     /// The replacement list. What lines its tokens have is not told.
@@ -67,6 +79,21 @@ impl Definition {
         ensures { map without_line result.now ≡ self.now.body }
     {
         self.body.as_slice()
+    }
+
+    /// The number, from 0, of the parameter that the token at a place of the replacement list names: the first one whose name
+    /// is the token's spelling (ISO C 6.10.3.1 paragraph 1). None where the token names none, past the last token, and for an
+    /// object-like macro. It takes constant time.
+    pub fn parameter_at(&self, place: usize) -> Option<usize>
+        ensures { result ≡ parameter_at self.now place }
+    {
+        if place >= self.named.len() {
+            return None;
+        }
+        match self.named[place] {
+            Some(number) => Some(number as usize),
+            None => None,
+        }
     }
 }
 

@@ -4,6 +4,7 @@
 mod copies;
 mod definition;
 mod marks;
+mod numbers;
 mod params;
 mod reading;
 mod replacement;

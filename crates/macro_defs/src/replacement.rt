@@ -32,7 +32,8 @@ pub(crate) fn with_body(
         return Err(DefineError::Hash);
     }
     let body = copy_tokens(alloc, body)?;
-    Ok(Definition::new(shape, body))
+    let definition = Definition::new(alloc, shape, body)?;
+    Ok(definition)
 }
 
 fn begins_with_pasting(body: &[Token]) -> bool

@@ -153,5 +153,5 @@ fn one_token_macro(alloc: Global, kind: Kind, spelling: &[u8]) -> Result<Definit
         line: 0,
         space: true,
     })?;
-    Ok(Definition::new(Shape::Object, body))
+    Definition::new(alloc, Shape::Object, body)
 }

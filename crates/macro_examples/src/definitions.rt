@@ -86,6 +86,28 @@ fn add_tokens(text: &mut String, tokens: &[Token]) -> Result<(), AllocError> {
     Ok(())
 }
 
+// For each token of a line's replacement list the number of the parameter that it names, or `-`.
+fn numbers(rt: &impl Abort, alloc: Global, line: &str, want: &str) {
+    let definition = definition_of(rt, alloc, line);
+    let mut text = String::new(alloc);
+    add_numbers(&mut text, &definition).expect(rt, "no memory");
+    check_same(rt, line, text.as_str(), want);
+}
+
+fn add_numbers(text: &mut String, definition: &Definition) -> Result<(), AllocError> {
+    for place in 0..definition.body().len() {
+        add_number(text, definition.parameter_at(place))?;
+    }
+    Ok(())
+}
+
+fn add_number(text: &mut String, number: Option<usize>) -> Result<(), AllocError> {
+    match number {
+        Some(number) => write!(text, " {number}"),
+        None => text.push_str(" -"),
+    }
+}
+
 // What a name stands for in a table: its definition, or `-`.
 fn add_macro(text: &mut String, table: &MacroTable, name: &str) -> Result<(), AllocError> {
     match table.get(name.as_bytes()) {
@@ -162,7 +184,7 @@ fn define(rt: &impl Abort, alloc: Global, table: &mut MacroTable, line: &str) {
 
 // Obeys each line, at a table that begins as the first one. `#define` and `#undef` lines change the table. What stands
 // before ` => ` gives what stands behind it. The two lines around ` == ` give the same definition, and those around
-// ` != ` do not.
+// ` != ` do not. The tokens of the line before ` ->` name the parameters of the numbers behind it.
 fn check(rt: &impl Abort, alloc: Global, lines: &str) {
     let mut table = MacroTable::initial(alloc).expect(rt, "no memory");
     for line in lines.lines() {
@@ -173,6 +195,8 @@ fn check(rt: &impl Abort, alloc: Global, lines: &str) {
 fn obey(rt: &impl Abort, alloc: Global, table: &mut MacroTable, line: &str) {
     if let Some((given, want)) = line.split_once(" => ") {
         gives(rt, alloc, table, given, want);
+    } else if let Some((given, want)) = line.split_once(" ->") {
+        numbers(rt, alloc, given, want);
     } else if let Some((one, other)) = line.split_once(" == ") {
         compare(rt, alloc, one, other, true);
     } else if let Some((one, other)) = line.split_once(" != ") {
@@ -262,6 +286,22 @@ const REFUSED: &str = r#"
 #define f(x) #x # => Hash
 #define f(x) #1 => Hash
 #define f(x) #__VA_ARGS__ => Hash
+"#;
+
+#[test]
+fn tells_parameters(rt: HostRuntime) {
+    check(&rt, rt.alloc(), NUMBERS);
+}
+
+const NUMBERS: &str = r#"
+#define A x -> -
+#define A ->
+#define f() x -> -
+#define f(x) ->
+#define f(x, y) y + x z -> 1 - 0 -
+#define f(x, y) #x ## y 'x' f -> - 0 - 1 - -
+#define f(x, ...) __VA_ARGS__ x -> 1 0
+#define f(a, b, c, d, e, f, g, h, i, j...) j i h x a b 2 -> 9 8 7 - 0 1 -
 "#;
 
 #[test]

@@ -1,0 +1,77 @@
+-- The numbers of the parameters that tokens name.
+use Rattle.std.proofs.Common.{◌≡◌, ℕ, zero, suc, ◌+◌, ◌<◌, Bool, cond, if◌then◌else◌, List, [], ◌∷◌, ◌++◌, map, take, length, get_or, drop, slice_get, position, Option, None, Some, bytes_eq, refl, sym, ap, ◌∙◌, subst, arith}
+use Rattle.std.specs.Prelude.{Vec, Result, Ok, Err, IfOk}
+use Rattle.std.specs.Borrow.{Bor}
+use Rattle.std.specs.List.{position_from}
+use Rattle.std.specs.Option.{option_and_then}
+use Rattle.std.proofs.lemmas.List.{map-append, take_more}
+use Rattle.std.proofs.lemmas.Cmp.{nat_list_eq_equiv}
+use Rattle.std.proofs.lemmas.Iterator.Adapters.{position_from-zero}
+use Rattle.indexmap.specs.IndexMap.{IndexMap}
+use Rattle.pp_tokens.specs.declared.Token.{Token}
+use Rattle.pp_tokens.specs.Marks.{is_identifier}
+use Rattle.macro_defs.specs.declared.definition.Shape.{Shape}
+use Rattle.macro_defs.specs.MacroDefinition.{MacroDefinition, without_line}
+use Rattle.macro_defs.specs.Arguments.{argument_named, parameters_in, parameter_at}
+use Rattle.macro_defs.specs.Defining.{definition_of}
+use Rattle.macro_defs.specs.Stored.{number_at, number_named, numbers_kept}
+
+-- a name more in a map
+pub number_more : {S : Type 0} (old new : IndexMap (Bor (List ℕ)) ℕ S) (name : Bor (List ℕ)) (kept number : ℕ) → kept ≡ number
+    → ((q : Bor (List ℕ)) → number_at new q.now ≡ cond (bytes_eq name.now q.now) (Some kept) (number_at old q.now))
+    → (other : List ℕ) → number_at new other ≡ (if bytes_eq other name.now then Some number else number_at old other)
+number_more old new name kept number same updates other =
+    updates (record { ref_ptr = (0, 0); now = other })
+    ∙ ap (λ (b : Bool). if b then Some kept else number_at old other) (nat_list_eq_equiv.symm name.now other)
+    ∙ ap (λ n. if bytes_eq other name.now then Some n else number_at old other) same
+
+-- from the first place on, all places
+pub from_first : (name : List ℕ) (params : List (List ℕ)) (place : ℕ) → place ≡ 0 → position_from (bytes_eq name) place (drop place params) ≡ position (bytes_eq name) params
+from_first name params place first =
+    ap (λ p. position_from (bytes_eq name) p (drop p params)) first ∙ sym (position_from-zero (bytes_eq name) params)
+
+-- a token more
+pub mapped-more : {X Y : Type 0} (f : X → Y) (xs : List X) (i : ℕ) (x : X) (ys : List Y) (y : Y) (now : List Y) → i < length xs → x ≡ get_or xs i x
+    → ys ≡ map f (take i xs) → y ≡ f x → now ≡ ys ++ y ∷ [] → now ≡ map f (take (i + 1) xs)
+mapped-more f xs i x ys y now within is before told made =
+    made ∙ ap (λ l. l ++ y ∷ []) before ∙ ap (λ v. map f (take i xs) ++ v ∷ []) (told ∙ ap f is)
+    ∙ sym (ap (map f) (take_more xs i x within) ∙ map-append f (take i xs) (get_or xs i x ∷ []))
+
+-- where a map has the number of the first parameter of each name, it tells which parameter each token names
+told_by : {S : Type 0} (numbers : IndexMap (Bor (List ℕ)) ℕ S) (params : List (List ℕ)) (body : List Token)
+    → ((name : List ℕ) → number_at numbers name ≡ position (bytes_eq name) params) → map (number_named numbers) body ≡ map (argument_named params) body
+told_by numbers params [] tells = refl
+told_by numbers params (t ∷ body) tells =
+    ap (λ o. (if is_identifier t then o else None) ∷ map (number_named numbers) body) (tells t.text)
+    ∙ ap (λ os. argument_named params t ∷ os) (told_by numbers params body tells)
+
+-- where there are parameters, each token's number is kept
+pub kept-some : (params : List (List ℕ)) (body : List Token) → 0 < length params → map (argument_named params) body ≡ numbers_kept params body
+kept-some [] body some = absurd (omega (arith, some))
+kept-some (name ∷ params) body some = refl
+
+pub kept-told : {S E A : Type 0} (numbers : IndexMap (Bor (List ℕ)) ℕ S) (params : List (List ℕ)) (body : List Token) → 0 < length params
+    → ((name : List ℕ) → number_at numbers name ≡ position (bytes_eq name) params)
+    → (result : Result (Vec (Option ℕ) A) E) → IfOk result (λ named. named.items ≡ map (number_named numbers) body) → IfOk result (λ named. named.items ≡ numbers_kept params body)
+kept-told numbers params body some tells (Ok named) is = is ∙ told_by numbers params body tells ∙ kept-some params body some
+kept-told numbers params body some tells (Err e) is = tt
+
+-- What is kept, at a place.
+
+parameter : (names : List (List ℕ)) (body : List Token) (place : ℕ) (number : Option ℕ) → place < length (map (argument_named names) body)
+    → number ≡ get_or (map (argument_named names) body) place number → number ≡ option_and_then (argument_named names) (slice_get (map without_line body) place)
+parameter names [] place number within is = absurd (omega (arith, within))
+parameter names (t ∷ body) zero number within is = is
+parameter names (t ∷ body) (suc place) number within is = parameter names body place number (omega (arith, within)) is
+
+kept_at : (names : List (List ℕ)) (body : List Token) (place : ℕ) (number : Option ℕ) → place < length (numbers_kept names body)
+    → number ≡ get_or (numbers_kept names body) place number → number ≡ option_and_then (argument_named names) (slice_get (map without_line body) place)
+kept_at [] body place number within is = absurd (omega (arith, within))
+kept_at (name ∷ names) body place number within is = parameter (name ∷ names) body place number within is
+
+module _ (shape : Shape) (body : List Token) (named : List (Option ℕ)) (d : MacroDefinition) (place : ℕ)
+    (view : definition_of shape body ≡ d) (kept : named ≡ numbers_kept (parameters_in shape) body) where
+  pub kept_here : (number : Option ℕ) → place < length named → number ≡ get_or named place number → number ≡ parameter_at d place
+  kept_here number within is =
+      kept_at (parameters_in shape) body place number (subst (λ ns. place < length ns) kept within) (is ∙ ap (λ ns. get_or ns place number) kept)
+      ∙ ap (λ e. parameter_at e place) view
