@@ -11,11 +11,11 @@ use Rattle.macro_expand.specs.Answered.{Stop, ByFailure, ByPresumed, Answered, e
 use Rattle.macro_expand.specs.Seen.{Gives, HasTokens, Stops, ReportsResult, public_of}
 use Rattle.macro_expand.proofs.AnsweredLaws.{lifted, answered-table}
 
-lowered : {A : Type 0} → Result A Stop → Result A Failure
+pub lowered : {A : Type 0} → Result A Stop → Result A Failure
 lowered (Ok x) = Ok x
 lowered (Err e) = Err (elim e [ ByFailure f ↦ f | ByPresumed ↦ Work ])
 
-lowered-lifted : {A : Type 0} (r : Result A Failure) → lowered (lifted r) ≡ r
+pub lowered-lifted : {A : Type 0} (r : Result A Failure) → lowered (lifted r) ≡ r
 unfolding lowered
 lowered-lifted (Ok x) = refl
 lowered-lifted (Err e) = refl
@@ -24,11 +24,11 @@ module _ {S : Type 0} (table : Table) (here : S → Place) (s : S) (mode : Mode)
   By : Result Expanded Failure
   By = expanded_by table (here s) mode 0 units ts
 
-  by_is : expanded_for (table_answerer (λ _. table) here) s mode 0 units ts ≡ record { result = lifted (expanded_by table (here s) mode 0 units ts); state = s }
+  pub by_is : expanded_for (table_answerer (λ _. table) here) s mode 0 units ts ≡ record { result = lifted (expanded_by table (here s) mode 0 units ts); state = s }
   unfolding expanded_for expanded_by
   by_is = answered-table (λ _. table) here s (expansion mode 0 units ts)
 
-  result_is : (r : Result Expanded Stop) (u : S) → expanded_for (table_answerer (λ _. table) here) s mode 0 units ts ≡ record { result = r; state = u } →
+  pub result_is : (r : Result Expanded Stop) (u : S) → expanded_for (table_answerer (λ _. table) here) s mode 0 units ts ≡ record { result = r; state = u } →
       expanded_by table (here s) mode 0 units ts ≡ lowered r
   result_is r u e =
       sym (lowered-lifted (expanded_by table (here s) mode 0 units ts))

@@ -3,13 +3,8 @@ pub mod AskingLaws
 pub mod StepLaws
 pub mod UnitsLaws
 pub mod ChoiceLaws
-pub mod SupportLaws
 pub mod RunLaws
-pub mod CountLaws
 pub mod OutcomeLaws
-pub mod KeptLaws
-pub mod MiddleLaws
-pub mod EnumerationLaws
 pub mod TableLaws
 pub mod PasteLaws
 pub mod AnsweredLaws
@@ -23,3 +18,5 @@ pub mod PartLemmas
 pub mod StringLemmas
 pub mod PlacingLemmas
 pub mod PieceLemmas
+pub mod PendingLemmas
+pub mod StreamLemmas

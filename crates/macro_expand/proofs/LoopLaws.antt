@@ -17,7 +17,7 @@ use Rattle.macro_expand.specs.Seen.{marked_of, Reports, Stops, GoesOn, HasTokens
 use Rattle.pp_tokens.specs.declared.Token.{Token}
 use Rattle.macro_expand.proofs.AnsweredLaws.{before-nothing, before-before, expanded_for-nil, expanded_for-ordinary, expanded_for-defined, expanded_for-file_unknown, expanded_for-file_paid, expanded_for-file_work, expanded_for-line_unknown, expanded_for-line_paid, expanded_for-line_work, charged_for-paid, charged_for-work}
 
-tokens_of_marked : (list : List Kept) → map (λ (m : Marked). m.token) (map marked_of list) ≡ map (λ (m : Kept). m.token) list
+pub tokens_of_marked : (list : List Kept) → map (λ (m : Marked). m.token) (map marked_of list) ≡ map (λ (m : Kept). m.token) list
 tokens_of_marked [] = refl
 tokens_of_marked (m ∷ ms) = ap (λ ts. m.token ∷ ts) (tokens_of_marked ms)
 

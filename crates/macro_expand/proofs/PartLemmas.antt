@@ -1,12 +1,14 @@
 -- How a replacement list is read, token by token.
-use Rattle.std.proofs.Common.{◌≡◌, ℕ, ◌+◌, ◌<◌, ◌≤◌, Bool, true, false, ◌&&◌, ◌||◌, List, [], ◌∷◌, ◌++◌, map, length, get_or, drop, add-one, suc, drop-cons, refl, ap, sym, ◌∙◌, subst, Option, Some, None, bytes_eq, codes, if◌then◌else◌, ◌⊎◌, inl, inr, append_assoc, append-nil, drop_of_length-le}
+use Rattle.std.proofs.Common.{◌≡◌, ℕ, ◌+◌, ◌<◌, ◌≤◌, Bool, true, false, ◌&&◌, ◌||◌, List, [], ◌∷◌, ◌++◌, map, length, get_or, slice_get, drop, add-one, zero, suc, drop-cons, arith, refl, ap, sym, ◌∙◌, subst, Option, Some, None, bytes_eq, codes, if◌then◌else◌, ◌⊎◌, inl, inr, append_assoc, append-nil, drop_of_length-le}
+use Rattle.std.specs.Option.{option_and_then}
 use Rattle.std.proofs.lemmas.List.{map-append}
 use Rattle.std.proofs.lemmas.Slice.Eq.{bytes_eq-Decides}
 use Rattle.pp_tokens.specs.declared.Token.{Token}
 use Rattle.macro_defs.specs.MacroDefinition.{without_line}
+use Rattle.macro_defs.specs.Arguments.{argument_named}
 use Rattle.pp_tokens.specs.Marks.{is_punctuator, is_open, is_close, is_comma, is_hash, is_pasting, Mark, Opening, Closing, Comma, Hash, Pasting, NoMark, mark_of}
 use Rattle.macro_expand.specs.declared.replace.Part.{Part as KeptPart}
-use Rattle.macro_expand.specs.Replacement.{Part, Plain, Argument, Spelling, Join, argument_named, parts_after, is_join, is_alone, stands_alone}
+use Rattle.macro_expand.specs.Replacement.{Part, Plain, Argument, Spelling, Join, parts_after, is_join, is_alone, stands_alone}
 use Rattle.macro_expand.specs.Parts.{operand_part, part_of, object_part, begins_spelling, Marks}
 use Rattle.macro_expand.specs.Seen.{part_seen, parts_seen}
 
@@ -82,11 +84,11 @@ object_part-join t h = ap (λ m. elim m as (λ x. Part) [ Pasting ↦ Join | _ �
 pub object_part-plain : (t : Token) → is_pasting t ≡ false → object_part t ≡ Plain t
 object_part-plain t h = mark-not_pasting t Join (Plain t) h
 
-pub part_of-join : (names : List (List ℕ)) (t : Token) → is_pasting t ≡ true → part_of None names t ≡ Join
-part_of-join names t h = ap (λ m. elim m as (λ x. Part) [ Pasting ↦ Join | _ ↦ operand_part None t (argument_named names t) ]) (mark-pasting t h)
+pub part_of-join : (t : Token) (named : Option ℕ) → is_pasting t ≡ true → part_of None t named ≡ Join
+part_of-join t named h = ap (λ m. elim m as (λ x. Part) [ Pasting ↦ Join | _ ↦ operand_part None t named ]) (mark-pasting t h)
 
-pub part_of-operand : (names : List (List ℕ)) (t : Token) → is_pasting t ≡ false → part_of None names t ≡ operand_part None t (argument_named names t)
-part_of-operand names t h = mark-not_pasting t Join (operand_part None t (argument_named names t)) h
+pub part_of-operand : (t : Token) (named : Option ℕ) → is_pasting t ≡ false → part_of None t named ≡ operand_part None t named
+part_of-operand t named h = mark-not_pasting t Join (operand_part None t named) h
 
 argument_or : (o : Option ℕ) (t : Token) → (elim o as (λ x. Part) [ None ↦ Plain t | Some i ↦ Argument i t.space ]) ≡ operand_part None t o
 argument_or None t = refl
@@ -109,13 +111,20 @@ parts_after-hash None names t ts h =
 parts_after-hash (Some space) names t ts h = absurd (cc)
 
 pub parts_after-part : (hash : Option Bool) (names : List (List ℕ)) (t : Token) (ts : List Token) → begins_spelling hash t ≡ false →
-    parts_after hash names (t ∷ ts) ≡ part_of hash names t ∷ parts_after None names ts
+    parts_after hash names (t ∷ ts) ≡ part_of hash t (argument_named names t) ∷ parts_after None names ts
 unfolding parts_after mark_of
 parts_after-part None names t ts h =
     no_hash (is_open t) (is_close t) (is_comma t) (is_hash t) (is_pasting t) Join (elim (argument_named names t) as (λ x. Part) [ None ↦ Plain t | Some i ↦ Argument i t.space ])
     (parts_after (Some t.space) names ts) (parts_after None names ts) h
     ∙ ap (λ p. (elim (mark_of t) as (λ u. Part) [ Pasting ↦ Join | _ ↦ p ]) ∷ parts_after None names ts) (argument_or (argument_named names t) t)
 parts_after-part (Some space) names t ts h = ap (λ p. p ∷ parts_after None names ts) (spelling_or (argument_named names t) space t)
+
+-- the argument that the token at a place names
+pub named-at : (names : List (List ℕ)) (body : List Token) (i : ℕ) (t : Token) → i < length body → t ≡ get_or body i t →
+    option_and_then (argument_named names) (slice_get (map without_line body) i) ≡ argument_named names (without_line t)
+named-at names [] i t below is = absurd (omega (arith, below))
+named-at names (u ∷ body) zero t below is = ap (λ v. argument_named names (without_line v)) (sym is)
+named-at names (u ∷ body) (suc i) t below is = named-at names body i t (omega (arith, below)) is
 
 -- The loop over a list: `parts` were read, and a `#` stands right before the token at `i`, or none.
 module _ (names : List (List ℕ)) (body : List Token) (i : ℕ) (t : Token) (below : i < length body) (is : t ≡ get_or body i t)
@@ -132,7 +141,7 @@ module _ (names : List (List ℕ)) (body : List Token) (i : ℕ) (t : Token) (be
   read-hash h =
       ap (λ ps. parts_seen parts ++ ps) (sym (parts_after-hash hash names (without_line t) (map without_line (drop (i + 1) body)) (unlined hash ∙ h))) ∙ here
 
-  pub read-part : (p : KeptPart) (next : List KeptPart) → begins_spelling hash t ≡ false → part_seen p ≡ part_of hash names (without_line t) →
+  pub read-part : (p : KeptPart) (next : List KeptPart) → begins_spelling hash t ≡ false → part_seen p ≡ part_of hash (without_line t) (argument_named names (without_line t)) →
       next ≡ parts ++ p ∷ [] → parts_seen next ++ parts_after None names (map without_line (drop (i + 1) body)) ≡ whole
   read-part p next h seen made =
       ap (λ ps. parts_seen ps ++ rest) made

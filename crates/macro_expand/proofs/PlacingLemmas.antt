@@ -3,15 +3,14 @@ use Rattle.std.proofs.Common.{◌≡◌, ℕ, ◌+◌, ◌<◌, ◌||◌, List, 
 use Rattle.std.proofs.Math.ListN.{set, length-set}
 use Rattle.std.proofs.lemmas.List.{map-append, take_more, take_more_set, drop-set-lt}
 use mathlib.Core.Path.{fun_ext}
-use Rattle.pp_tokens.specs.declared.Token.{Token}
 use Rattle.macro_expand.specs.Replacement.{Marked, Names}
 use Rattle.macro_expand.specs.Sets.{names_in}
 use Rattle.macro_expand.specs.Placing.{placed}
 
-pub placed-hidden : (t : Token) (hidden : Names) (m : Marked) (all : List (List ℕ)) →
+pub placed-hidden : (line : ℕ) (hidden : Names) (m : Marked) (all : List (List ℕ)) →
     ((n : List ℕ) → names_in all n ≡ (m.hidden n || hidden n)) →
-    (let r : Marked = record { token = record m.token { line = t.line }; hidden = names_in all } in r) ≡ placed t hidden m
-placed-hidden t hidden m all same = ap (λ (h : Names). let r : Marked = record { token = record m.token { line = t.line }; hidden = h } in r) (fun_ext same)
+    (let r : Marked = record { token = record m.token { line = line }; hidden = names_in all } in r) ≡ placed line hidden m
+placed-hidden line hidden m all same = ap (λ (h : Names). let r : Marked = record { token = record m.token { line = line }; hidden = h } in r) (fun_ext same)
 
 -- A loop over a list in place: what was placed so far, and what is left, which is as it was.
 module _ {A B : Type 0} (see : A → B) (place : B → B) (xs ys : List A) (i : ℕ) where

@@ -1,11 +1,11 @@
--- What a complete run is, by rules; each is the run of its own list, and more definitions never take its end away.
-use Rattle.std.proofs.Common.{◌≡◌, ℕ, zero, suc, List, [], ◌∷◌, ◌++◌, map, refl, ap, sym, ◌∙◌, subst, Option, Some, None, arith, inl, inr, ◌⊎◌}
+-- What a complete run is, by rules; each is the run of its own list.
+use Rattle.std.proofs.Common.{◌≡◌, ℕ, zero, suc, List, [], ◌∷◌, ◌++◌, map, ap, sym, ◌∙◌, subst, Option, Some, None, arith, inl, inr, ◌⊎◌}
 use Rattle.std.specs.List.{flat_map, Contains}
 use Rattle.std.proofs.lemmas.List.Elements.{Contains-append_cases}
 use Rattle.macro_defs.specs.MacroDefinition.{MacroDefinition}
 use Rattle.macro_expand.specs.Asking.{Asking, give, fail, ask_definition, ask_file, ask_line}
-use Rattle.macro_expand.specs.Choice.{Sets, IsPart, Choice, Gave, Failed, Presumed, Run, after_choice, ended, runs_of, complete_runs, Started, run_by}
-use Rattle.macro_expand.proofs.ChoiceLaws.{IsAllowed, contains_first, contains_later, contains_map, contains_flat_map, allowed_choice}
+use Rattle.macro_expand.specs.Choice.{Sets, Choice, Gave, Failed, Presumed, Run, after_choice, ended, runs_of, complete_runs, Started, run_by}
+use Rattle.macro_expand.proofs.ChoiceLaws.{IsAllowed, contains_first, contains_later}
 
 pub contains_map_from : {A B : Type 0} (f : A → B) (xs : List A) (y : B) → Contains (map f xs) y → (x : A) × (Contains xs x) × (f x ≡ y)
 contains_map_from f [] y (k, below, is) = absurd (omega arith)
@@ -68,27 +68,6 @@ complete_runs-are sets None (ask_file next) r k = contains_one _ r k
 complete_runs-are sets (Some name) (ask_file next) r k = complete_runs-are sets (Some name) (next name) r k
 complete_runs-are sets file (ask_line line next) r k = contains_one _ r k
 
-runs_of-all : {A : Type 0} (f : Choice → List (Run A)) (P : Choice → Run A → Type 0) (ds : List MacroDefinition) (r : Run A) →
-    ((c : Choice) (s : Run A) → P c s → Contains (f c) s) → IsRunOf P ds r → Contains (runs_of f ds) r
-runs_of-all f P [] r h k = h None r k
-runs_of-all f P (d ∷ ds) r h (c, s, allowed, run, is) =
-    subst (Contains (runs_of f (d ∷ ds))) is
-    (contains_flat_map (λ c. map (after_choice c) (f c)) (None ∷ map Some (d ∷ ds)) c (after_choice c s) (allowed_choice d ds c allowed)
-    (contains_map (after_choice c) (f c) s (h c s run)))
-
--- and it has all of them
-pub complete_runs-all : {A : Type 0} (sets : Sets) (file : Option (List ℕ)) (t : Asking A) (r : Run A) →
-    IsRun sets file t r → Contains (complete_runs sets file t) r
-unfolding complete_runs
-complete_runs-all sets file (give x) r k = (0, omega arith, k)
-complete_runs-all sets file (fail e) r k = (0, omega arith, k)
-complete_runs-all sets file (ask_definition name next) r k =
-    runs_of-all (λ c. complete_runs sets file (next c)) (λ c s. IsRun sets file (next c) s) (sets name) r
-    (λ c s h. complete_runs-all sets file (next c) s h) k
-complete_runs-all sets None (ask_file next) r k = (0, omega arith, k)
-complete_runs-all sets (Some name) (ask_file next) r k = complete_runs-all sets (Some name) (next name) r k
-complete_runs-all sets file (ask_line line next) r k = (0, omega arith, k)
-
 -- a complete run is the run of its own list of choices, which it uses up exactly
 pub complete_run-used : {A : Type 0} (sets : Sets) (file : Option (List ℕ)) (t : Asking A) (r : Run A) (more : List Choice) →
     IsRun sets file t r → run_by sets file (r.choices ++ more) t ≡ Some (record { ending = r.ending; unused = more })
@@ -111,41 +90,3 @@ complete_run-used {A = A} sets file (ask_definition name next) r more h = go (se
 complete_run-used sets None (ask_file next) r more h = ap (λ (s : Run _). run_by sets None (s.choices ++ more) (ask_file next)) (sym h) ∙ ap (λ (s : Run _). Some (record { ending = s.ending; unused = more })) h
 complete_run-used sets (Some name) (ask_file next) r more h = complete_run-used sets (Some name) (next name) r more h
 complete_run-used sets file (ask_line line next) r more h = ap (λ (s : Run _). run_by sets file (s.choices ++ more) (ask_line line next)) (sym h) ∙ ap (λ (s : Run _). Some (record { ending = s.ending; unused = more })) h
-
--- more definitions never take a run's end away
-more_definitions : {A : Type 0} (sets other : Sets) → ((n : List ℕ) (d : MacroDefinition) → Contains (sets n) d → Contains (other n) d) →
-    (file : Option (List ℕ)) (t : Asking A) (r : Run A) → IsRun sets file t r → (s : Run A) × (IsRun other file t s) × (s.ending ≡ r.ending)
-more_definitions sets other within file (give x) r h = (r, h, refl)
-more_definitions sets other within file (fail e) r h = (r, h, refl)
-more_definitions sets other within file (ask_definition name next) r h =
-    go (sets name) (other name) (within name) h (λ c s. more_definitions sets other within file (next c) s)
-  where
-    put : (es : List MacroDefinition) (c : Choice) (s : Run _) → IsAllowed es c → IsRun other file (next c) s →
-        (q : Run _) × (IsRunOf (λ c s. IsRun other file (next c) s) es q) × (q.ending ≡ s.ending)
-    put [] None s a h = (s, h, refl)
-    put [] (Some d) s (k, below, is) h = absurd (omega arith)
-    put (e ∷ es) c s a h = (after_choice c s, (c, s, a, h, refl), refl)
-
-    wider : (ds es : List MacroDefinition) (c : Choice) → ((d : MacroDefinition) → Contains ds d → Contains es d) → IsAllowed ds c → IsAllowed es c
-    wider ds es None w a = tt
-    wider ds es (Some d) w a = w d a
-
-    go : (ds es : List MacroDefinition) → ((d : MacroDefinition) → Contains ds d → Contains es d) →
-        IsRunOf (λ c s. IsRun sets file (next c) s) ds r →
-        ((c : Choice) (s : Run _) → IsRun sets file (next c) s → (q : Run _) × (IsRun other file (next c) q) × (q.ending ≡ s.ending)) →
-        (q : Run _) × (IsRunOf (λ c s. IsRun other file (next c) s) es q) × (q.ending ≡ r.ending)
-    go [] es w h ih = let q = ih None r h in let p = put es None q.0 tt q.1 in (p.0, p.1, p.2 ∙ q.2)
-    go (d ∷ ds) es w (c, s, allowed, run, is) ih =
-        let q = ih c s run in
-        let p = put es c q.0 (wider (d ∷ ds) es c w allowed) q.1 in
-        (p.0, p.1, p.2 ∙ q.2 ∙ ap (λ (w : Run _). w.ending) is)
-more_definitions sets other within None (ask_file next) r h = (r, h, refl)
-more_definitions sets other within (Some name) (ask_file next) r h = more_definitions sets other within (Some name) (next name) r h
-more_definitions sets other within file (ask_line line next) r h = (r, h, refl)
-
--- the same of the enumerations
-pub more_runs : {A : Type 0} (sets other : Sets) (file : Option (List ℕ)) (t : Asking A) (r : Run A) → IsPart sets other →
-    Contains (complete_runs sets file t) r → (s : Run A) × (Contains (complete_runs other file t) s) × (s.ending ≡ r.ending)
-more_runs sets other file t r part k =
-    let m = more_definitions sets other part file t r (complete_runs-are sets file t r k) in
-    (m.0, complete_runs-all other file t m.0 m.1, m.2)

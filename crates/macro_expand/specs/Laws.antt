@@ -1,5 +1,5 @@
 -- The laws of macro expansion (6.10.3), and of its runs under sets of definitions.
-use Rattle.std.specs.Prelude.{◌≡◌, ℕ, suc, ◌+◌, ◌<◌, ◌≤◌, ◌⊎◌, ◌↔◌, Bool, true, false, List, [], ◌∷◌, ◌++◌, length, Option, Some, None, Result, Ok, Err, Contains, pos, ◌+ℤ◌}
+use Rattle.std.specs.Prelude.{◌≡◌, ℕ, suc, ◌+◌, ◌<◌, ◌≤◌, ◌⊎◌, Bool, true, false, List, [], ◌∷◌, ◌++◌, length, Option, Some, None, Result, Ok, Err, Contains, pos, ◌+ℤ◌}
 use Rattle.std.specs.Fmt.{signed_decimal}
 use Rattle.pp_tokens.specs.declared.Token.{Token}
 use Rattle.pp_tokens.specs.declared.Kind.TheVariants.{Str, Number}
@@ -10,7 +10,7 @@ use Rattle.macro_expand.specs.declared.marked.Role.TheVariants.{Defined, FileNam
 use Rattle.macro_expand.specs.Asking.{Failure, Count, Unclosed, Deep, Work, Asking, give, fail, ask_definition, ask_file, ask_line, then_with}
 use Rattle.macro_expand.specs.Replacement.{Marked, Part, Call, call_in, after_open, arguments_of, parts_of, stands_alone}
 use Rattle.macro_expand.specs.Expansion.{DEEPEST, Expanded, ExpandedEach, expansion, expansion_step, role_of, operand_of_defined, replaced_token, object_replacement, call_replacement, variable_of, charged, arguments_expanded, Table, Place, by_table, expanded_by}
-use Rattle.macro_expand.specs.Choice.{Sets, IsDistinct, IsPart, IsWithin, Ending, Gave, Failed, Presumed, Run, complete_runs, taken_run, taken, run_by, computed_runs, MayName, HasManyRuns, HasLongRun, HasPresumedRun, Supports}
+use Rattle.macro_expand.specs.Choice.{Sets, IsWithin, Ending, Gave, Failed, Presumed, complete_runs, taken_run, taken, run_by}
 
 -- Steps.
 
@@ -196,62 +196,3 @@ pub record ChoiceFact (sets : Sets) (file : Option (List ℕ)) (table : Table) (
 abbrev pub ChoiceFactHolds : Type 0
 ChoiceFactHolds = (sets : Sets) (file : Option (List ℕ)) (table : Table) (here : Place) (mode : Mode) (units work : ℕ) (ts : List Marked) →
     IsWithin table sets → Knows file here → ChoiceFact sets file table here mode units work ts
-
--- More definitions.
-
--- more definitions never take the end of a run away
-abbrev pub MoreKeepRuns : Type 0
-MoreKeepRuns = (sets other : Sets) (file : Option (List ℕ)) (ts : List Token) (r : Run Expanded) → IsPart sets other →
-    Contains (computed_runs sets file ts) r →
-    (s : Run Expanded) × (Contains (computed_runs other file ts) s) × (s.ending ≡ r.ending)
-
--- nor a header, however headers are read
-abbrev pub MoreKeepHeaders : Type 0 → Type 0
-MoreKeepHeaders H = (reading : List Token → Option H) (sets other : Sets) (file : Option (List ℕ)) (ts : List Token) (h : H) → IsPart sets other →
-    MayName reading sets file ts h → MayName reading other file ts h
-
--- nor a reason for which computed tokens aren't analysed
-abbrev pub MoreKeepLongRuns : Type 0
-MoreKeepLongRuns = (sets other : Sets) (file : Option (List ℕ)) (ts : List Token) → IsPart sets other →
-    HasLongRun sets file ts → HasLongRun other file ts
-
-abbrev pub MoreKeepPresumedRuns : Type 0
-MoreKeepPresumedRuns = (sets other : Sets) (file : Option (List ℕ)) (ts : List Token) → IsPart sets other →
-    HasPresumedRun sets file ts → HasPresumedRun other file ts
-
-abbrev pub MoreKeepManyRuns : Type 0
-MoreKeepManyRuns = (budget : ℕ) (sets other : Sets) (file : Option (List ℕ)) (ts : List Token) → IsDistinct sets → IsPart sets other →
-    HasManyRuns budget sets file ts → HasManyRuns budget other file ts
-
--- nor do they make fewer runs, where each definition stands once
-abbrev pub MoreMakeNoFewer : Type 0
-MoreMakeNoFewer = (sets other : Sets) (file : Option (List ℕ)) (ts : List Token) → IsDistinct sets → IsPart sets other →
-    length (computed_runs sets file ts) ≤ length (computed_runs other file ts)
-
--- nor a name that the answer rests on
-abbrev pub MoreKeepSupport : Type 0
-MoreKeepSupport = (sets other : Sets) (file : Option (List ℕ)) (ts : List Token) (name : List ℕ) → IsPart sets other →
-    Supports sets file ts name → Supports other file ts name
-
--- Supports.
-
--- the same definitions, in whatever order
-abbrev pub SameMembers : List MacroDefinition → List MacroDefinition → Type 0
-SameMembers ds es = (d : MacroDefinition) → Contains ds d ↔ Contains es d
-
--- two sets that give each name that the answer rests on the same definitions
-abbrev pub AgreeOnSupport : Sets → Sets → Option (List ℕ) → List Token → Type 0
-AgreeOnSupport sets other file ts = (name : List ℕ) → Supports sets file ts name → SameMembers (sets name) (other name)
-
--- the answers on computed tokens are the same under two sets: headers, however they are read, support, and reasons for none
-pub record SameAnswers (H : Type 0) (sets other : Sets) (file : Option (List ℕ)) (ts : List Token) : Type 0 where
-  pub headers : (reading : List Token → Option H) (h : H) → MayName reading sets file ts h ↔ MayName reading other file ts h
-  pub support : (name : List ℕ) → Supports sets file ts name ↔ Supports other file ts name
-  pub many : (budget : ℕ) → HasManyRuns budget sets file ts ↔ HasManyRuns budget other file ts
-  pub long : HasLongRun sets file ts ↔ HasLongRun other file ts
-  pub presumed : HasPresumedRun sets file ts ↔ HasPresumedRun other file ts
-
--- the answers rest on the definitions of the names met alone
-abbrev pub SupportDecides : Type 0 → Type 0
-SupportDecides H = (sets other : Sets) (file : Option (List ℕ)) (ts : List Token) → IsDistinct sets → IsDistinct other →
-    AgreeOnSupport sets other file ts → SameAnswers H sets other file ts

@@ -7,14 +7,15 @@
 --     Expansion       expansion of a list of tokens, as a tree of questions, and the result where a table answers
 --     Answered        expansion where an answerer with a state answers
 --     Choice          expansion under sets of definitions, by every choice among them
---     Enumeration     those runs one after the other, by lists of numbers
 --     Sets            sets of names that code keeps as lists
 --     Tries           hide sets as tries over the bits of their names' hashes
 --     Pasting         how code joins pieces one by one
 --     Reading         how code reads the operand of `defined` and a call, token by token
 --     Seen            what code's values mean
+--     Pending         what a run of text still has
 --     Naming          what code reads of a name
---     Laws            the laws of expansion and of runs
+--     Stream          expansion that gives its tokens one after another
+--     Laws            the laws of expansion, and its runs under sets of definitions
 pub mod Asking
 pub mod Replacement
 pub mod Parts
@@ -23,11 +24,12 @@ pub mod Pieces
 pub mod Expansion
 pub mod Answered
 pub mod Choice
-pub mod Enumeration
 pub mod Sets
 pub mod Tries
 pub mod Pasting
 pub mod Reading
 pub mod Seen
+pub mod Pending
 pub mod Naming
+pub mod Stream
 pub mod Laws

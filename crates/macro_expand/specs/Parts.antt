@@ -2,7 +2,7 @@
 use Rattle.std.specs.Prelude.{◌≡◌, ◌<◌, ℕ, Bool, true, false, ◌||◌, List, length, get_or, Option, Some, None, if◌then◌else◌}
 use Rattle.pp_tokens.specs.declared.Token.{Token}
 use Rattle.pp_tokens.specs.Marks.{Pasting, mark_of, is_hash}
-use Rattle.macro_expand.specs.Replacement.{Part, Plain, Argument, Spelling, Join, argument_named, is_alone}
+use Rattle.macro_expand.specs.Replacement.{Part, Plain, Argument, Spelling, Join, is_alone}
 
 -- a token that is no join, nor a `#` that begins a spelling
 abbrev pub operand_part : Option Bool → Token → Option ℕ → Part
@@ -10,10 +10,10 @@ operand_part hash t None = Plain t
 operand_part (Some space) t (Some i) = Spelling i space
 operand_part None t (Some i) = Argument i t.space
 
--- a token that is no `#` (6.10.3.2, 6.10.3.3); `hash` is the space of one that stands right before
-abbrev pub part_of : Option Bool → List (List ℕ) → Token → Part
-part_of (Some space) names t = operand_part (Some space) t (argument_named names t)
-part_of None names t = elim (mark_of t) [ Pasting ↦ Join | _ ↦ operand_part None t (argument_named names t) ]
+-- a token that is no `#`, by the argument that it names (6.10.3.2, 6.10.3.3); `hash` is the space of one that stands right before
+abbrev pub part_of : Option Bool → Token → Option ℕ → Part
+part_of (Some space) t named = operand_part (Some space) t named
+part_of None t named = elim (mark_of t) [ Pasting ↦ Join | _ ↦ operand_part None t named ]
 
 -- whether a token is a `#` that no other stands right before (6.10.3.2)
 abbrev pub begins_spelling : Option Bool → Token → Bool

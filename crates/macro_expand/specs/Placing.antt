@@ -1,13 +1,12 @@
 -- One token of a replacement as it is put in for a name (6.10.3.4).
 use Rattle.std.specs.Prelude.{◌≡◌, ℕ, ◌||◌, List, Option, Some, None}
-use Rattle.pp_tokens.specs.declared.Token.{Token}
 use Rattle.macro_expand.specs.declared.placing.United.{United}
 use Rattle.macro_expand.specs.Sets.{names_in}
 use Rattle.macro_expand.specs.Replacement.{Marked, Names, all_names}
 
--- a token on the line of the name, with the names that the replacement hides
-abbrev pub placed : Token → Names → Marked → Marked
-placed t hidden m = record { token = record m.token { line = t.line }; hidden = all_names m.hidden hidden }
+-- a token on this line, with the names that the replacement hides
+abbrev pub placed : ℕ → Names → Marked → Marked
+placed line hidden m = record { token = record m.token { line = line }; hidden = all_names m.hidden hidden }
 
 -- a hide set has the names of two others
 abbrev pub IsUnion : List (List ℕ) → List (List ℕ) → List (List ℕ) → Type 0

@@ -1,9 +1,10 @@
 -- Replacement of one macro call (6.10.3.1 to 6.10.3.3).
-use Rattle.std.specs.Prelude.{ℕ, zero, suc, ◌-◌, Bool, true, false, not, ◌&&◌, ◌||◌, List, [], ◌∷◌, ◌++◌, map, length, ◌==◌, if◌then◌else◌, Option, Some, None, Result, Ok, Err, bytes_eq, slice_index_or, position}
+use Rattle.std.specs.Prelude.{ℕ, zero, suc, ◌-◌, Bool, true, false, not, ◌&&◌, ◌||◌, List, [], ◌∷◌, ◌++◌, map, length, ◌==◌, if◌then◌else◌, Option, Some, None, Result, Ok, Err, bytes_eq, slice_index_or}
 use Rattle.pp_tokens.specs.declared.Kind.TheVariants.{Str}
 use Rattle.pp_tokens.specs.declared.Token.{Token}
-use Rattle.pp_tokens.specs.Marks.{is_identifier, is_literal, is_open, is_comma, Opening, Closing, Comma, Hash, Pasting, mark_of}
+use Rattle.pp_tokens.specs.Marks.{is_literal, is_open, is_comma, Opening, Closing, Comma, Hash, Pasting, mark_of}
 use Rattle.pp_tokens.specs.Grammar.{kind_of}
+use Rattle.macro_defs.specs.Arguments.{argument_named}
 use Rattle.macro_expand.specs.Asking.{Failure, Paste}
 
 -- A set of names, by its test of membership.
@@ -100,10 +101,6 @@ pub data Part : Type 0 where
   Argument : ℕ → Bool → Part
   Spelling : ℕ → Bool → Part
   Join : Part
-
--- the argument that a token names
-abbrev pub argument_named : List (List ℕ) → Token → Option ℕ
-argument_named names t = if is_identifier t then position (bytes_eq t.text) names else None
 
 -- what stands for the tokens of a function-like macro's replacement list; `hash` is the space of a `#` that stands right before
 unfoldable pub parts_after : Option Bool → List (List ℕ) → List Token → List Part

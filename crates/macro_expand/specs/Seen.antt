@@ -26,6 +26,13 @@ place_of p = record { name = p.name; shift = p.shift }
 abbrev pub marked_of : Kept → Marked
 marked_of m = record { token = m.token; hidden = names_in m.hidden }
 
+-- a token with no hidden name, as code keeps it
+abbrev pub kept_plain : Token → Kept
+kept_plain t = record { token = t; hidden = [] }
+
+abbrev pub kept_token : Kept → Token
+kept_token m = m.token
+
 -- an error of code reports this result; want of memory reports nothing
 abbrev pub Reports : {A : Type 0} → RunError → Result A Failure → Type 0
 Reports (CountError name line) r = r ≡ Err (Count name line)

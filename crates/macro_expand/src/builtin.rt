@@ -1,7 +1,6 @@
 // `__FILE__` and `__LINE__` (ISO C 6.10.8.1).
 ghost use Rattle.std.specs.Prelude.{◌≡◌, ◌⊎◌, ◌+◌, ◌≤◌, ◌++◌, ◌∷◌, [], map, length, Some, None, IfOk, IfErr, OnOk};
 ghost use Rattle.std.specs.Option.{option_map};
-ghost use Rattle.std.specs.VecDeque.{deque_len};
 ghost use Rattle.macro_expand.specs.declared.marked.Role.TheVariants.{FileName, LineNumber};
 ghost use Rattle.macro_expand.specs.Expansion.{role_of, replaced_token, in_quotes};
 ghost use Rattle.macro_expand.specs.Answered.{expanded_for};
@@ -11,59 +10,59 @@ use crate::answers::Answers;
 use crate::expansion::{charge, put};
 use crate::marked::Marked;
 use crate::outcome::{Mode, RunError, Work};
+use crate::pending::Pending;
 use base_types::Bytes;
-use pp_tokens::Kind;
+use pp_tokens::{Kind, Token, TokenCow};
 use std::alloc::{AllocError, Global};
-use std::collections::VecDeque;
 
 // One step: `__FILE__`, replaced by the presumed name (6.10.8.1).
-pub(crate) fn expand_file_name<S, A: Answers<S>>(
+pub(crate) fn expand_file_name<'s, S, A: Answers<S>>(
     alloc: Global,
     source: &S,
     answers: &mut A,
     mode: Mode,
     depth: u32,
-    t: Marked,
-    out: &mut Vec<Marked>,
-    pending: &mut VecDeque<Marked>,
+    t: Marked<'s>,
+    out: &mut Vec<Marked<'s>>,
+    pending: &mut Pending<'s>,
     work: &mut Work,
 ) -> Result<(), RunError>
-    requires role { role_of mode (marked_of t) (map marked_of pending.old.items) ≡ FileName }
-    ensures ok { OnOk result (GoesOn (A.answerer source.now) mode depth answers.old work.old.left out.old.items t pending.old.items
-        answers.new work.new.left out.new.items pending.new.items) }
+    requires role { role_of mode (marked_of t) (map marked_of pending.old) ≡ FileName }
+    ensures ok { OnOk result (GoesOn (A.answerer source.now) mode depth answers.old work.old.left out.old.items t.entry pending.old
+        answers.new work.new.left out.new.items pending.new) }
     ensures spends { work.new.left ≤ work.old.left }
-    ensures shorter { OnOk result (work.new.left + deque_len pending.new ≤ work.old.left + deque_len pending.old) }
-    ensures grows { OnOk result (length out.new.items + deque_len pending.new + work.new.left ≤ length out.old.items + deque_len pending.old + 1 + work.old.left) }
+    ensures shorter { OnOk result (work.new.left + length pending.new ≤ work.old.left + length pending.old) }
+    ensures grows { OnOk result (length out.new.items + length pending.new + work.new.left ≤ length out.old.items + length pending.old + 1 + work.old.left) }
     ensures err { IfErr result (λ e. Stops e answers.new (expanded_for (A.answerer source.now) answers.old mode depth work.old.left
-        (marked_of t ∷ map marked_of pending.old.items))) }
+        (marked_of t.entry ∷ map marked_of pending.old))) }
 {
     let text = file_name_text(alloc, source, answers)?;
-    put_in_place(out, work, t, Kind::Str, text)
+    put_in_place(alloc, out, work, t, Kind::Str, text)
 }
 
 // One step: `__LINE__`, replaced by the presumed line (6.10.8.1).
-pub(crate) fn expand_line_number<S, A: Answers<S>>(
+pub(crate) fn expand_line_number<'s, S, A: Answers<S>>(
     alloc: Global,
     source: &S,
     answers: &mut A,
     mode: Mode,
     depth: u32,
-    t: Marked,
-    out: &mut Vec<Marked>,
-    pending: &mut VecDeque<Marked>,
+    t: Marked<'s>,
+    out: &mut Vec<Marked<'s>>,
+    pending: &mut Pending<'s>,
     work: &mut Work,
 ) -> Result<(), RunError>
-    requires role { role_of mode (marked_of t) (map marked_of pending.old.items) ≡ LineNumber }
-    ensures ok { OnOk result (GoesOn (A.answerer source.now) mode depth answers.old work.old.left out.old.items t pending.old.items
-        answers.new work.new.left out.new.items pending.new.items) }
+    requires role { role_of mode (marked_of t) (map marked_of pending.old) ≡ LineNumber }
+    ensures ok { OnOk result (GoesOn (A.answerer source.now) mode depth answers.old work.old.left out.old.items t.entry pending.old
+        answers.new work.new.left out.new.items pending.new) }
     ensures spends { work.new.left ≤ work.old.left }
-    ensures shorter { OnOk result (work.new.left + deque_len pending.new ≤ work.old.left + deque_len pending.old) }
-    ensures grows { OnOk result (length out.new.items + deque_len pending.new + work.new.left ≤ length out.old.items + deque_len pending.old + 1 + work.old.left) }
+    ensures shorter { OnOk result (work.new.left + length pending.new ≤ work.old.left + length pending.old) }
+    ensures grows { OnOk result (length out.new.items + length pending.new + work.new.left ≤ length out.old.items + length pending.old + 1 + work.old.left) }
     ensures err { IfErr result (λ e. Stops e answers.new (expanded_for (A.answerer source.now) answers.old mode depth work.old.left
-        (marked_of t ∷ map marked_of pending.old.items))) }
+        (marked_of t.entry ∷ map marked_of pending.old))) }
 {
-    let text = line_number_text(alloc, source, answers, t.token.line)?;
-    put_in_place(out, work, t, Kind::Number, text)
+    let text = line_number_text(alloc, source, answers, t.token.line())?;
+    put_in_place(alloc, out, work, t, Kind::Number, text)
 }
 
 // What `__FILE__` stands for: the presumed name between quotes.
@@ -102,30 +101,44 @@ fn line_number_text<S, A: Answers<S>>(
 }
 
 // Puts out a token with this text in the place of another, where the work for it can be paid.
-fn put_in_place(
-    out: &mut Vec<Marked>,
+fn put_in_place<'s>(
+    alloc: Global,
+    out: &mut Vec<Marked<'s>>,
     work: &mut Work,
-    t: Marked,
+    t: Marked<'s>,
     kind: Kind,
     text: Bytes,
 ) -> Result<(), RunError>
-    ensures ok { OnOk result (map marked_of out.new.items ≡ map marked_of out.old.items ++ replaced_token (marked_of t) kind text ∷ []) }
+    ensures ok { OnOk result (map marked_of out.new.items ≡ map marked_of out.old.items ++ replaced_token (marked_of t.entry) kind text ∷ []) }
     ensures paid { OnOk result (work.new.left + 2 ≡ work.old.left) }
     ensures spends { work.new.left ≤ work.old.left }
     ensures longer { OnOk result (length out.new.items ≡ length out.old.items + 1) }
     ensures err { IfErr result (λ e. (e ≡ RunError.Memory) ⊎ ((e ≡ RunError.Work) × (work.old.left ≤ 1))) }
 {
     charge(work, 1)?;
-    put(out, in_place_of(t, kind, text))
+    put(out, in_place_of(alloc, t, kind, text)?)
 }
 
 // A token in the place of another: its line, its space and its hide set.
-fn in_place_of(mut t: Marked, kind: Kind, text: Bytes) -> Marked
-    ensures { marked_of result ≡ replaced_token (marked_of t) kind text }
+fn in_place_of<'s>(
+    alloc: Global,
+    t: Marked<'s>,
+    kind: Kind,
+    text: Bytes,
+) -> Result<Marked<'s>, AllocError>
+    ensures { IfOk result (λ m. marked_of m ≡ replaced_token (marked_of t.entry) kind text) }
 {
-    t.token.kind = kind;
-    t.token.text = text;
-    t
+    let Marked { token, hidden } = t;
+    let token = TokenCow::owned(
+        alloc,
+        Token {
+            kind,
+            text,
+            line: token.line(),
+            space: token.space(),
+        },
+    )?;
+    Ok(Marked { token, hidden })
 }
 
 // The text between quotes.

@@ -11,32 +11,33 @@ ghost use Rattle.macro_expand.specs.Seen.{marked_of, lists_of, part_seen, parts_
 
 use crate::marked::Marked;
 use crate::outcome::RunError;
+use crate::pending::Pending;
 use crate::replace::Part;
 use base_types::Bytes;
-use pp_tokens::Token;
+use pp_tokens::TokenCow;
 use std::alloc::{AllocError, Global};
 use std::collections::VecDeque;
 use std::mem::replace;
 
 // The arguments of a call, as written, and its `)`.
 #[derive(Drop)]
-pub(crate) struct ReadCall {
-    pub(crate) written: Vec<Vec<Marked>>,
-    pub(crate) close: Marked,
+pub(crate) struct ReadCall<'a> {
+    pub(crate) written: Vec<Vec<Marked<'a>>>,
+    pub(crate) close: Marked<'a>,
 }
 
 // The call that the pending tokens begin after their `(`, with its arguments.
-pub(crate) fn read_call(
+pub(crate) fn read_call<'a>(
     alloc: Global,
     t: &Marked,
     params: &[Bytes],
     variadic: bool,
-    pending: &mut VecDeque<Marked>,
-) -> Result<ReadCall, RunError>
-    ensures ok { IfOk result (λ r. ReadsCall (length params.now) variadic (map marked_of pending.old.items)
-        (lists_of r.written.items) (marked_of r.close) (map marked_of pending.new.items)) }
-    ensures shorter { deque_len pending.new ≤ deque_len pending.old }
-    ensures err { IfErr result (λ e. RefusesCall e t.now (length params.now) variadic (map marked_of pending.old.items)) }
+    pending: &mut Pending<'a>,
+) -> Result<ReadCall<'a>, RunError>
+    ensures ok { IfOk result (λ r. ReadsCall (length params.now) variadic (map marked_of pending.old)
+        (lists_of r.written.items) (marked_of r.close) (map marked_of pending.new)) }
+    ensures shorter { length pending.new ≤ length pending.old }
+    ensures err { IfErr result (λ e. RefusesCall e t.now (length params.now) variadic (map marked_of pending.old)) }
 {
     match read_within(alloc, pending)? {
         Some(within) => with_arguments(alloc, t, params.len(), variadic, within),
@@ -45,17 +46,17 @@ pub(crate) fn read_call(
 }
 
 // A call of a macro with `count` parameters, cut into its arguments.
-fn with_arguments(
+fn with_arguments<'a>(
     alloc: Global,
     t: &Marked,
     count: usize,
     variadic: bool,
-    within: Within,
-) -> Result<ReadCall, RunError>
-    ensures ok { IfOk result (λ r. arguments_of count variadic (map marked_of within.tokens.items) ≡ Some (lists_of r.written.items)) }
-    ensures close { IfOk result (λ r. r.close ≡ within.close) }
+    within: Within<'a>,
+) -> Result<ReadCall<'a>, RunError>
+    ensures ok { IfOk result (λ r. arguments_of count variadic (map marked_of within.entry.tokens.items) ≡ Some (lists_of r.written.items)) }
+    ensures close { IfOk result (λ r. r.close ≡ within.entry.close) }
     ensures err { IfErr result (λ e. (e ≡ RunError.Memory) ⊎ ((e ≡ RunError.Count t.now.token.text t.now.token.line)
-        × (arguments_of count variadic (map marked_of within.tokens.items) ≡ None))) }
+        × (arguments_of count variadic (map marked_of within.entry.tokens.items) ≡ None))) }
 {
     let Within { tokens, close } = within;
     match arguments(alloc, count, variadic, tokens)? {
@@ -83,17 +84,20 @@ fn take_written(parts: &[Part]) -> bool
 }
 
 // A copy of the tokens.
-fn copied(alloc: Global, ts: &[Marked]) -> Result<Vec<Marked>, AllocError>
+fn copied<'a>(alloc: Global, ts: &[Marked<'a>]) -> Result<Vec<Marked<'a>>, AllocError>
     ensures { IfOk result (λ copy. copy.items ≡ ts.now) }
 {
     let mut copy = Vec::with_capacity(alloc, ts.len())?;
     for t in ts {
-        copy.push(t.copy(alloc)?)?;
+        copy.push(t.copy()?)?;
     }
     Ok(copy)
 }
 
-fn each_copied(alloc: Global, lists: &[Vec<Marked>]) -> Result<Vec<Vec<Marked>>, AllocError>
+fn each_copied<'a>(
+    alloc: Global,
+    lists: &[Vec<Marked<'a>>],
+) -> Result<Vec<Vec<Marked<'a>>>, AllocError>
     ensures { IfOk result (λ copies. lists_of copies.items ≡ lists_of lists.now) }
 {
     let mut copies = Vec::new(alloc);
@@ -105,14 +109,14 @@ fn each_copied(alloc: Global, lists: &[Vec<Marked>]) -> Result<Vec<Vec<Marked>>,
 
 // The arguments of a call, to be expanded, and the call with what its replacement needs of them as written: nothing where
 // there is no `#` and no `##`, so that they are moved.
-pub(crate) fn with_kept(
+pub(crate) fn with_kept<'a>(
     alloc: Global,
     parts: &[Part],
-    call: ReadCall,
-) -> Result<(Vec<Vec<Marked>>, ReadCall), AllocError>
-    ensures written { IfOk result (λ r. lists_of r.0.items ≡ lists_of call.written.items) }
-    ensures close { IfOk result (λ r. r.1.close ≡ call.close) }
-    ensures kept { IfOk result (λ r. KeepsWritten (parts_seen parts.now) (lists_of call.written.items) (lists_of r.1.written.items)) }
+    call: ReadCall<'a>,
+) -> Result<(Vec<Vec<Marked<'a>>>, ReadCall<'a>), AllocError>
+    ensures written { IfOk result (λ r. lists_of r.0.items ≡ lists_of call.entry.written.items) }
+    ensures close { IfOk result (λ r. r.1.close ≡ call.entry.close) }
+    ensures kept { IfOk result (λ r. KeepsWritten (parts_seen parts.now) (lists_of call.entry.written.items) (lists_of r.1.written.items)) }
 {
     let ReadCall { written, close } = call;
     let kept = if take_written(parts) {
@@ -132,10 +136,10 @@ pub(crate) fn with_kept(
 fn unclosed(alloc: Global, t: &Marked) -> RunError
     ensures { (result ≡ RunError.Memory) ⊎ (result ≡ RunError.Unclosed t.now.token.text t.now.token.line) }
 {
-    match Bytes::copy_of(alloc, t.token.text.as_slice()) {
+    match Bytes::copy_of(alloc, t.token.text()) {
         Ok(name) => RunError::Unclosed {
             name,
-            line: t.token.line,
+            line: t.token.line(),
         },
         Err(_) => RunError::Memory,
     }
@@ -144,10 +148,10 @@ fn unclosed(alloc: Global, t: &Marked) -> RunError
 fn miscounted(alloc: Global, t: &Marked) -> RunError
     ensures { (result ≡ RunError.Memory) ⊎ (result ≡ RunError.Count t.now.token.text t.now.token.line) }
 {
-    match Bytes::copy_of(alloc, t.token.text.as_slice()) {
+    match Bytes::copy_of(alloc, t.token.text()) {
         Ok(name) => RunError::Count {
             name,
-            line: t.token.line,
+            line: t.token.line(),
         },
         Err(_) => RunError::Memory,
     }
@@ -155,19 +159,22 @@ fn miscounted(alloc: Global, t: &Marked) -> RunError
 
 // What stands between the parentheses of a call, and its `)`.
 #[derive(Drop)]
-struct Within {
-    tokens: VecDeque<Marked>,
-    close: Marked,
+struct Within<'a> {
+    tokens: VecDeque<Marked<'a>>,
+    close: Marked<'a>,
 }
 
 // What stands before the `)` that matches the `(` before the pending tokens; none where it is missing.
-fn read_within(alloc: Global, pending: &mut VecDeque<Marked>) -> Result<Option<Within>, AllocError>
-    ensures ok { IfOk result (λ w. call_in 0 (map marked_of pending.old.items) ≡ call_read w (map marked_of pending.new.items)) }
-    ensures shorter { deque_len pending.new ≤ deque_len pending.old }
+fn read_within<'a>(
+    alloc: Global,
+    pending: &mut Pending<'a>,
+) -> Result<Option<Within<'a>>, AllocError>
+    ensures ok { IfOk result (λ w. call_in 0 (map marked_of pending.old) ≡ call_read w (map marked_of pending.new)) }
+    ensures shorter { length pending.new ≤ length pending.old }
 {
     let mut tokens = VecDeque::new(alloc);
     let mut nesting = 0;
-    while let Some(t) = pending.pop_front() {
+    while let Some(t) = pending.pop() {
         if ends_call(nesting, &t.token) {
             return Ok(Some(Within { tokens, close: t }));
         }
@@ -178,14 +185,14 @@ fn read_within(alloc: Global, pending: &mut VecDeque<Marked>) -> Result<Option<W
 }
 
 // Whether a token is the `)` that ends the call.
-fn ends_call(nesting: usize, t: &Token) -> bool
+fn ends_call(nesting: usize, t: &TokenCow) -> bool
     ensures { result ≡ reading.ends_call nesting t.now }
 {
     nesting == 0 && t.is_mark(b")".as_slice())
 }
 
 // How many parentheses deep the tokens stand that follow this one.
-fn nesting_after(nesting: usize, t: &Token) -> usize
+fn nesting_after(nesting: usize, t: &TokenCow) -> usize
     requires { nesting < 2 ^ 63 }
     ensures value { result ≡ reading.nesting_after nesting t.now }
     ensures deep { result ≤ nesting + 1 }
@@ -200,13 +207,13 @@ fn nesting_after(nesting: usize, t: &Token) -> usize
 }
 
 // The arguments of a macro with `count` parameters, the variable one last; none where their number is wrong.
-fn arguments(
+fn arguments<'a>(
     alloc: Global,
     count: usize,
     variadic: bool,
-    within: VecDeque<Marked>,
-) -> Result<Option<Vec<Vec<Marked>>>, AllocError>
-    ensures { IfOk result (λ o. arguments_seen o ≡ arguments_of count variadic (map marked_of within.items)) }
+    within: VecDeque<Marked<'a>>,
+) -> Result<Option<Vec<Vec<Marked<'a>>>>, AllocError>
+    ensures { IfOk result (λ o. arguments_seen o ≡ arguments_of count variadic (map marked_of within.entry.items)) }
 {
     if variadic {
         return variable_arguments(alloc, count, within);
@@ -219,12 +226,12 @@ fn arguments(
 
 // The arguments where the last is all that follows the others, or is left out.
 #[tactic(auto, unfolding(crate::specs::Replacement::arguments_of))]
-fn variable_arguments(
+fn variable_arguments<'a>(
     alloc: Global,
     count: usize,
-    within: VecDeque<Marked>,
-) -> Result<Option<Vec<Vec<Marked>>>, AllocError>
-    ensures { IfOk result (λ o. arguments_seen o ≡ arguments_of count true (map marked_of within.items)) }
+    within: VecDeque<Marked<'a>>,
+) -> Result<Option<Vec<Vec<Marked<'a>>>>, AllocError>
+    ensures { IfOk result (λ o. arguments_seen o ≡ arguments_of count true (map marked_of within.entry.items)) }
 {
     let mut pieces = cut_at_commas(alloc, count.saturating_sub(1), within)?;
     if pieces.len() == count {
@@ -239,11 +246,11 @@ fn variable_arguments(
 
 // No arguments, where nothing stands within.
 #[tactic(auto, unfolding(crate::specs::Replacement::arguments_of))]
-fn no_arguments(
+fn no_arguments<'a>(
     alloc: Global,
-    within: VecDeque<Marked>,
-) -> Result<Option<Vec<Vec<Marked>>>, AllocError>
-    ensures { IfOk result (λ o. arguments_seen o ≡ arguments_of 0 false (map marked_of within.items)) }
+    within: VecDeque<Marked<'a>>,
+) -> Result<Option<Vec<Vec<Marked<'a>>>>, AllocError>
+    ensures { IfOk result (λ o. arguments_seen o ≡ arguments_of 0 false (map marked_of within.entry.items)) }
 {
     if within.is_empty() {
         return Ok(Some(Vec::new(alloc)));
@@ -252,13 +259,13 @@ fn no_arguments(
 }
 
 // The arguments between all commas.
-fn counted_arguments(
+fn counted_arguments<'a>(
     alloc: Global,
     count: usize,
-    within: VecDeque<Marked>,
-) -> Result<Option<Vec<Vec<Marked>>>, AllocError>
+    within: VecDeque<Marked<'a>>,
+) -> Result<Option<Vec<Vec<Marked<'a>>>>, AllocError>
     requires { 0 < count }
-    ensures { IfOk result (λ o. arguments_seen o ≡ arguments_of count false (map marked_of within.items)) }
+    ensures { IfOk result (λ o. arguments_seen o ≡ arguments_of count false (map marked_of within.entry.items)) }
 {
     let pieces = cut_at_commas(alloc, within.len(), within)?;
     if pieces.len() == count {
@@ -269,18 +276,18 @@ fn counted_arguments(
 
 // Tokens that are being cut: the pieces that are whole, the piece that grows, and how many cuts are still to be made.
 #[derive(Drop)]
-struct Cutting {
-    pieces: Vec<Vec<Marked>>,
-    piece: Vec<Marked>,
+struct Cutting<'a> {
+    pieces: Vec<Vec<Marked<'a>>>,
+    piece: Vec<Marked<'a>>,
     cuts: usize,
     nesting: usize,
 }
 
-impl Cutting {
+impl<'a> Cutting<'a> {
     // Ends the piece at a comma, or puts the token into it.
-    fn take(&mut self, alloc: Global, t: Marked) -> Result<(), AllocError>
+    fn take(&mut self, alloc: Global, t: Marked<'a>) -> Result<(), AllocError>
         requires { self.old.nesting < 2 ^ 63 }
-        ensures ok { OnOk result ((ts : List MarkedToken) → cut_from self.old (marked_of t ∷ ts) ≡ cut_from self.new ts) }
+        ensures ok { OnOk result ((ts : List MarkedToken) → cut_from self.old (marked_of t.entry ∷ ts) ≡ cut_from self.new ts) }
         ensures deep { self.new.nesting ≤ self.old.nesting + 1 }
     {
         if is_cut(self.cuts, self.nesting, &t.token) {
@@ -307,19 +314,19 @@ impl Cutting {
 }
 
 // Whether a token is a comma to cut at.
-fn is_cut(cuts: usize, nesting: usize, t: &Token) -> bool
+fn is_cut(cuts: usize, nesting: usize, t: &TokenCow) -> bool
     ensures { result ≡ reading.is_cut cuts nesting t.now }
 {
     cuts > 0 && nesting == 0 && t.is_mark(b",".as_slice())
 }
 
 // The tokens cut at the first `cuts` commas that stand outside parentheses.
-fn cut_at_commas(
+fn cut_at_commas<'a>(
     alloc: Global,
     cuts: usize,
-    mut within: VecDeque<Marked>,
-) -> Result<Vec<Vec<Marked>>, AllocError>
-    ensures { IfOk result (λ pieces. lists_of pieces.items ≡ spec.cut_at_commas cuts 0 (map marked_of within.items)) }
+    mut within: VecDeque<Marked<'a>>,
+) -> Result<Vec<Vec<Marked<'a>>>, AllocError>
+    ensures { IfOk result (λ pieces. lists_of pieces.items ≡ spec.cut_at_commas cuts 0 (map marked_of within.entry.items)) }
 {
     let mut cutting = Cutting {
         pieces: Vec::new(alloc),
@@ -337,22 +344,4 @@ fn cut_at_commas(
     } = cutting;
     pieces.push(piece)?;
     Ok(pieces)
-}
-
-// Takes the `(` that the pending tokens begin with.
-pub(crate) fn take_open(pending: &mut VecDeque<Marked>) -> bool
-    ensures opened { IsTrue result → after_open (map marked_of pending.old.items) ≡ Some (map marked_of pending.new.items) }
-    ensures shorter { deque_len pending.new ≤ deque_len pending.old }
-    ensures not_opened { IsFalse result → (after_open (map marked_of pending.old.items) ≡ None) × (pending.new.items ≡ pending.old.items) }
-{
-    match pending.front() {
-        None => return false,
-        Some(t) => {
-            if !t.token.is_mark(b"(".as_slice()) {
-                return false;
-            }
-        }
-    }
-    pending.pop_front();
-    true
 }

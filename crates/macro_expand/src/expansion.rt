@@ -1,25 +1,23 @@
 // Expansion of a list of tokens (ISO C 6.10.3).
 ghost use Rattle.std.specs.Prelude.{◌≡◌, ◌⊎◌, ◌+◌, ◌<◌, ◌≤◌, ◌++◌, ◌∷◌, [], map, length, Ok, IfOk, IfErr, OnOk};
-ghost use Rattle.std.specs.VecDeque.{deque_len};
-ghost use Rattle.macro_defs.specs.Table.{lookup};
 ghost use Rattle.macro_expand.specs.declared.marked.Role.TheVariants.{Name};
 ghost use Rattle.macro_expand.specs.Replacement.{unmarked};
-ghost use Rattle.macro_expand.specs.Expansion.{role_of, expanded_by};
+ghost use Rattle.macro_expand.specs.Expansion.{role_of};
 ghost use Rattle.macro_expand.specs.Answered.{argument_for, arguments_for, expanded_for};
 ghost use Rattle.macro_expand.specs.Naming.{StandAlone, called_for};
-ghost use Rattle.macro_expand.specs.Seen.{marked_of, parts_seen, lists_of, Gives, GoesOn, Stops, place_of, ReportsResult, public_of, HasTokens};
+ghost use Rattle.macro_expand.specs.Seen.{marked_of, kept_token, parts_seen, lists_of, GoesOn, Stops, public_of, HasTokens};
 
-use crate::answers::{Answers, Presumed, TablePlace};
+use crate::answers::Answers;
 use crate::builtin::{expand_file_name, expand_line_number};
-use crate::hide_set::HideSet;
-use crate::marked::{Marked, Role, copied_token};
+use crate::marked::{Marked, Role};
 use crate::name::{MacroCall, ReadName, read_name};
 use crate::operand::{expand_defined, has_operand};
 use crate::outcome::{ExpandError, Mode, RunError, Work};
+use crate::pending::Pending;
 use crate::replace::call_tokens;
+use crate::run::Run;
 use base_types::List;
-use macro_defs::MacroTable;
-use pp_tokens::{Kind, Token};
+use pp_tokens::Token;
 use std::alloc::{AllocError, Global};
 use std::collections::VecDeque;
 
@@ -27,32 +25,32 @@ use std::collections::VecDeque;
 const DEEPEST: u32 = 400;
 
 #[tactic(auto, unfolding(crate::specs::Expansion::role_of))]
-fn role(mode: Mode, t: &Marked, rest: &VecDeque<Marked>) -> Role
-    ensures { result ≡ role_of mode (marked_of t.now) (map marked_of rest.now.items) }
+pub(crate) fn role(mode: Mode, t: &Marked, rest: &Pending) -> Role
+    ensures { result ≡ role_of mode (marked_of t.now) (map marked_of rest.now) }
 {
-    if !matches!(t.token.kind, Kind::Ident) {
+    if !t.token.is_identifier() {
         return Role::Ordinary;
     }
     if matches!(mode, Mode::Condition)
-        && t.token.text.as_slice() == b"defined".as_slice()
+        && t.token.text() == b"defined".as_slice()
         && has_operand(rest)
     {
         return Role::Defined;
     }
-    if t.hidden.hides(t.token.text.as_slice()) {
+    if t.hidden.hides(t.token.text()) {
         return Role::Ordinary;
     }
-    if t.token.text.as_slice() == b"__FILE__".as_slice() {
+    if t.token.text() == b"__FILE__".as_slice() {
         return Role::FileName;
     }
-    if t.token.text.as_slice() == b"__LINE__".as_slice() {
+    if t.token.text() == b"__LINE__".as_slice() {
         return Role::LineNumber;
     }
     Role::Name
 }
 
-pub(crate) fn put(out: &mut Vec<Marked>, t: Marked) -> Result<(), RunError>
-    ensures ok { OnOk result (out.new.items ≡ out.old.items ++ t ∷ []) }
+pub(crate) fn put<'s>(out: &mut Vec<Marked<'s>>, t: Marked<'s>) -> Result<(), RunError>
+    ensures ok { OnOk result (out.new.items ≡ out.old.items ++ t.entry ∷ []) }
     ensures err { IfErr result (λ e. e ≡ RunError.Memory) }
 {
     match out.push(t) {
@@ -75,45 +73,33 @@ pub(crate) fn charge(work: &mut Work, tokens: usize) -> Result<(), RunError>
     Ok(())
 }
 
-// Puts tokens before those that are pending.
-fn put_back(pending: &mut VecDeque<Marked>, mut made: Vec<Marked>) -> Result<(), RunError>
-    ensures ok { OnOk result (pending.new.items ≡ made.items ++ pending.old.items) }
-    ensures err { IfErr result (λ e. e ≡ RunError.Memory) }
-{
-    while let Some(t) = made.pop() {
-        match pending.push_front(t) {
-            Ok(()) => {}
-            Err(_) => return Err(RunError::Memory),
-        }
-    }
-    Ok(())
-}
-
 // The tokens of a call's argument: expanded by itself where its parameter stands `alone` (6.10.3.1), else none.
 #[cycle(expanding)]
-fn expand_argument<S, A: Answers<S>>(
+fn expand_argument<'s, S, A: Answers<S>>(
     alloc: Global,
-    source: &S,
+    source: &'s S,
     answers: &mut A,
     mode: Mode,
     depth: u32,
     t: &Marked,
     alone: bool,
-    argument: Vec<Marked>,
+    argument: Vec<Marked<'s>>,
     work: &mut Work,
-) -> Result<Vec<Marked>, RunError>
+) -> Result<Vec<Marked<'s>>, RunError>
     requires { depth ≤ 400 }
-    ensures ok { IfOk result (λ out. argument_for (A.answerer source.now) answers.old mode depth t.now.token alone work.old.left (map marked_of argument.items)
+    ensures ok { IfOk result (λ out. argument_for (A.answerer source.now) answers.old mode depth t.now.token alone work.old.left (map marked_of argument.entry.items)
         ≡ record { result = Ok (record { tokens = map marked_of out.items; units = work.new.left }); state = answers.new }) }
     ensures spends { work.new.left ≤ work.old.left }
     ensures err { IfErr result (λ e. Stops e answers.new
-        (argument_for (A.answerer source.now) answers.old mode depth t.now.token alone work.old.left (map marked_of argument.items))) }
+        (argument_for (A.answerer source.now) answers.old mode depth t.now.token alone work.old.left (map marked_of argument.entry.items))) }
 {
     if !alone {
         return Ok(Vec::new(alloc));
     }
     if depth >= DEEPEST {
-        return Err(RunError::Deep { line: t.token.line });
+        return Err(RunError::Deep {
+            line: t.token.line(),
+        });
     }
     let given = VecDeque::from_vec(argument);
     expand_list(alloc, source, answers, mode, depth + 1, given, work)
@@ -121,25 +107,25 @@ fn expand_argument<S, A: Answers<S>>(
 
 // The arguments of a call of `t`, expanded by themselves where their parameters stand alone; for the others no tokens.
 #[cycle(expanding)]
-fn expand_arguments<S, A: Answers<S>>(
+fn expand_arguments<'s, S, A: Answers<S>>(
     alloc: Global,
-    source: &S,
+    source: &'s S,
     answers: &mut A,
     mode: Mode,
     depth: u32,
     t: &Marked,
-    call: &MacroCall,
-    written: Vec<Vec<Marked>>,
+    call: &MacroCall<'s>,
+    written: Vec<Vec<Marked<'s>>>,
     work: &mut Work,
-) -> Result<Vec<Vec<Marked>>, RunError>
+) -> Result<Vec<Vec<Marked<'s>>>, RunError>
     requires shallow { depth ≤ 400 }
     requires alone { StandAlone call.now.alone.items (length written.items) (parts_seen call.now.parts.items) }
     ensures ok { IfOk result (λ out. arguments_for (A.answerer source.now) answers.old mode depth t.now.token
-        (parts_seen call.now.parts.items) 0 work.old.left (lists_of written.items)
+        (parts_seen call.now.parts.items) 0 work.old.left (lists_of written.entry.items)
         ≡ record { result = Ok (record { lists = lists_of out.items; units = work.new.left }); state = answers.new }) }
     ensures spends { work.new.left ≤ work.old.left }
     ensures err { IfErr result (λ e. Stops e answers.new (arguments_for (A.answerer source.now) answers.old mode depth t.now.token
-        (parts_seen call.now.parts.items) 0 work.old.left (lists_of written.items))) }
+        (parts_seen call.now.parts.items) 0 work.old.left (lists_of written.entry.items))) }
 {
     let mut left = VecDeque::from_vec(written);
     let mut out = Vec::new(alloc);
@@ -153,8 +139,8 @@ fn expand_arguments<S, A: Answers<S>>(
     Ok(out)
 }
 
-fn put_list(out: &mut Vec<Vec<Marked>>, ts: Vec<Marked>) -> Result<(), RunError>
-    ensures ok { OnOk result (out.new.items ≡ out.old.items ++ ts ∷ []) }
+fn put_list<'s>(out: &mut Vec<Vec<Marked<'s>>>, ts: Vec<Marked<'s>>) -> Result<(), RunError>
+    ensures ok { OnOk result (out.new.items ≡ out.old.items ++ ts.entry ∷ []) }
     ensures err { IfErr result (λ e. e ≡ RunError.Memory) }
 {
     match out.push(ts) {
@@ -164,43 +150,43 @@ fn put_list(out: &mut Vec<Vec<Marked>>, ts: Vec<Marked>) -> Result<(), RunError>
 }
 
 // Puts in what a name is replaced by, before the tokens that are pending, where the work for it can be paid.
-fn put_in(
-    pending: &mut VecDeque<Marked>,
+fn put_in<'s>(
+    pending: &mut Pending<'s>,
     work: &mut Work,
-    made: Vec<Marked>,
+    made: Vec<Marked<'s>>,
 ) -> Result<(), RunError>
-    ensures ok { OnOk result (pending.new.items ≡ made.items ++ pending.old.items) }
-    ensures paid { OnOk result (work.new.left + length made.items + 1 ≡ work.old.left) }
+    ensures ok { OnOk result (pending.new ≡ made.entry.items ++ pending.old) }
+    ensures paid { OnOk result (work.new.left + length made.entry.items + 1 ≡ work.old.left) }
     ensures spends { work.new.left ≤ work.old.left }
-    ensures shorter { OnOk result (work.new.left + deque_len pending.new ≤ work.old.left + deque_len pending.old) }
-    ensures err { IfErr result (λ e. (e ≡ RunError.Memory) ⊎ ((e ≡ RunError.Work) × (work.old.left ≤ length made.items))) }
+    ensures shorter { OnOk result (work.new.left + length pending.new ≤ work.old.left + length pending.old) }
+    ensures err { IfErr result (λ e. (e ≡ RunError.Memory) ⊎ ((e ≡ RunError.Work) × (work.old.left ≤ length made.entry.items))) }
 {
     charge(work, made.len())?;
-    put_back(pending, made)
+    pending.put_back(made)
 }
 
 // A call of `t`, replaced by what its arguments make.
 #[cycle(expanding)]
-fn expand_call<S, A: Answers<S>>(
+fn expand_call<'s, S, A: Answers<S>>(
     alloc: Global,
-    source: &S,
+    source: &'s S,
     answers: &mut A,
     mode: Mode,
     depth: u32,
     t: &Marked,
-    call: &MacroCall,
-    written: Vec<Vec<Marked>>,
-    pending: &mut VecDeque<Marked>,
+    call: &MacroCall<'s>,
+    written: Vec<Vec<Marked<'s>>>,
+    pending: &mut Pending<'s>,
     work: &mut Work,
 ) -> Result<(), RunError>
     requires shallow { depth ≤ 400 }
     requires alone { StandAlone call.now.alone.items (length written.items) (parts_seen call.now.parts.items) }
-    ensures ok { OnOk result (called_for (A.answerer source.now) answers.old mode depth work.old.left t.now call.now (lists_of written.items) (map marked_of pending.old.items)
-        ≡ expanded_for (A.answerer source.now) answers.new mode depth work.new.left (map marked_of pending.new.items)) }
+    ensures ok { OnOk result (called_for (A.answerer source.now) answers.old mode depth work.old.left t.now call.now (lists_of written.entry.items) (map marked_of pending.old)
+        ≡ expanded_for (A.answerer source.now) answers.new mode depth work.new.left (map marked_of pending.new)) }
     ensures spends { work.new.left ≤ work.old.left }
-    ensures shorter { OnOk result (work.new.left + deque_len pending.new ≤ work.old.left + deque_len pending.old) }
+    ensures shorter { OnOk result (work.new.left + length pending.new ≤ work.old.left + length pending.old) }
     ensures err { IfErr result (λ e. Stops e answers.new
-        (called_for (A.answerer source.now) answers.old mode depth work.old.left t.now call.now (lists_of written.items) (map marked_of pending.old.items))) }
+        (called_for (A.answerer source.now) answers.old mode depth work.old.left t.now call.now (lists_of written.entry.items) (map marked_of pending.old))) }
 {
     let expanded = expand_arguments(alloc, source, answers, mode, depth, t, call, written, work)?;
     let parts = call.parts.as_slice();
@@ -217,26 +203,26 @@ fn expand_call<S, A: Answers<S>>(
 
 // One step: a name that isn't hidden from itself, and what it is replaced by.
 #[cycle(expanding)]
-fn expand_name<S, A: Answers<S>>(
+fn expand_name<'s, S, A: Answers<S>>(
     alloc: Global,
-    source: &S,
+    source: &'s S,
     answers: &mut A,
     mode: Mode,
     depth: u32,
-    t: Marked,
-    out: &mut Vec<Marked>,
-    pending: &mut VecDeque<Marked>,
+    t: Marked<'s>,
+    out: &mut Vec<Marked<'s>>,
+    pending: &mut Pending<'s>,
     work: &mut Work,
 ) -> Result<(), RunError>
     requires shallow { depth ≤ 400 }
-    requires role { role_of mode (marked_of t) (map marked_of pending.old.items) ≡ Name }
-    ensures ok { OnOk result (GoesOn (A.answerer source.now) mode depth answers.old work.old.left out.old.items t pending.old.items
-        answers.new work.new.left out.new.items pending.new.items) }
+    requires role { role_of mode (marked_of t) (map marked_of pending.old) ≡ Name }
+    ensures ok { OnOk result (GoesOn (A.answerer source.now) mode depth answers.old work.old.left out.old.items t.entry pending.old
+        answers.new work.new.left out.new.items pending.new) }
     ensures spends { work.new.left ≤ work.old.left }
-    ensures shorter { OnOk result (work.new.left + deque_len pending.new ≤ work.old.left + deque_len pending.old) }
-    ensures grows { OnOk result (length out.new.items + deque_len pending.new + work.new.left ≤ length out.old.items + deque_len pending.old + 1 + work.old.left) }
+    ensures shorter { OnOk result (work.new.left + length pending.new ≤ work.old.left + length pending.old) }
+    ensures grows { OnOk result (length out.new.items + length pending.new + work.new.left ≤ length out.old.items + length pending.old + 1 + work.old.left) }
     ensures err { IfErr result (λ e. Stops e answers.new (expanded_for (A.answerer source.now) answers.old mode depth work.old.left
-        (marked_of t ∷ map marked_of pending.old.items))) }
+        (marked_of t.entry ∷ map marked_of pending.old))) }
 {
     match read_name(alloc, source, answers, &t, pending)? {
         ReadName::Itself => put(out, t),
@@ -249,25 +235,25 @@ fn expand_name<S, A: Answers<S>>(
 
 // One step: the token at the head, and what becomes of it.
 #[cycle(expanding)]
-fn expand_head<S, A: Answers<S>>(
+pub(crate) fn expand_head<'s, S, A: Answers<S>>(
     alloc: Global,
-    source: &S,
+    source: &'s S,
     answers: &mut A,
     mode: Mode,
     depth: u32,
-    t: Marked,
-    out: &mut Vec<Marked>,
-    pending: &mut VecDeque<Marked>,
+    t: Marked<'s>,
+    out: &mut Vec<Marked<'s>>,
+    pending: &mut Pending<'s>,
     work: &mut Work,
 ) -> Result<(), RunError>
     requires { depth ≤ 400 }
-    ensures ok { OnOk result (GoesOn (A.answerer source.now) mode depth answers.old work.old.left out.old.items t pending.old.items
-        answers.new work.new.left out.new.items pending.new.items) }
+    ensures ok { OnOk result (GoesOn (A.answerer source.now) mode depth answers.old work.old.left out.old.items t.entry pending.old
+        answers.new work.new.left out.new.items pending.new) }
     ensures spends { work.new.left ≤ work.old.left }
-    ensures shorter { OnOk result (work.new.left + deque_len pending.new ≤ work.old.left + deque_len pending.old) }
-    ensures grows { OnOk result (length out.new.items + deque_len pending.new + work.new.left ≤ length out.old.items + deque_len pending.old + 1 + work.old.left) }
+    ensures shorter { OnOk result (work.new.left + length pending.new ≤ work.old.left + length pending.old) }
+    ensures grows { OnOk result (length out.new.items + length pending.new + work.new.left ≤ length out.old.items + length pending.old + 1 + work.old.left) }
     ensures err { IfErr result (λ e. Stops e answers.new (expanded_for (A.answerer source.now) answers.old mode depth work.old.left
-        (marked_of t ∷ map marked_of pending.old.items))) }
+        (marked_of t.entry ∷ map marked_of pending.old))) }
 {
     match role(mode, &t, pending) {
         Role::Ordinary => put(out, t),
@@ -285,24 +271,25 @@ fn expand_head<S, A: Answers<S>>(
 // The expansion of a list of tokens, rescanned together with the tokens behind each replacement (6.10.3.4). `depth` says how many
 // calls' arguments stand around the list, at most 400.
 #[cycle(expanding)]
-fn expand_list<S, A: Answers<S>>(
+fn expand_list<'s, S, A: Answers<S>>(
     alloc: Global,
-    source: &S,
+    source: &'s S,
     answers: &mut A,
     mode: Mode,
     depth: u32,
-    mut pending: VecDeque<Marked>,
+    given: VecDeque<Marked<'s>>,
     work: &mut Work,
-) -> Result<Vec<Marked>, RunError>
+) -> Result<Vec<Marked<'s>>, RunError>
     requires { depth ≤ 400 }
-    ensures ok { IfOk result (λ out. expanded_for (A.answerer source.now) answers.old mode depth work.old.left (map marked_of pending.items)
+    ensures ok { IfOk result (λ out. expanded_for (A.answerer source.now) answers.old mode depth work.old.left (map marked_of given.entry.items)
         ≡ record { result = Ok (record { tokens = map marked_of out.items; units = work.new.left }); state = answers.new }) }
     ensures spends { work.new.left ≤ work.old.left }
     ensures err { IfErr result (λ e. Stops e answers.new
-        (expanded_for (A.answerer source.now) answers.old mode depth work.old.left (map marked_of pending.items))) }
+        (expanded_for (A.answerer source.now) answers.old mode depth work.old.left (map marked_of given.entry.items))) }
 {
+    let mut pending = Pending::of(given);
     let mut out = Vec::new(alloc);
-    while let Some(t) = pending.pop_front() {
+    while let Some(t) = pending.pop() {
         expand_head(
             alloc,
             source,
@@ -318,30 +305,26 @@ fn expand_list<S, A: Answers<S>>(
     Ok(out)
 }
 
-// The tokens, none of them with a hidden name.
-fn marked_list(alloc: Global, run: &[Token]) -> Result<VecDeque<Marked>, AllocError>
-    ensures { IfOk result (λ q. map marked_of q.items ≡ map unmarked run.now) }
+// Moves a token behind others, without its hide set.
+fn keep_token(alloc: Global, out: &mut Vec<Token>, m: Marked) -> Result<(), AllocError>
+    ensures { OnOk result (out.new.items ≡ out.old.items ++ kept_token m.entry ∷ []) }
 {
-    let mut q = VecDeque::new(alloc);
-    for t in run {
-        let m = Marked {
-            token: copied_token(alloc, t)?,
-            hidden: HideSet::none(alloc),
-        };
-        q.push_back(m)?;
-    }
-    Ok(q)
+    let token = m.token.to_token(alloc)?;
+    out.push(token)?;
+    Ok(())
 }
 
 // Moves tokens behind others, without their hide sets.
-fn keep_tokens(out: &mut Vec<Token>, list: &mut Vec<Marked>) -> Result<(), RunError>
-    ensures ok { OnOk result (out.new.items ≡ out.old.items ++ map (λ m. m.token) list.old.items) }
+fn keep_tokens(alloc: Global, out: &mut Vec<Token>, list: &mut Vec<Marked>) -> Result<(), RunError>
+    ensures ok { OnOk result (out.new.items ≡ out.old.items ++ map kept_token list.old.items) }
     ensures emptied { OnOk result (list.new.items ≡ []) }
     ensures err { IfErr result (λ e. e ≡ RunError.Memory) }
 {
-    for m in list.drain(..) {
-        if out.push(m.token).is_err() {
-            return Err(RunError::Memory);
+    list.reverse();
+    while let Some(m) = list.pop() {
+        match keep_token(alloc, out, m) {
+            Ok(()) => {}
+            Err(_) => return Err(RunError::Memory),
         }
     }
     Ok(())
@@ -368,10 +351,10 @@ pub fn expand_for<S, A: Answers<S>>(
         (expanded_for (A.answerer source.now) answers.old mode 0 work.old.left (map unmarked run.now))) }
 {
     // What a step puts out is kept without its hide sets, so that those of the pending tokens alone take memory.
-    let mut pending = marked_list(alloc, run)?;
+    let mut pending = Pending::over(alloc, Run::Listed(run));
     let mut out = Vec::new(alloc);
     let mut step = Vec::new(alloc);
-    while let Some(t) = pending.pop_front() {
+    while let Some(t) = pending.pop() {
         expand_head(
             alloc,
             source,
@@ -383,13 +366,13 @@ pub fn expand_for<S, A: Answers<S>>(
             &mut pending,
             work,
         )?;
-        keep_tokens(&mut out, &mut step)?;
+        keep_tokens(alloc, &mut out, &mut step)?;
     }
     Ok(List::of(out))
 }
 
 // The public name of an error.
-fn public_error(e: RunError) -> ExpandError
+pub(crate) fn public_error(e: RunError) -> ExpandError
     ensures { result ≡ public_of e }
 {
     match e {
@@ -400,31 +383,5 @@ fn public_error(e: RunError) -> ExpandError
         RunError::Work => ExpandError::Work,
         RunError::Presumed => ExpandError::Memory,
         RunError::Memory => ExpandError::Memory,
-    }
-}
-
-/// The tokens that a list of tokens becomes under a table of macros (ISO C 6.10.3), each with the white space of what it
-/// stands for. `here` says what `__FILE__` and `__LINE__` stand for (6.10.8.1); in `Mode::Condition` a `defined` and its operand are put
-/// out as they are (6.10.1 paragraph 4). Each replacement takes its units from `work`: one, and one for each token that it puts in.
-/// Reading a call, its arguments from left to right, its pastes and then its own units come in this order, and the first error ends
-/// the expansion: `Unclosed`, `Count`, `Deep`, `Paste` or `Work`, each exactly where `ExpandError` says, or `Memory`.
-pub fn expand(
-    alloc: Global,
-    table: &MacroTable,
-    run: &[Token],
-    here: &Presumed,
-    mode: Mode,
-    work: &mut Work,
-) -> Result<List<Token>, ExpandError>
-    ensures ok { IfOk result (λ out. Gives (expanded_by (lookup table.now) (place_of here.now) mode 0 work.old.left (map unmarked run.now))
-        out work.new.left) }
-    ensures spends { work.new.left ≤ work.old.left }
-    ensures err { IfErr result (λ e. ReportsResult e
-        (expanded_by (lookup table.now) (place_of here.now) mode 0 work.old.left (map unmarked run.now))) }
-{
-    let mut answers = TablePlace { here };
-    match expand_for(alloc, table, &mut answers, mode, run, work) {
-        Ok(out) => Ok(out),
-        Err(e) => Err(public_error(e)),
     }
 }

@@ -57,7 +57,7 @@ impl HideSet {
     ghost use Rattle.std.specs.Prelude.{[], ◌≡◌, ◌&&◌, ◌||◌, true, IfOk, ℕ, List, bytes_eq};
     ghost use Rattle.macro_expand.specs.Sets.{names_in};
 
-    pub(crate) fn none(_alloc: Global) -> HideSet
+    pub(crate) fn none() -> HideSet
         ensures { result ≡ [] }
     {
         HideSet {
@@ -69,6 +69,9 @@ impl HideSet {
     pub(crate) fn hides(&self, name: &[u8]) -> bool
         ensures { result ≡ names_in self.now name.now }
     {
+        let Trie::Fork(_) = &self.names else {
+            return false;
+        };
         let hash = hash_of(name);
         finds(&self.names, name, hash, hash)
     }

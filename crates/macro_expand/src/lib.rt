@@ -12,14 +12,17 @@ mod name;
 mod operand;
 mod outcome;
 mod paste;
+mod pending;
 mod pieces;
 mod placing;
 mod replace;
+mod run;
+mod stream;
 mod stringize;
 
 pub use answers::{Answers, Presumed, TablePlace};
-pub use expansion::{expand, expand_for};
-pub use laws::{
-    choice_fact, expansion_is_frugal, expansion_unfolds, more_definitions, support_decides,
-};
+pub use expansion::expand_for;
+pub use laws::{choice_fact, expansion_is_frugal, expansion_unfolds};
 pub use outcome::{ExpandError, Mode, RunError, Work};
+pub use run::Run;
+pub use stream::{Expander, Standing, expand};

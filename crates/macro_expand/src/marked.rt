@@ -1,41 +1,45 @@
 // Tokens with their hide sets.
 ghost use Rattle.std.specs.Prelude.{◌≡◌, IfOk};
-ghost use Rattle.macro_expand.specs.Seen.{marked_of};
+ghost use Rattle.macro_expand.specs.Seen.{marked_of, kept_plain};
 
 use crate::hide_set::HideSet;
-use base_types::Bytes;
-use pp_tokens::Token;
-use std::alloc::{AllocError, Global};
+use pp_tokens::TokenCow;
+use std::alloc::AllocError;
 
-// A token with its hide set: the names that don't replace it any more (ISO C 6.10.3.4 paragraph 2).
+// A token with its hide set: the names that don't replace it any more (ISO C 6.10.3.4 paragraph 2). Its spelling is lent by the
+// text or by a replacement list, unless `#` or `##` made it.
 #[derive(Drop)]
-pub(crate) struct Marked {
-    pub token: Token,
+pub(crate) struct Marked<'a> {
+    pub token: TokenCow<'a>,
     pub hidden: HideSet,
 }
 
-impl Marked {
-    ghost use Rattle.std.specs.Prelude.{◌≡◌, IfOk};
+impl<'a> Marked<'a> {
+    // A token with no hidden name.
+    pub(crate) fn plain(token: TokenCow<'a>) -> Marked<'a>
+        ensures { result ≡ kept_plain token.entry }
+    {
+        Marked {
+            token,
+            hidden: HideSet::none(),
+        }
+    }
 
-    pub(crate) fn copy(&self, alloc: Global) -> Result<Marked, AllocError>
+    // The token, without its hide set.
+    pub(crate) fn bare(self) -> TokenCow<'a>
+        ensures { result ≡ self.entry.token }
+    {
+        self.token
+    }
+
+    pub(crate) fn copy(&self) -> Result<Marked<'a>, AllocError>
         ensures { IfOk result (λ m. m ≡ self.now) }
     {
         Ok(Marked {
-            token: copied_token(alloc, &self.token)?,
+            token: self.token.copy()?,
             hidden: self.hidden.copy()?,
         })
     }
-}
-
-pub(crate) fn copied_token(alloc: Global, t: &Token) -> Result<Token, AllocError>
-    ensures { IfOk result (λ copy. copy ≡ t.now) }
-{
-    Ok(Token {
-        kind: t.kind,
-        text: Bytes::copy_of(alloc, t.text.as_slice())?,
-        line: t.line,
-        space: t.space,
-    })
 }
 
 // What a token at the head of a list is.
@@ -52,8 +56,8 @@ pub(crate) enum Role {
 
 // What `##` joins (6.10.3.3).
 #[derive(Drop)]
-pub(crate) enum Piece {
-    Real(Marked),
+pub(crate) enum Piece<'a> {
+    Real(Marked<'a>),
     Placemarker,
     Joining,
 }

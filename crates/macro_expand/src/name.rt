@@ -1,22 +1,20 @@
 // What a name stands for, by the definition that it has (ISO C 6.10.3).
 ghost use Rattle.std.specs.Prelude.{◌≡◌, ◌≤◌, map, length, Some, IfOk, IfErr};
-ghost use Rattle.std.specs.VecDeque.{deque_len};
-ghost use Rattle.macro_defs.specs.MacroDefinition.{without_line};
+ghost use Rattle.macro_defs.specs.Arguments.{parameters_in};
 ghost use Rattle.macro_expand.specs.Replacement.{parts_of};
 ghost use Rattle.macro_expand.specs.Expansion.{variable_of};
 ghost use Rattle.macro_expand.specs.Seen.{lists_of, parts_seen, KeepsWritten};
 ghost use Rattle.macro_expand.specs.Naming.{StandAlone, ReadsName, KnowsAlone, NameStops};
 
 use crate::answers::Answers;
-use crate::call::{ReadCall, read_call, take_open, with_kept};
+use crate::call::{ReadCall, read_call, with_kept};
 use crate::marked::Marked;
 use crate::outcome::RunError;
+use crate::pending::Pending;
 use crate::replace::{Part, object_tokens, read_parts, standing_alone, variable_number};
 use base_types::Bytes;
-use macro_defs::Shape;
-use pp_tokens::Token;
+use macro_defs::{Definition, Shape};
 use std::alloc::{AllocError, Global};
-use std::collections::VecDeque;
 
 // A call of a function-like macro, but for its arguments to be expanded: the parts of the replacement list, which arguments
 // stand alone in it, the number of the variable one, and what was written.
@@ -25,7 +23,7 @@ pub(crate) struct MacroCall<'d> {
     pub(crate) parts: Vec<Part<'d>>,
     pub(crate) alone: Vec<bool>,
     pub(crate) variable: Option<usize>,
-    pub(crate) read: ReadCall,
+    pub(crate) read: ReadCall<'d>,
 }
 
 // What a name stands for.
@@ -34,27 +32,27 @@ pub(crate) enum ReadName<'d> {
     // itself: it has no definition, or it is a function-like macro's and no `(` follows
     Itself,
     // the tokens of an object-like macro's replacement
-    Object(Vec<Marked>),
+    Object(Vec<Marked<'d>>),
     // a call, with its arguments to be expanded
-    Call(Vec<Vec<Marked>>, MacroCall<'d>),
+    Call(Vec<Vec<Marked<'d>>>, MacroCall<'d>),
 }
 
-// The call that was read of a macro with these parameters and this replacement list, and its arguments.
+// The call that was read of a macro with this definition and these parameters, and its arguments.
 fn macro_call<'d>(
     alloc: Global,
+    d: &'d Definition,
     params: &[Bytes],
     variadic: bool,
-    body: &'d [Token],
-    read: ReadCall,
-) -> Result<(Vec<Vec<Marked>>, MacroCall<'d>), AllocError>
-    ensures written { IfOk result (λ r. lists_of r.0.items ≡ lists_of read.written.items) }
-    ensures parts { IfOk result (λ r. parts_seen r.1.parts.items ≡ parts_of params.now (map without_line body.now)) }
-    ensures alone { IfOk result (λ r. StandAlone r.1.alone.items (length read.written.items) (parts_seen r.1.parts.items)) }
+    read: ReadCall<'d>,
+) -> Result<(Vec<Vec<Marked<'d>>>, MacroCall<'d>), AllocError>
+    ensures written { IfOk result (λ r. lists_of r.0.items ≡ lists_of read.entry.written.items) }
+    ensures parts { IfOk result (λ r. parts_seen r.1.parts.items ≡ parts_of (parameters_in d.now.shape) d.now.body) }
+    ensures alone { IfOk result (λ r. StandAlone r.1.alone.items (length read.entry.written.items) (parts_seen r.1.parts.items)) }
     ensures variable { IfOk result (λ r. r.1.variable ≡ variable_of params.now variadic) }
-    ensures close { IfOk result (λ r. r.1.read.close ≡ read.close) }
-    ensures kept { IfOk result (λ r. KeepsWritten (parts_seen r.1.parts.items) (lists_of read.written.items) (lists_of r.1.read.written.items)) }
+    ensures close { IfOk result (λ r. r.1.read.close ≡ read.entry.close) }
+    ensures kept { IfOk result (λ r. KeepsWritten (parts_seen r.1.parts.items) (lists_of read.entry.written.items) (lists_of r.1.read.written.items)) }
 {
-    let parts = read_parts(alloc, params, body)?;
+    let parts = read_parts(alloc, d)?;
     let alone = standing_alone(alloc, parts.as_slice(), read.written.len())?;
     let (written, read) = with_kept(alloc, parts.as_slice(), read)?;
     let variable = variable_number(params, variadic);
@@ -75,25 +73,25 @@ pub(crate) fn read_name<'s, S, A: Answers<S>>(
     source: &'s S,
     answers: &mut A,
     t: &Marked,
-    pending: &mut VecDeque<Marked>,
+    pending: &mut Pending<'s>,
 ) -> Result<ReadName<'s>, RunError>
-    ensures ok { IfOk result (λ name. ReadsName (A.answerer source.now) answers.old t.now pending.old.items name answers.new pending.new.items) }
+    ensures ok { IfOk result (λ name. ReadsName (A.answerer source.now) answers.old t.now pending.old name answers.new pending.new) }
     ensures alone { IfOk result (λ name. KnowsAlone name) }
-    ensures shorter { deque_len pending.new ≤ deque_len pending.old }
-    ensures err { IfErr result (λ e. NameStops (A.answerer source.now) answers.old t.now pending.old.items e answers.new) }
+    ensures shorter { length pending.new ≤ length pending.old }
+    ensures err { IfErr result (λ e. NameStops (A.answerer source.now) answers.old t.now pending.old e answers.new) }
 {
-    let Some(d) = answers.definition(source, t.token.text.as_slice())? else {
+    let Some(d) = answers.definition(source, t.token.text())? else {
         return Ok(ReadName::Itself);
     };
     match d.shape() {
         Shape::Object => Ok(ReadName::Object(object_tokens(alloc, t, d)?)),
         Shape::Function { params, variadic } => {
-            if !take_open(pending) {
+            if !pending.take_open() {
                 return Ok(ReadName::Itself);
             }
             let names = params.as_slice();
             let read = read_call(alloc, t, names, *variadic, pending)?;
-            let (written, call) = macro_call(alloc, names, *variadic, d.body(), read)?;
+            let (written, call) = macro_call(alloc, d, names, *variadic, read)?;
             Ok(ReadName::Call(written, call))
         }
     }

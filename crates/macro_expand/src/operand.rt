@@ -1,6 +1,5 @@
 // The operand of `defined` in a condition (ISO C 6.10.1).
 ghost use Rattle.std.specs.Prelude.{◌≡◌, ◌+◌, ◌≤◌, ◌++◌, ◌∷◌, [], map, length, take, drop, IfOk, IfErr, OnOk};
-ghost use Rattle.std.specs.VecDeque.{deque_len};
 ghost use Rattle.macro_expand.specs.declared.marked.Role.TheVariants.{Defined};
 ghost use Rattle.pp_tokens.specs.Marks.{is_identifier, is_mark};
 ghost use Rattle.macro_expand.specs.Reading.{holds_at, begins_with_name_in_parentheses};
@@ -13,18 +12,18 @@ use crate::answers::Answers;
 use crate::expansion::put;
 use crate::marked::Marked;
 use crate::outcome::{Mode, RunError, Work};
-use std::collections::VecDeque;
+use crate::pending::Pending;
 
 // Whether an operand of `defined` stands first.
-pub(crate) fn has_operand(rest: &VecDeque<Marked>) -> bool
-    ensures { result ≡ spec.has_operand (map marked_of rest.now.items) }
+pub(crate) fn has_operand(rest: &Pending) -> bool
+    ensures { result ≡ spec.has_operand (map marked_of rest.now) }
 {
     operand_length(rest) > 0
 }
 
 // Of how many tokens the operand of `defined` is that stands first: a name, a name in parentheses, or none.
-fn operand_length(rest: &VecDeque<Marked>) -> usize
-    ensures { result ≡ length (operand_of_defined (map marked_of rest.now.items)).0 }
+fn operand_length(rest: &Pending) -> usize
+    ensures { result ≡ length (operand_of_defined (map marked_of rest.now)).0 }
 {
     if is_name_at(rest, 0) {
         return 1;
@@ -36,8 +35,8 @@ fn operand_length(rest: &VecDeque<Marked>) -> usize
 }
 
 // Whether a name in parentheses stands first.
-fn is_name_in_parentheses(rest: &VecDeque<Marked>) -> bool
-    ensures { result ≡ begins_with_name_in_parentheses (map marked_of rest.now.items) }
+fn is_name_in_parentheses(rest: &Pending) -> bool
+    ensures { result ≡ begins_with_name_in_parentheses (map marked_of rest.now) }
 {
     is_mark_at(rest, 0, b"(".as_slice())
         && is_name_at(rest, 1)
@@ -45,58 +44,58 @@ fn is_name_in_parentheses(rest: &VecDeque<Marked>) -> bool
 }
 
 // Whether the pending token at a place is an identifier.
-fn is_name_at(rest: &VecDeque<Marked>, place: usize) -> bool
-    ensures { result ≡ holds_at is_identifier place (map marked_of rest.now.items) }
+fn is_name_at(rest: &Pending, place: usize) -> bool
+    ensures { result ≡ holds_at is_identifier place (map marked_of rest.now) }
 {
     match rest.get(place) {
         None => false,
-        Some(t) => t.token.is_identifier(),
+        Some(t) => t.is_identifier(),
     }
 }
 
 // Whether the pending token at a place is the punctuator with this spelling.
-fn is_mark_at(rest: &VecDeque<Marked>, place: usize, spelling: &[u8]) -> bool
-    ensures { result ≡ holds_at (is_mark spelling.now) place (map marked_of rest.now.items) }
+fn is_mark_at(rest: &Pending, place: usize, spelling: &[u8]) -> bool
+    ensures { result ≡ holds_at (is_mark spelling.now) place (map marked_of rest.now) }
 {
     match rest.get(place) {
         None => false,
-        Some(t) => t.token.is_mark(spelling),
+        Some(t) => t.is_mark(spelling),
     }
 }
 
 // One step: `defined` in a condition, put out with its operand (6.10.1).
-pub(crate) fn expand_defined<S, A: Answers<S>>(
+pub(crate) fn expand_defined<'s, S, A: Answers<S>>(
     source: &S,
     answers: &mut A,
     mode: Mode,
     depth: u32,
-    t: Marked,
-    out: &mut Vec<Marked>,
-    pending: &mut VecDeque<Marked>,
+    t: Marked<'s>,
+    out: &mut Vec<Marked<'s>>,
+    pending: &mut Pending<'s>,
     work: &mut Work,
 ) -> Result<(), RunError>
-    requires role { role_of mode (marked_of t) (map marked_of pending.old.items) ≡ Defined }
-    ensures ok { OnOk result (GoesOn (A.answerer source.now) mode depth answers.old work.old.left out.old.items t pending.old.items
-        answers.new work.new.left out.new.items pending.new.items) }
+    requires role { role_of mode (marked_of t) (map marked_of pending.old) ≡ Defined }
+    ensures ok { OnOk result (GoesOn (A.answerer source.now) mode depth answers.old work.old.left out.old.items t.entry pending.old
+        answers.new work.new.left out.new.items pending.new) }
     ensures spends { work.new.left ≤ work.old.left }
-    ensures shorter { OnOk result (work.new.left + deque_len pending.new ≤ work.old.left + deque_len pending.old) }
-    ensures grows { OnOk result (length out.new.items + deque_len pending.new + work.new.left ≤ length out.old.items + deque_len pending.old + 1 + work.old.left) }
+    ensures shorter { OnOk result (work.new.left + length pending.new ≤ work.old.left + length pending.old) }
+    ensures grows { OnOk result (length out.new.items + length pending.new + work.new.left ≤ length out.old.items + length pending.old + 1 + work.old.left) }
     ensures err { IfErr result (λ e. Stops e answers.new (expanded_for (A.answerer source.now) answers.old mode depth work.old.left
-        (marked_of t ∷ map marked_of pending.old.items))) }
+        (marked_of t.entry ∷ map marked_of pending.old))) }
 {
     put(out, t)?;
     put_operand_of_defined(out, pending)
 }
 
 // Puts out what `defined` takes along.
-fn put_operand_of_defined(
-    out: &mut Vec<Marked>,
-    pending: &mut VecDeque<Marked>,
+fn put_operand_of_defined<'s>(
+    out: &mut Vec<Marked<'s>>,
+    pending: &mut Pending<'s>,
 ) -> Result<(), RunError>
-    ensures ok { OnOk result ((map marked_of out.new.items ≡ map marked_of out.old.items ++ (operand_of_defined (map marked_of pending.old.items)).0)
-        × (map marked_of pending.new.items ≡ (operand_of_defined (map marked_of pending.old.items)).1)) }
-    ensures shorter { deque_len pending.new ≤ deque_len pending.old }
-    ensures grows { OnOk result (length out.new.items + deque_len pending.new ≤ length out.old.items + deque_len pending.old) }
+    ensures ok { OnOk result ((map marked_of out.new.items ≡ map marked_of out.old.items ++ (operand_of_defined (map marked_of pending.old)).0)
+        × (map marked_of pending.new ≡ (operand_of_defined (map marked_of pending.old)).1)) }
+    ensures shorter { length pending.new ≤ length pending.old }
+    ensures grows { OnOk result (length out.new.items + length pending.new ≤ length out.old.items + length pending.old) }
     ensures err { IfErr result (λ e. e ≡ RunError.Memory) }
 {
     for _token in 0..operand_length(pending) {
@@ -106,12 +105,12 @@ fn put_operand_of_defined(
 }
 
 // Puts out the first pending token, where there is one.
-fn put_first(out: &mut Vec<Marked>, pending: &mut VecDeque<Marked>) -> Result<(), RunError>
-    ensures ok { OnOk result ((out.new.items ≡ out.old.items ++ take 1 pending.old.items) × (pending.new.items ≡ drop 1 pending.old.items)) }
-    ensures shorter { deque_len pending.new ≤ deque_len pending.old }
+fn put_first<'s>(out: &mut Vec<Marked<'s>>, pending: &mut Pending<'s>) -> Result<(), RunError>
+    ensures ok { OnOk result ((out.new.items ≡ out.old.items ++ take 1 pending.old) × (pending.new ≡ drop 1 pending.old)) }
+    ensures shorter { length pending.new ≤ length pending.old }
     ensures err { IfErr result (λ e. e ≡ RunError.Memory) }
 {
-    match pending.pop_front() {
+    match pending.pop() {
         None => Ok(()),
         Some(t) => {
             put(out, t)?;

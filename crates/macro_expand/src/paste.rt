@@ -1,5 +1,5 @@
 // Pasting (ISO C 6.10.3.3).
-ghost use Rattle.std.specs.Prelude.{◌≡◌, ◌++◌, ◌∷◌, [], map, true, false, Ok, Some, None, IfOk, IfErr, OnOk, List};
+ghost use Rattle.std.specs.Prelude.{◌≡◌, ◌⊎◌, ◌++◌, ◌∷◌, [], map, true, false, Ok, Some, None, IfOk, IfErr, OnOk, List};
 ghost use Rattle.pp_tokens.specs.Grammar.{kind_of};
 ghost use Rattle.macro_expand.specs.Replacement.{Piece as MarkedPiece, Real, Placemarker, joined, pasted, operand_tokens};
 ghost use Rattle.macro_expand.specs.Seen.{marked_of, piece_of, operand_of, pasted_as, ReportsPaste};
@@ -9,14 +9,19 @@ use crate::expansion::put;
 use crate::marked::{Marked, Piece};
 use crate::outcome::RunError;
 use base_types::Bytes;
-use pp_tokens::{Kind, Token, single_token};
+use pp_tokens::{Kind, Token, TokenCow, single_token};
 use std::alloc::{AllocError, Global};
 use std::mem::replace;
 
 // What `##` makes of its two sides.
-fn paste(alloc: Global, t: &Marked, left: Option<Marked>, right: Marked) -> Result<Marked, RunError>
-    ensures ok { IfOk result (λ m. pasted (operand_of left) (Some (marked_of right)) ≡ Ok (Some (marked_of m))) }
-    ensures err { IfErr result (λ e. ReportsPaste e t.now.token.line (pasted (operand_of left) (Some (marked_of right)))) }
+fn paste<'t>(
+    alloc: Global,
+    t: &Marked,
+    left: Option<Marked<'t>>,
+    right: Marked<'t>,
+) -> Result<Marked<'t>, RunError>
+    ensures ok { IfOk result (λ m. pasted (operand_of left.entry) (Some (marked_of right.entry)) ≡ Ok (Some (marked_of m))) }
+    ensures err { IfErr result (λ e. ReportsPaste e t.now.token.line (pasted (operand_of left.entry) (Some (marked_of right.entry)))) }
 {
     match left {
         None => Ok(right),
@@ -32,59 +37,75 @@ fn spelling_kind(text: &Bytes) -> Option<Kind>
 }
 
 // One spelling after another.
-fn joined_text(alloc: Global, left: &Bytes, right: &Bytes) -> Result<Bytes, AllocError>
+fn joined_text(alloc: Global, left: &[u8], right: &[u8]) -> Result<Bytes, AllocError>
     ensures { IfOk result (λ t. t ≡ left.now ++ right.now) }
 {
     let mut text = Vec::new(alloc);
-    text.extend_from_slice(left.as_slice())?;
-    text.extend_from_slice(right.as_slice())?;
+    text.extend_from_slice(left)?;
+    text.extend_from_slice(right)?;
     Ok(Bytes::of(text))
 }
 
 // The one token that the spellings of two make, where they make one.
-fn made_of_two(alloc: Global, left: &Marked, right: &Marked) -> Result<Option<Marked>, AllocError>
+fn made_of_two<'t>(
+    alloc: Global,
+    left: &Marked<'t>,
+    right: &Marked<'t>,
+) -> Result<Option<Marked<'t>>, AllocError>
     ensures { IfOk result (λ made. pasted (Some (marked_of left.now)) (Some (marked_of right.now)) ≡ pasted_as left.now right.now made) }
 {
-    let text = joined_text(alloc, &left.token.text, &right.token.text)?;
+    let text = joined_text(alloc, left.token.text(), right.token.text())?;
     let Some(kind) = spelling_kind(&text) else {
         return Ok(None);
     };
     let hidden = left.hidden.common(alloc, &right.hidden)?;
-    Ok(Some(Marked {
-        token: Token {
+    let token = TokenCow::owned(
+        alloc,
+        Token {
             kind,
             text,
-            line: left.token.line,
-            space: left.token.space,
+            line: left.token.line(),
+            space: left.token.space(),
         },
-        hidden,
-    }))
+    )?;
+    Ok(Some(Marked { token, hidden }))
 }
 
-fn not_pasted(t: &Marked, left: Marked, right: Marked) -> RunError
-    ensures { result ≡ RunError.Paste left.token.text right.token.text t.now.token.line }
+fn not_pasted(alloc: Global, t: &Marked, left: Marked, right: Marked) -> RunError
+    ensures { (result ≡ RunError.Memory) ⊎ (result ≡ RunError.Paste left.entry.token.text right.entry.token.text t.now.token.line) }
 {
+    let Ok(left) = Bytes::copy_of(alloc, left.token.text()) else {
+        return RunError::Memory;
+    };
+    let Ok(right) = Bytes::copy_of(alloc, right.token.text()) else {
+        return RunError::Memory;
+    };
     RunError::Paste {
-        left: left.token.text,
-        right: right.token.text,
-        line: t.token.line,
+        left,
+        right,
+        line: t.token.line(),
     }
 }
 
 // Two tokens pasted.
-fn paste_two(alloc: Global, t: &Marked, left: Marked, right: Marked) -> Result<Marked, RunError>
-    ensures ok { IfOk result (λ m. pasted (Some (marked_of left)) (Some (marked_of right)) ≡ Ok (Some (marked_of m))) }
-    ensures err { IfErr result (λ e. ReportsPaste e t.now.token.line (pasted (Some (marked_of left)) (Some (marked_of right)))) }
+fn paste_two<'t>(
+    alloc: Global,
+    t: &Marked,
+    left: Marked<'t>,
+    right: Marked<'t>,
+) -> Result<Marked<'t>, RunError>
+    ensures ok { IfOk result (λ m. pasted (Some (marked_of left.entry)) (Some (marked_of right.entry)) ≡ Ok (Some (marked_of m))) }
+    ensures err { IfErr result (λ e. ReportsPaste e t.now.token.line (pasted (Some (marked_of left.entry)) (Some (marked_of right.entry)))) }
 {
     match made_of_two(alloc, &left, &right)? {
         Some(made) => Ok(made),
-        None => Err(not_pasted(t, left, right)),
+        None => Err(not_pasted(alloc, t, left, right)),
     }
 }
 
 // Puts out the operand on the left, where there is one.
-fn put_operand(out: &mut Vec<Marked>, left: Option<Marked>) -> Result<(), RunError>
-    ensures ok { OnOk result (map marked_of out.new.items ≡ map marked_of out.old.items ++ operand_tokens (operand_of left)) }
+fn put_operand<'t>(out: &mut Vec<Marked<'t>>, left: Option<Marked<'t>>) -> Result<(), RunError>
+    ensures ok { OnOk result (map marked_of out.new.items ≡ map marked_of out.old.items ++ operand_tokens (operand_of left.entry)) }
     ensures err { IfErr result (λ e. e ≡ RunError.Memory) }
 {
     match left {
@@ -95,17 +116,17 @@ fn put_operand(out: &mut Vec<Marked>, left: Option<Marked>) -> Result<(), RunErr
 
 // Pieces that are being joined: the tokens that are whole, the operand on the left, and whether a `##` follows it.
 #[derive(Drop)]
-struct Joining {
-    out: Vec<Marked>,
-    left: Option<Marked>,
+struct Joining<'t> {
+    out: Vec<Marked<'t>>,
+    left: Option<Marked<'t>>,
     joining: bool,
 }
 
-impl Joining {
+impl<'t> Joining<'t> {
     // Takes the next piece.
-    fn take(&mut self, alloc: Global, t: &Marked, p: Piece) -> Result<(), RunError>
-        ensures ok { OnOk result ((ps : List MarkedPiece) → joined_from self.old (piece_of p ∷ ps) ≡ joined_from self.new ps) }
-        ensures err { IfErr result (λ e. (ps : List MarkedPiece) → ReportsPaste e t.now.token.line (joined_from self.old (piece_of p ∷ ps))) }
+    fn take(&mut self, alloc: Global, t: &Marked, p: Piece<'t>) -> Result<(), RunError>
+        ensures ok { OnOk result ((ps : List MarkedPiece) → joined_from self.old (piece_of p.entry ∷ ps) ≡ joined_from self.new ps) }
+        ensures err { IfErr result (λ e. (ps : List MarkedPiece) → ReportsPaste e t.now.token.line (joined_from self.old (piece_of p.entry ∷ ps))) }
     {
         match p {
             Piece::Joining => {
@@ -130,9 +151,9 @@ impl Joining {
     }
 
     // A token is pasted to the operand on the left, or comes behind it.
-    fn take_real(&mut self, alloc: Global, t: &Marked, m: Marked) -> Result<(), RunError>
-        ensures ok { OnOk result ((ps : List MarkedPiece) → joined_from self.old (Real (marked_of m) ∷ ps) ≡ joined_from self.new ps) }
-        ensures err { IfErr result (λ e. (ps : List MarkedPiece) → ReportsPaste e t.now.token.line (joined_from self.old (Real (marked_of m) ∷ ps))) }
+    fn take_real(&mut self, alloc: Global, t: &Marked, m: Marked<'t>) -> Result<(), RunError>
+        ensures ok { OnOk result ((ps : List MarkedPiece) → joined_from self.old (Real (marked_of m.entry) ∷ ps) ≡ joined_from self.new ps) }
+        ensures err { IfErr result (λ e. (ps : List MarkedPiece) → ReportsPaste e t.now.token.line (joined_from self.old (Real (marked_of m.entry) ∷ ps))) }
     {
         if self.joining {
             return self.paste_on(alloc, t, m);
@@ -142,10 +163,10 @@ impl Joining {
     }
 
     // Pastes a token to the operand on the left.
-    fn paste_on(&mut self, alloc: Global, t: &Marked, right: Marked) -> Result<(), RunError>
+    fn paste_on(&mut self, alloc: Global, t: &Marked, right: Marked<'t>) -> Result<(), RunError>
         requires { self.old.joining ≡ true }
-        ensures ok { OnOk result ((ps : List MarkedPiece) → joined_from self.old (Real (marked_of right) ∷ ps) ≡ joined_from self.new ps) }
-        ensures err { IfErr result (λ e. (ps : List MarkedPiece) → ReportsPaste e t.now.token.line (joined_from self.old (Real (marked_of right) ∷ ps))) }
+        ensures ok { OnOk result ((ps : List MarkedPiece) → joined_from self.old (Real (marked_of right.entry) ∷ ps) ≡ joined_from self.new ps) }
+        ensures err { IfErr result (λ e. (ps : List MarkedPiece) → ReportsPaste e t.now.token.line (joined_from self.old (Real (marked_of right.entry) ∷ ps))) }
     {
         let made = paste(alloc, t, self.left.take(), right)?;
         self.left = Some(made);
@@ -154,8 +175,8 @@ impl Joining {
     }
 
     // The tokens, with the operand on the left as the last.
-    fn end(self) -> Result<Vec<Marked>, RunError>
-        ensures ok { IfOk result (λ ts. joined_from self [] ≡ Ok (map marked_of ts.items)) }
+    fn end(self) -> Result<Vec<Marked<'t>>, RunError>
+        ensures ok { IfOk result (λ ts. joined_from self.entry [] ≡ Ok (map marked_of ts.items)) }
         ensures err { IfErr result (λ e. e ≡ RunError.Memory) }
     {
         let Joining { mut out, left, .. } = self;
@@ -165,13 +186,13 @@ impl Joining {
 }
 
 // The pieces with their joins made from left to right.
-pub(crate) fn join_pieces(
+pub(crate) fn join_pieces<'t>(
     alloc: Global,
     t: &Marked,
-    pieces: Vec<Piece>,
-) -> Result<Vec<Marked>, RunError>
-    ensures ok { IfOk result (λ ts. joined None false (map piece_of pieces.items) ≡ Ok (map marked_of ts.items)) }
-    ensures err { IfErr result (λ e. ReportsPaste e t.now.token.line (joined None false (map piece_of pieces.items))) }
+    pieces: Vec<Piece<'t>>,
+) -> Result<Vec<Marked<'t>>, RunError>
+    ensures ok { IfOk result (λ ts. joined None false (map piece_of pieces.entry.items) ≡ Ok (map marked_of ts.items)) }
+    ensures err { IfErr result (λ e. ReportsPaste e t.now.token.line (joined None false (map piece_of pieces.entry.items))) }
 {
     let mut joining = Joining {
         out: Vec::new(alloc),

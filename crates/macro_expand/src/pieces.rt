@@ -8,25 +8,23 @@ ghost use Rattle.macro_expand.specs.Replacement.{unmarked, with_space, as_pieces
 ghost use Rattle.macro_expand.specs.Pieces.{arguments_seen, spaced_at};
 ghost use Rattle.macro_expand.specs.Seen.{marked_of, piece_of, part_seen, parts_seen, lists_of};
 
-use crate::hide_set::HideSet;
 use crate::marked::{Marked, Piece};
 use crate::replace::{Part, begins_with_join};
 use crate::stringize::stringized;
-use base_types::Bytes;
-use pp_tokens::{Kind, Token};
+use pp_tokens::{Token, TokenCow};
 use std::alloc::{AllocError, Global};
 
 // The arguments of a call: as written, expanded by themselves where a parameter stands alone, and the number of the
 // variable one.
 #[derive(Clone, Copy, Drop)]
-pub(crate) struct Arguments<'a> {
-    pub(crate) written: &'a [Vec<Marked>],
-    pub(crate) expanded: &'a [Vec<Marked>],
+pub(crate) struct Arguments<'a, 't> {
+    pub(crate) written: &'a [Vec<Marked<'t>>],
+    pub(crate) expanded: &'a [Vec<Marked<'t>>],
     pub(crate) variable: Option<usize>,
 }
 
 // The tokens of the argument of a number.
-fn argument_at<'a>(arguments: &'a [Vec<Marked>], i: usize) -> &'a [Marked]
+fn argument_at<'a, 't>(arguments: &'a [Vec<Marked<'t>>], i: usize) -> &'a [Marked<'t>]
     ensures { map marked_of result.now ≡ argument_at i (lists_of arguments.now) }
 {
     if i < arguments.len() {
@@ -89,73 +87,54 @@ fn drops_comma(arguments: &Arguments, t: &Token, rest: &[Part]) -> bool
 }
 
 // A token of a replacement list, with no hidden name.
-fn plain(alloc: Global, t: &Token) -> Result<Marked, AllocError>
-    ensures { IfOk result (λ m. marked_of m ≡ unmarked (without_line t.now)) }
+fn plain(t: &Token) -> Marked<'_>
+    ensures { marked_of result ≡ unmarked (without_line t.now) }
 {
-    Ok(Marked {
-        token: Token {
-            kind: t.kind,
-            text: Bytes::copy_of(alloc, t.text.as_slice())?,
-            line: 0,
-            space: t.space,
-        },
-        hidden: HideSet::none(alloc),
-    })
-}
-
-// The white space of a token of an argument, the first of which has the parameter's.
-fn space_at(first: bool, space: bool, own: bool) -> bool
-    ensures { result ≡ (if first then space else own) }
-{
-    if first { space } else { own }
+    let mut token = TokenCow::lent(t.as_ref());
+    token.set_line(0);
+    Marked::plain(token)
 }
 
 // A copy of a token of an argument.
-fn copy_at(alloc: Global, first: bool, space: bool, t: &Marked) -> Result<Marked, AllocError>
+fn copy_at<'t>(first: bool, space: bool, t: &Marked<'t>) -> Result<Marked<'t>, AllocError>
     ensures { IfOk result (λ m. marked_of m ≡ spaced_at first space (marked_of t.now)) }
 {
-    Ok(Marked {
-        token: Token {
-            kind: t.token.kind,
-            text: Bytes::copy_of(alloc, t.token.text.as_slice())?,
-            line: t.token.line,
-            space: space_at(first, space, t.token.space),
-        },
-        hidden: t.hidden.copy()?,
-    })
+    let mut m = t.copy()?;
+    if first {
+        m.token.set_space(space);
+    }
+    Ok(m)
 }
 
-fn put(out: &mut Vec<Piece>, p: Piece) -> Result<(), AllocError>
-    ensures { OnOk result (map piece_of out.new.items ≡ map piece_of out.old.items ++ piece_of p ∷ []) }
+fn put<'t>(out: &mut Vec<Piece<'t>>, p: Piece<'t>) -> Result<(), AllocError>
+    ensures { OnOk result (map piece_of out.new.items ≡ map piece_of out.old.items ++ piece_of p.entry ∷ []) }
 {
     out.push(p)?;
     Ok(())
 }
 
 // Puts in the tokens of an argument, the first with the parameter's space.
-fn put_tokens(
-    alloc: Global,
-    out: &mut Vec<Piece>,
+fn put_tokens<'t>(
+    out: &mut Vec<Piece<'t>>,
     space: bool,
-    tokens: &[Marked],
+    tokens: &[Marked<'t>],
 ) -> Result<(), AllocError>
     ensures { OnOk result (map piece_of out.new.items
         ≡ map piece_of out.old.items ++ map Real (with_space space (map marked_of tokens.now))) }
 {
     let mut first = true;
     for t in tokens {
-        put(out, Piece::Real(copy_at(alloc, first, space, t)?))?;
+        put(out, Piece::Real(copy_at(first, space, t)?))?;
         first = false;
     }
     Ok(())
 }
 
 // Puts in an argument that stands beside `##`: where it has no tokens, a placemarker.
-fn put_operand(
-    alloc: Global,
-    out: &mut Vec<Piece>,
+fn put_operand<'t>(
+    out: &mut Vec<Piece<'t>>,
     space: bool,
-    tokens: &[Marked],
+    tokens: &[Marked<'t>],
 ) -> Result<(), AllocError>
     ensures { OnOk result (map piece_of out.new.items
         ≡ map piece_of out.old.items ++ as_pieces (with_space space (map marked_of tokens.now))) }
@@ -163,15 +142,14 @@ fn put_operand(
     if tokens.is_empty() {
         return put(out, Piece::Placemarker);
     }
-    put_tokens(alloc, out, space, tokens)
+    put_tokens(out, space, tokens)
 }
 
 // Puts in a token of the list. A comma is dropped before `##` and an empty variable argument.
-fn put_plain(
-    alloc: Global,
-    out: &mut Vec<Piece>,
-    arguments: &Arguments,
-    t: &Token,
+fn put_plain<'t>(
+    out: &mut Vec<Piece<'t>>,
+    arguments: &Arguments<'_, 't>,
+    t: &'t Token,
     rest: &[Part],
 ) -> Result<(), AllocError>
     ensures { OnOk result (map piece_of out.new.items ≡ map piece_of out.old.items
@@ -180,7 +158,7 @@ fn put_plain(
     if drops_comma(arguments, t, rest) {
         return Ok(());
     }
-    put(out, Piece::Real(plain(alloc, t)?))
+    put(out, Piece::Real(plain(t)))
 }
 
 // Whether a part that stands before another is a `##`.
@@ -201,10 +179,9 @@ fn is_behind_comma(before: Option<&Part>) -> bool
 }
 
 // Puts in the argument that a parameter stands for.
-fn put_argument(
-    alloc: Global,
-    out: &mut Vec<Piece>,
-    arguments: &Arguments,
+fn put_argument<'t>(
+    out: &mut Vec<Piece<'t>>,
+    arguments: &Arguments<'_, 't>,
     before: Option<&Part>,
     i: usize,
     space: bool,
@@ -214,14 +191,14 @@ fn put_argument(
         ++ pieces_of_part (arguments_seen arguments.now) (option_map part_seen (option_copied before.entry)) (spec.Argument i space) (parts_seen rest.now)) }
 {
     if is_behind_join(before) || begins_with_join(rest) {
-        return put_operand(alloc, out, space, argument_at(arguments.written, i));
+        return put_operand(out, space, argument_at(arguments.written, i));
     }
-    put_tokens(alloc, out, space, argument_at(arguments.expanded, i))
+    put_tokens(out, space, argument_at(arguments.expanded, i))
 }
 
 // Puts in a `##`, which joins nothing between a comma and the variable argument (GNU).
-fn put_join(
-    out: &mut Vec<Piece>,
+fn put_join<'t>(
+    out: &mut Vec<Piece<'t>>,
     arguments: &Arguments,
     before: Option<&Part>,
     rest: &[Part],
@@ -236,29 +213,29 @@ fn put_join(
 }
 
 // Puts in what a part stands for, between the part before it and those behind it.
-fn put_part(
+fn put_part<'t>(
     alloc: Global,
-    out: &mut Vec<Piece>,
-    arguments: &Arguments,
+    out: &mut Vec<Piece<'t>>,
+    arguments: &Arguments<'_, 't>,
     before: Option<&Part>,
-    p: &Part,
+    p: &Part<'t>,
     rest: &[Part],
 ) -> Result<(), AllocError>
     ensures { OnOk result (map piece_of out.new.items ≡ map piece_of out.old.items
         ++ pieces_of_part (arguments_seen arguments.now) (option_map part_seen (option_copied before.entry)) (part_seen p.now) (parts_seen rest.now)) }
 {
     match p {
-        Part::Plain(t) => put_plain(alloc, out, arguments, t, rest),
-        Part::Argument(i, space) => put_argument(alloc, out, arguments, before, *i, *space, rest),
+        Part::Plain(t) => put_plain(out, arguments, t, rest),
+        Part::Argument(i, space) => put_argument(out, arguments, before, *i, *space, rest),
         Part::Spelling(i, space) => put_spelling(alloc, out, arguments, *i, *space),
         Part::Join => put_join(out, arguments, before, rest),
     }
 }
 
 // Puts in the string literal that `#` makes of an argument.
-fn put_spelling(
+fn put_spelling<'t>(
     alloc: Global,
-    out: &mut Vec<Piece>,
+    out: &mut Vec<Piece<'t>>,
     arguments: &Arguments,
     i: usize,
     space: bool,
@@ -273,11 +250,11 @@ fn put_spelling(
 }
 
 // The pieces of a replacement list. They cost its tokens, and those of the arguments that it puts in.
-pub(crate) fn read_pieces(
+pub(crate) fn read_pieces<'t>(
     alloc: Global,
-    parts: &[Part],
-    arguments: &Arguments,
-) -> Result<Vec<Piece>, AllocError>
+    parts: &[Part<'t>],
+    arguments: &Arguments<'_, 't>,
+) -> Result<Vec<Piece<'t>>, AllocError>
     ensures { IfOk result (λ out. map piece_of out.items ≡ pieces_of (arguments_seen arguments.now) None (parts_seen parts.now)) }
 {
     let mut out = Vec::with_capacity(alloc, parts.len())?;

@@ -7,7 +7,7 @@ ghost use Rattle.macro_expand.specs.Placing.{placed, IsUnion, KnowsUnion};
 
 use crate::hide_set::HideSet;
 use crate::marked::Marked;
-use pp_tokens::Token;
+use pp_tokens::TokenCow;
 use std::alloc::{AllocError, Global};
 
 // The names of a token, and the same with those that a replacement hides.
@@ -73,44 +73,45 @@ fn union_with(
 // Puts a token on the line of the name, and adds the names that the replacement hides.
 fn place(
     alloc: Global,
-    t: &Token,
+    line: u32,
     hidden: &HideSet,
     last: &mut Option<United>,
     m: &mut Marked,
 ) -> Result<(), AllocError>
     requires { KnowsUnion hidden.now last.old }
-    ensures placed { OnOk result (marked_of m.new ≡ placed t.now (names_in hidden.now) (marked_of m.old)) }
+    ensures placed { OnOk result (marked_of m.new ≡ placed line (names_in hidden.now) (marked_of m.old)) }
     ensures known { OnOk result (KnowsUnion hidden.now last.new) }
 {
     let all = union_with(alloc, last, &m.hidden, hidden)?;
-    m.token.line = t.line;
+    m.token.set_line(line);
     m.hidden = all;
     Ok(())
 }
 
 // The tokens with this space on the first.
-fn spaced(mut made: Vec<Marked>, space: bool) -> Vec<Marked>
-    ensures { map marked_of result.items ≡ with_space space (map marked_of made.items) }
+fn spaced<'t>(mut made: Vec<Marked<'t>>, space: bool) -> Vec<Marked<'t>>
+    ensures { map marked_of result.items ≡ with_space space (map marked_of made.entry.items) }
 {
     if !made.is_empty() {
-        made[0].token.space = space;
+        made[0].token.set_space(space);
     }
     made
 }
 
 // The tokens as they are put in for `t`: on its line, the first with its space, and with the names that the replacement
 // hides beside their own.
-pub(crate) fn put_in_for(
+pub(crate) fn put_in_for<'t>(
     alloc: Global,
-    t: &Token,
+    t: &TokenCow,
     hidden: &HideSet,
-    mut made: Vec<Marked>,
-) -> Result<Vec<Marked>, AllocError>
-    ensures { IfOk result (λ ts. map marked_of ts.items ≡ put_in_for t.now (names_in hidden.now) (map marked_of made.items)) }
+    mut made: Vec<Marked<'t>>,
+) -> Result<Vec<Marked<'t>>, AllocError>
+    ensures { IfOk result (λ ts. map marked_of ts.items ≡ put_in_for t.now (names_in hidden.now) (map marked_of made.entry.items)) }
 {
+    let line = t.line();
     let mut last = None;
     for m in made.iter_mut() {
-        place(alloc, t, hidden, &mut last, m)?;
+        place(alloc, line, hidden, &mut last, m)?;
     }
-    Ok(spaced(made, t.space))
+    Ok(spaced(made, t.space()))
 }

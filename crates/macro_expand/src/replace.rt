@@ -1,7 +1,8 @@
 // The replacement of one macro call (ISO C 6.10.3.1 to 6.10.3.3).
-ghost use Rattle.std.specs.Prelude.{◌≡◌, ◌≤◌, ◌<◌, ℕ, List, Some, None, Ok, Err, map, length, get_or, false, ◌++◌, ◌∷◌, [], ◌&&◌, if◌then◌else◌, IfOk, IfErr, OnOk, position, bytes_eq};
+ghost use Rattle.std.specs.Prelude.{◌≡◌, ◌≤◌, ◌<◌, ℕ, List, Some, None, Ok, Err, map, length, get_or, false, ◌++◌, ◌∷◌, [], ◌&&◌, if◌then◌else◌, IfOk, IfErr, OnOk};
 ghost use Rattle.macro_defs.specs.MacroDefinition.{without_line};
-ghost use Rattle.macro_expand.specs.Replacement.{parts_after, parts_of, one_joins, stands_alone, object_parts, argument_named, is_join, first_part, with_name, common_names, replacement};
+ghost use Rattle.macro_defs.specs.Arguments.{parameters_in};
+ghost use Rattle.macro_expand.specs.Replacement.{parts_after, parts_of, one_joins, stands_alone, object_parts, is_join, first_part, with_name, common_names, replacement};
 ghost use Rattle.macro_expand.specs.Parts.{operand_part, part_of, begins_spelling, object_part, Marks};
 ghost use Rattle.macro_expand.specs.Pieces.{arguments_seen};
 ghost use Rattle.macro_expand.specs.Sets.{names_in};
@@ -30,24 +31,6 @@ pub(crate) enum Part<'d> {
     Join,
 }
 
-// The number of the parameter of this name. It costs a comparison for each parameter before it.
-fn parameter_number(params: &[Bytes], name: &[u8]) -> Option<usize>
-    ensures { result ≡ position (bytes_eq name.now) params.now }
-{
-    params.iter().position(|p| name == p.as_slice())
-}
-
-// The number of the parameter that a token names.
-fn parameter_named(params: &[Bytes], t: &Token) -> Option<usize>
-    ensures { result ≡ argument_named params.now t.now }
-{
-    if t.is_identifier() {
-        parameter_number(params, t.text.as_slice())
-    } else {
-        None
-    }
-}
-
 // What a token that is no join stands for, by the parameter that it names.
 fn operand_at<'d>(hash: Option<bool>, t: &'d Token, parameter: Option<usize>) -> Part<'d>
     ensures { part_seen result ≡ operand_part hash (without_line t.now) parameter }
@@ -62,22 +45,23 @@ fn operand_at<'d>(hash: Option<bool>, t: &'d Token, parameter: Option<usize>) ->
 }
 
 // What a token stands for that no `#` stands before.
-fn unhashed_part<'d>(params: &[Bytes], t: &'d Token) -> Part<'d>
-    ensures { part_seen result ≡ part_of None params.now (without_line t.now) }
+fn unhashed_part<'d>(t: &'d Token, parameter: Option<usize>) -> Part<'d>
+    ensures { part_seen result ≡ part_of None (without_line t.now) parameter }
 {
     if t.is_pasting() {
         return Part::Join;
     }
-    operand_at(None, t, parameter_named(params, t))
+    operand_at(None, t, parameter)
 }
 
-// What a token of a function-like macro's replacement list stands for; `hash` is the space of a `#` right before it.
-fn part_at<'d>(hash: Option<bool>, params: &[Bytes], t: &'d Token) -> Part<'d>
-    ensures { part_seen result ≡ part_of hash params.now (without_line t.now) }
+// What a token of a function-like macro's replacement list stands for, by the parameter that it names; `hash` is the space of
+// a `#` right before it.
+fn part_at<'d>(hash: Option<bool>, t: &'d Token, parameter: Option<usize>) -> Part<'d>
+    ensures { part_seen result ≡ part_of hash (without_line t.now) parameter }
 {
     match hash {
-        None => unhashed_part(params, t),
-        Some(space) => operand_at(Some(space), t, parameter_named(params, t)),
+        None => unhashed_part(t, parameter),
+        Some(space) => operand_at(Some(space), t, parameter),
     }
 }
 
@@ -92,20 +76,17 @@ fn begins_spelling(hash: Option<bool>, t: &Token) -> bool
 }
 
 // What the tokens of a function-like macro's replacement list stand for.
-fn read_each_part<'d>(
-    alloc: Global,
-    params: &[Bytes],
-    body: &'d [Token],
-) -> Result<Vec<Part<'d>>, AllocError>
-    ensures { IfOk result (λ parts. parts_seen parts.items ≡ parts_after None params.now (map without_line body.now)) }
+fn read_each_part<'d>(alloc: Global, d: &'d Definition) -> Result<Vec<Part<'d>>, AllocError>
+    ensures { IfOk result (λ parts. parts_seen parts.items ≡ parts_after None (parameters_in d.now.shape) d.now.body) }
 {
+    let body = d.body();
     let mut parts = Vec::with_capacity(alloc, body.len())?;
     let mut hash = None;
-    for t in body {
+    for (place, t) in body.iter().enumerate() {
         if begins_spelling(hash, t) {
             hash = Some(t.space);
         } else {
-            parts.push(part_at(hash, params, t))?;
+            parts.push(part_at(hash, t, d.parameter_at(place)))?;
             hash = None;
         }
     }
@@ -113,14 +94,10 @@ fn read_each_part<'d>(
 }
 
 // The parts of a function-like macro's replacement list, with `##` several times in a row as one.
-pub(crate) fn read_parts<'d>(
-    alloc: Global,
-    params: &[Bytes],
-    body: &'d [Token],
-) -> Result<Vec<Part<'d>>, AllocError>
-    ensures { IfOk result (λ parts. parts_seen parts.items ≡ parts_of params.now (map without_line body.now)) }
+pub(crate) fn read_parts<'d>(alloc: Global, d: &'d Definition) -> Result<Vec<Part<'d>>, AllocError>
+    ensures { IfOk result (λ parts. parts_seen parts.items ≡ parts_of (parameters_in d.now.shape) d.now.body) }
 {
-    let each = read_each_part(alloc, params, body)?;
+    let each = read_each_part(alloc, d)?;
     with_one_joins(alloc, each.as_slice())
 }
 
@@ -230,13 +207,13 @@ pub(crate) fn variable_number(params: &[Bytes], variadic: bool) -> Option<usize>
 }
 
 // What a name is replaced by, over the parts of its replacement list and its arguments: their pieces, joined and put in.
-fn replaced(
+fn replaced<'d>(
     alloc: Global,
     t: &Marked,
     hidden: &HideSet,
-    parts: &[Part],
-    arguments: &Arguments,
-) -> Result<Vec<Marked>, RunError>
+    parts: &[Part<'d>],
+    arguments: &Arguments<'_, 'd>,
+) -> Result<Vec<Marked<'d>>, RunError>
     ensures ok { IfOk result (λ ts. replacement t.now.token (names_in hidden.now) (parts_seen parts.now) (arguments_seen arguments.now)
         ≡ Ok (map marked_of ts.items)) }
     ensures err { IfErr result (λ e. Reports e
@@ -252,7 +229,7 @@ fn replaced(
 fn hidden_by_name(alloc: Global, t: &Marked) -> Result<HideSet, AllocError>
     ensures { IfOk result (λ h. (n : List ℕ) → names_in h n ≡ with_name t.now.token.text (names_in t.now.hidden) n) }
 {
-    t.hidden.with(alloc, t.token.text.as_slice())
+    t.hidden.with(alloc, t.token.text())
 }
 
 // The names that a call's replacement hides: those that its name and its `)` both hide, and itself (6.10.3.4).
@@ -261,15 +238,15 @@ fn hidden_by_call(alloc: Global, t: &Marked, close: &Marked) -> Result<HideSet, 
         ≡ with_name t.now.token.text (common_names (names_in t.now.hidden) (names_in close.now.hidden)) n) }
 {
     let common = t.hidden.common(alloc, &close.hidden)?;
-    common.with(alloc, t.token.text.as_slice())
+    common.with(alloc, t.token.text())
 }
 
 // What the name of an object-like macro is replaced by.
-pub(crate) fn object_tokens(
+pub(crate) fn object_tokens<'d>(
     alloc: Global,
     t: &Marked,
-    d: &Definition,
-) -> Result<Vec<Marked>, RunError>
+    d: &'d Definition,
+) -> Result<Vec<Marked<'d>>, RunError>
     ensures ok { IfOk result (λ ts. object_replacement (marked_of t.now) d.now.body ≡ Ok (map marked_of ts.items)) }
     ensures err { IfErr result (λ e. Reports e (object_replacement (marked_of t.now) d.now.body)) }
 {
@@ -284,14 +261,14 @@ pub(crate) fn object_tokens(
 }
 
 // What a call is replaced by.
-pub(crate) fn call_tokens(
+pub(crate) fn call_tokens<'d>(
     alloc: Global,
     t: &Marked,
-    parts: &[Part],
+    parts: &[Part<'d>],
     variable: Option<usize>,
-    call: &ReadCall,
-    expanded: &[Vec<Marked>],
-) -> Result<Vec<Marked>, RunError>
+    call: &ReadCall<'d>,
+    expanded: &[Vec<Marked<'d>>],
+) -> Result<Vec<Marked<'d>>, RunError>
     ensures ok { IfOk result (λ ts. call_replaced_by t.now (parts_seen parts.now) variable (lists_of call.now.written.items)
         (marked_of call.now.close) (lists_of expanded.now) ≡ Ok (map marked_of ts.items)) }
     ensures err { IfErr result (λ e. Reports e (call_replaced_by t.now (parts_seen parts.now) variable

@@ -4,10 +4,9 @@ ghost use Rattle.pp_tokens.specs.Marks.{is_literal};
 ghost use Rattle.macro_expand.specs.Replacement.{escaped, spelling_of, spellings, stringized};
 ghost use Rattle.macro_expand.specs.Seen.{marked_of};
 
-use crate::hide_set::HideSet;
 use crate::marked::Marked;
 use base_types::Bytes;
-use pp_tokens::{Kind, Token};
+use pp_tokens::{Kind, Token, TokenCow};
 use std::alloc::{AllocError, Global};
 
 // Whether a byte has a `\` before it in a literal.
@@ -38,13 +37,13 @@ fn put_escaped(text: &mut Vec<u8>, literal: &[u8]) -> Result<(), AllocError>
 }
 
 // Adds the spelling of a token, as it stands within a literal.
-fn put_token(text: &mut Vec<u8>, t: &Token) -> Result<(), AllocError>
+fn put_token(text: &mut Vec<u8>, t: &TokenCow) -> Result<(), AllocError>
     ensures { OnOk result (text.new.items ≡ text.old.items ++ spelling_of t.now) }
 {
     if t.is_literal() {
-        return put_escaped(text, t.text.as_slice());
+        return put_escaped(text, t.text());
     }
-    text.extend_from_slice(t.text.as_slice())
+    text.extend_from_slice(t.text())
 }
 
 // Adds a space where one is wanted.
@@ -58,10 +57,10 @@ fn put_space(text: &mut Vec<u8>, wanted: bool) -> Result<(), AllocError>
 }
 
 // Whether white space stands between a token and the one before it.
-fn is_spaced(first: bool, t: &Token) -> bool
+fn is_spaced(first: bool, t: &TokenCow) -> bool
     ensures { result ≡ (t.now.space && not first) }
 {
-    t.space && !first
+    t.space() && !first
 }
 
 // Adds the spellings of tokens, with one space where white space stands between two.
@@ -89,21 +88,19 @@ fn literal_of(alloc: Global, tokens: &[Marked]) -> Result<Vec<u8>, AllocError>
 }
 
 // The string literal that `#` makes of an argument, with the space of the `#`. It costs the length of the spellings.
-pub(crate) fn stringized(
+pub(crate) fn stringized<'t>(
     alloc: Global,
     space: bool,
     tokens: &[Marked],
-) -> Result<Marked, AllocError>
+) -> Result<Marked<'t>, AllocError>
     ensures { IfOk result (λ m. marked_of m ≡ stringized space (map marked_of tokens.now)) }
 {
     let text = Bytes::of(literal_of(alloc, tokens)?);
-    Ok(Marked {
-        token: Token {
-            kind: Kind::Str,
-            text,
-            line: 0,
-            space,
-        },
-        hidden: HideSet::none(alloc),
-    })
+    let token = Token {
+        kind: Kind::Str,
+        text,
+        line: 0,
+        space,
+    };
+    Ok(Marked::plain(TokenCow::owned(alloc, token)?))
 }

@@ -16,8 +16,8 @@ expand_argument-returns-then-not-alone-clause-ok g t c =
 
 pub expand_argument-returns-then-depth-ge-DEEPEST-clause-err : goal.expand_argument-returns-then-depth-ge-DEEPEST-clause-err
 expand_argument-returns-then-depth-ge-DEEPEST-clause-err g t c =
-    argument_deep (g.A.Answers.answerer c.args.source.now) c.args.answers.now c.args.mode c.args.depth c.args.work.now.left c.args.t.now.token c.args.alone c.args.argument.items
-    c.if-not-alone.false c.if-depth-ge-DEEPEST.true
+    rw c.line.ensures (argument_deep (g.A.Answers.answerer c.args.source.now) c.args.answers.now c.args.mode c.args.depth c.args.work.now.left c.args.t.now.token c.args.alone c.args.argument.items
+    c.if-not-alone.false c.if-depth-ge-DEEPEST.true)
 
 pub expand_argument-returns-clause-ok : goal.expand_argument-returns-clause-ok
 expand_argument-returns-clause-ok g t c =
@@ -75,52 +75,52 @@ pub expand_call-returns-in_err-expanded-clause-err : goal.expand_call-returns-in
 expand_call-returns-in_err-expanded-clause-err g t c =
     let p = err_from_is_err_and c.from_residual.result c.from_residual.ensures.1 in
     rw (p.1, p.2) (argument_stops (g.A.Answers.answerer c.args.source.now) c.args.answers.now c.expand_arguments.new.answers c.args.mode c.args.depth c.args.work.now.left c.args.t.now c.args.call.now
-    (lists_of c.args.written.items) (map marked_of c.args.pending.now.items) _ c.in_err-expanded.ensures.err)
+    (lists_of c.args.written.items) (map marked_of c.args.pending.now) _ c.in_err-expanded.ensures.err)
 
 pub expand_call-returns-in_err-made-clause-err : goal.expand_call-returns-in_err-made-clause-err
 expand_call-returns-in_err-made-clause-err g t c =
     let p = err_from_is_err_and c.from_residual-in_err-made.result c.from_residual-in_err-made.ensures.1 in
     rw (p.1, p.2) (paste_stops (g.A.Answers.answerer c.args.source.now) c.args.answers.now c.expand_arguments.new.answers c.args.mode c.args.depth c.args.work.now.left c.args.t.now c.args.call.now
-    (lists_of c.args.written.items) (map marked_of c.args.pending.now.items)
+    (lists_of c.args.written.items) (map marked_of c.args.pending.now)
     (lists_of c.in_ok-expanded.expanded.items) c.expand_arguments.new.work.left c.in_ok-expanded.ensures.ok _
     (rw (c.as_slice-parts.ensures.value, c.as_slice.ensures.value) at c.in_err-made.ensures.err))
 
 pub expand_call-returns-clause-ok : goal.expand_call-returns-clause-ok
 expand_call-returns-clause-ok g t c =
     on_ok-both c.put_in.result
-    (put_in-paid (g.A.Answers.answerer c.args.source.now) c.args.mode c.args.depth c.expand_arguments.new.answers c.expand_arguments.new.work.left c.in_ok-made.made.items c.args.pending.now.items
+    (put_in-paid (g.A.Answers.answerer c.args.source.now) c.args.mode c.args.depth c.expand_arguments.new.answers c.expand_arguments.new.work.left c.in_ok-made.made.items c.args.pending.now
     (called_for (g.A.Answers.answerer c.args.source.now) c.args.answers.now c.args.mode c.args.depth c.args.work.now.left c.args.t.now c.args.call.now (lists_of c.args.written.items)
-    (map marked_of c.args.pending.now.items))
+    (map marked_of c.args.pending.now))
     (call_replaced (g.A.Answers.answerer c.args.source.now) c.args.answers.now c.expand_arguments.new.answers c.args.mode c.args.depth c.args.work.now.left c.args.t.now c.args.call.now
-    (lists_of c.args.written.items) (map marked_of c.args.pending.now.items)
+    (lists_of c.args.written.items) (map marked_of c.args.pending.now)
     (lists_of c.in_ok-expanded.expanded.items) c.expand_arguments.new.work.left c.in_ok-expanded.ensures.ok c.in_ok-made.made.items
     (rw (c.as_slice-parts.ensures.value, c.as_slice.ensures.value) at c.in_ok-made.ensures.ok))
-    c.put_in.new.work.left c.put_in.new.pending.items) c.put_in.ensures.ok c.put_in.ensures.paid
+    c.put_in.new.work.left c.put_in.new.pending) c.put_in.ensures.ok c.put_in.ensures.paid
 
 pub expand_call-returns-clause-err : goal.expand_call-returns-clause-err
 expand_call-returns-clause-err g t c =
-    put_in-stops (g.A.Answers.answerer c.args.source.now) c.args.mode c.args.depth c.expand_arguments.new.answers c.expand_arguments.new.work.left c.in_ok-made.made.items c.args.pending.now.items
+    put_in-stops (g.A.Answers.answerer c.args.source.now) c.args.mode c.args.depth c.expand_arguments.new.answers c.expand_arguments.new.work.left c.in_ok-made.made.items c.args.pending.now
     (called_for (g.A.Answers.answerer c.args.source.now) c.args.answers.now c.args.mode c.args.depth c.args.work.now.left c.args.t.now c.args.call.now (lists_of c.args.written.items)
-    (map marked_of c.args.pending.now.items))
+    (map marked_of c.args.pending.now))
     (call_replaced (g.A.Answers.answerer c.args.source.now) c.args.answers.now c.expand_arguments.new.answers c.args.mode c.args.depth c.args.work.now.left c.args.t.now c.args.call.now
-    (lists_of c.args.written.items) (map marked_of c.args.pending.now.items)
+    (lists_of c.args.written.items) (map marked_of c.args.pending.now)
     (lists_of c.in_ok-expanded.expanded.items) c.expand_arguments.new.work.left c.in_ok-expanded.ensures.ok c.in_ok-made.made.items
     (rw (c.as_slice-parts.ensures.value, c.as_slice.ensures.value) at c.in_ok-made.ensures.ok))
     c.put_in.result c.put_in.ensures.err
 
 pub expand_head-returns-in-Ordinary-clause-ok : goal.expand_head-returns-in-Ordinary-clause-ok
 expand_head-returns-in-Ordinary-clause-ok g t c =
-    on_ok-map c.put.result (goes_on-ordinary (g.A.Answers.answerer c.args.source.now) c.args.mode c.args.depth c.args.answers.now c.args.work.now.left c.args.t c.args.out.now.items c.put.new.out.items c.args.pending.now.items (sym c.in-Ordinary.ensures)) c.put.ensures.ok
+    on_ok-map c.put.result (goes_on-ordinary (g.A.Answers.answerer c.args.source.now) c.args.mode c.args.depth c.args.answers.now c.args.work.now.left c.args.t c.args.out.now.items c.put.new.out.items c.args.pending.now (sym c.in-Ordinary.ensures)) c.put.ensures.ok
 
 pub expand_list-loop-t-init : goal.expand_list-loop-t-init
 expand_list-loop-t-init g t c =
-    (rw c.new-out.ensures.items (sym (before-nothing _)), omega arith)
+    (rw (c.new-out.ensures.items, c.of-pending.ensures) (sym (before-nothing _)), omega arith)
 
 pub expand_list-loop-t-preserved : goal.expand_list-loop-t-preserved
 expand_list-loop-t-preserved g t c = (
   keeps_step (g.A.Answers.answerer c.args.source.now) c.args.mode c.args.depth
-      (expanded_for (g.A.Answers.answerer c.args.source.now) c.args.answers.now c.args.mode c.args.depth c.args.work.now.left (map marked_of c.args.pending.items))
-      c.loop-t.out.items c.expand_head.new.out.items c.in-Some.t c.loop-t.answers c.expand_head.new.answers c.loop-t.work.left c.expand_head.new.work.left c.loop-t.pending.items c.pop_front.new.self.items c.expand_head.new.pending.items c.in-Some.ensures.items c.in_ok-expand_head.ensures.ok c.loop-t.invariant.0,
+      (expanded_for (g.A.Answers.answerer c.args.source.now) c.args.answers.now c.args.mode c.args.depth c.args.work.now.left (map marked_of c.args.given.items))
+      c.loop-t.out.items c.expand_head.new.out.items c.in-Some.t c.loop-t.answers c.expand_head.new.answers c.loop-t.work.left c.expand_head.new.work.left c.loop-t.pending c.pop.new.self c.expand_head.new.pending c.in-Some.ensures.first c.in_ok-expand_head.ensures.ok c.loop-t.invariant.0,
   omega (arith, c.in_ok-expand_head.ensures.spends, c.loop-t.invariant.1),
 )
 
@@ -128,49 +128,49 @@ pub expand_list-returns-in_err-expand_head-clause-err : goal.expand_list-returns
 expand_list-returns-in_err-expand_head-clause-err g t c =
     let p = err_from_is_err_and c.from_residual.result c.from_residual.ensures.1 in
     rw (p.1, p.2) (stops_step (g.A.Answers.answerer c.args.source.now) c.args.mode c.args.depth
-    (expanded_for (g.A.Answers.answerer c.args.source.now) c.args.answers.now c.args.mode c.args.depth c.args.work.now.left (map marked_of c.args.pending.items))
-    c.loop-t.out.items c.in-Some.t c.loop-t.answers c.expand_head.new.answers c.loop-t.work.left c.loop-t.pending.items c.pop_front.new.self.items _ c.in-Some.ensures.items c.in_err-expand_head.ensures.err c.loop-t.invariant.0)
+    (expanded_for (g.A.Answers.answerer c.args.source.now) c.args.answers.now c.args.mode c.args.depth c.args.work.now.left (map marked_of c.args.given.items))
+    c.loop-t.out.items c.in-Some.t c.loop-t.answers c.expand_head.new.answers c.loop-t.work.left c.loop-t.pending c.pop.new.self _ c.in-Some.ensures.first c.in_err-expand_head.ensures.err c.loop-t.invariant.0)
 
 pub expand_list-returns-clause-ok : goal.expand_list-returns-clause-ok
 expand_list-returns-clause-ok g t c =
     keeps_end (g.A.Answers.answerer c.args.source.now) c.args.mode c.args.depth
-    (expanded_for (g.A.Answers.answerer c.args.source.now) c.args.answers.now c.args.mode c.args.depth c.args.work.now.left (map marked_of c.args.pending.items))
-    c.loop-t.out.items c.loop-t.answers c.loop-t.work.left c.loop-t.pending.items (nil_from_length c.loop-t.pending.items (omega (arith, c.in_default.ensures.cases.0, c.loop-t.pending.ok.0))) c.loop-t.invariant.0
+    (expanded_for (g.A.Answers.answerer c.args.source.now) c.args.answers.now c.args.mode c.args.depth c.args.work.now.left (map marked_of c.args.given.items))
+    c.loop-t.out.items c.loop-t.answers c.loop-t.work.left c.loop-t.pending c.in_default.ensures.first.0 c.loop-t.invariant.0
 
 pub expand_name-returns-in-Itself-clause-ok : goal.expand_name-returns-in-Itself-clause-ok
 expand_name-returns-in-Itself-clause-ok g t c =
     on_ok-map c.put.result
-    (goes_on-left (g.A.Answers.answerer c.args.source.now) c.args.mode c.args.depth c.args.answers.now c.read_name.new.answers c.args.work.now.left c.args.t c.args.out.now.items c.put.new.out.items c.args.pending.now.items
-    c.read_name.new.pending.items (c.in_ok-read_name.ensures.ok c.args.mode c.args.depth c.args.work.now.left c.requires.role
-    ∙ ap (λ n. named_for (g.A.Answers.answerer c.args.source.now) c.read_name.new.answers c.args.mode c.args.depth c.args.work.now.left c.args.t n (map marked_of c.read_name.new.pending.items)) c.in-Itself.is)) c.put.ensures.ok
+    (goes_on-left (g.A.Answers.answerer c.args.source.now) c.args.mode c.args.depth c.args.answers.now c.read_name.new.answers c.args.work.now.left c.args.t c.args.out.now.items c.put.new.out.items c.args.pending.now
+    c.read_name.new.pending (c.in_ok-read_name.ensures.ok c.args.mode c.args.depth c.args.work.now.left c.requires.role
+    ∙ ap (λ n. named_for (g.A.Answers.answerer c.args.source.now) c.read_name.new.answers c.args.mode c.args.depth c.args.work.now.left c.args.t n (map marked_of c.read_name.new.pending)) c.in-Itself.is)) c.put.ensures.ok
 
 pub expand_name-returns-in-Object-clause-ok : goal.expand_name-returns-in-Object-clause-ok
 expand_name-returns-in-Object-clause-ok g t c =
     on_ok-both c.put_in.result
     (λ joined paid. goes_on-behind (g.A.Answers.answerer c.args.source.now) c.args.mode c.args.depth c.args.answers.now c.read_name.new.answers c.args.work.now.left c.put_in.new.work.left c.args.t c.args.out.now.items
-    c.args.pending.now.items c.put_in.new.pending.items
-    (put_in-paid (g.A.Answers.answerer c.args.source.now) c.args.mode c.args.depth c.read_name.new.answers c.args.work.now.left c.in-Object.made.items c.read_name.new.pending.items
-    (expanded_for (g.A.Answers.answerer c.args.source.now) c.args.answers.now c.args.mode c.args.depth c.args.work.now.left (marked_of c.args.t ∷ map marked_of c.args.pending.now.items))
+    c.args.pending.now c.put_in.new.pending
+    (put_in-paid (g.A.Answers.answerer c.args.source.now) c.args.mode c.args.depth c.read_name.new.answers c.args.work.now.left c.in-Object.made.items c.read_name.new.pending
+    (expanded_for (g.A.Answers.answerer c.args.source.now) c.args.answers.now c.args.mode c.args.depth c.args.work.now.left (marked_of c.args.t ∷ map marked_of c.args.pending.now))
     (c.in_ok-read_name.ensures.ok c.args.mode c.args.depth c.args.work.now.left c.requires.role
-    ∙ ap (λ n. named_for (g.A.Answers.answerer c.args.source.now) c.read_name.new.answers c.args.mode c.args.depth c.args.work.now.left c.args.t n (map marked_of c.read_name.new.pending.items)) c.in-Object.is) c.put_in.new.work.left c.put_in.new.pending.items joined paid)) c.put_in.ensures.ok c.put_in.ensures.paid
+    ∙ ap (λ n. named_for (g.A.Answers.answerer c.args.source.now) c.read_name.new.answers c.args.mode c.args.depth c.args.work.now.left c.args.t n (map marked_of c.read_name.new.pending)) c.in-Object.is) c.put_in.new.work.left c.put_in.new.pending joined paid)) c.put_in.ensures.ok c.put_in.ensures.paid
 
 pub expand_name-returns-in-Object-clause-err : goal.expand_name-returns-in-Object-clause-err
 expand_name-returns-in-Object-clause-err g t c =
-    put_in-stops (g.A.Answers.answerer c.args.source.now) c.args.mode c.args.depth c.read_name.new.answers c.args.work.now.left c.in-Object.made.items c.read_name.new.pending.items
-    (expanded_for (g.A.Answers.answerer c.args.source.now) c.args.answers.now c.args.mode c.args.depth c.args.work.now.left (marked_of c.args.t ∷ map marked_of c.args.pending.now.items))
+    put_in-stops (g.A.Answers.answerer c.args.source.now) c.args.mode c.args.depth c.read_name.new.answers c.args.work.now.left c.in-Object.made.items c.read_name.new.pending
+    (expanded_for (g.A.Answers.answerer c.args.source.now) c.args.answers.now c.args.mode c.args.depth c.args.work.now.left (marked_of c.args.t ∷ map marked_of c.args.pending.now))
     (c.in_ok-read_name.ensures.ok c.args.mode c.args.depth c.args.work.now.left c.requires.role
-    ∙ ap (λ n. named_for (g.A.Answers.answerer c.args.source.now) c.read_name.new.answers c.args.mode c.args.depth c.args.work.now.left c.args.t n (map marked_of c.read_name.new.pending.items)) c.in-Object.is) c.put_in.result c.put_in.ensures.err
+    ∙ ap (λ n. named_for (g.A.Answers.answerer c.args.source.now) c.read_name.new.answers c.args.mode c.args.depth c.args.work.now.left c.args.t n (map marked_of c.read_name.new.pending)) c.in-Object.is) c.put_in.result c.put_in.ensures.err
 
 pub expand_name-returns-in-Call-clause-ok : goal.expand_name-returns-in-Call-clause-ok
 expand_name-returns-in-Call-clause-ok g t c =
     on_ok-map c.expand_call.result
     (λ called. goes_on-behind (g.A.Answers.answerer c.args.source.now) c.args.mode c.args.depth c.args.answers.now c.expand_call.new.answers c.args.work.now.left c.expand_call.new.work.left c.args.t c.args.out.now.items
-    c.args.pending.now.items c.expand_call.new.pending.items
+    c.args.pending.now c.expand_call.new.pending
     ((c.in_ok-read_name.ensures.ok c.args.mode c.args.depth c.args.work.now.left c.requires.role
-    ∙ ap (λ n. named_for (g.A.Answers.answerer c.args.source.now) c.read_name.new.answers c.args.mode c.args.depth c.args.work.now.left c.args.t n (map marked_of c.read_name.new.pending.items)) c.in-Call.is) ∙ called)) c.expand_call.ensures.ok
+    ∙ ap (λ n. named_for (g.A.Answers.answerer c.args.source.now) c.read_name.new.answers c.args.mode c.args.depth c.args.work.now.left c.args.t n (map marked_of c.read_name.new.pending)) c.in-Call.is) ∙ called)) c.expand_call.ensures.ok
 
 pub expand_name-returns-in-Call-clause-err : goal.expand_name-returns-in-Call-clause-err
 expand_name-returns-in-Call-clause-err g t c =
     if_err-map c.expand_call.result
     (λ e. Stops-is e _ _ _ (c.in_ok-read_name.ensures.ok c.args.mode c.args.depth c.args.work.now.left c.requires.role
-    ∙ ap (λ n. named_for (g.A.Answers.answerer c.args.source.now) c.read_name.new.answers c.args.mode c.args.depth c.args.work.now.left c.args.t n (map marked_of c.read_name.new.pending.items)) c.in-Call.is)) c.expand_call.ensures.err
+    ∙ ap (λ n. named_for (g.A.Answers.answerer c.args.source.now) c.read_name.new.answers c.args.mode c.args.depth c.args.work.now.left c.args.t n (map marked_of c.read_name.new.pending)) c.in-Call.is)) c.expand_call.ensures.err

@@ -37,10 +37,10 @@ decreases-expand_arguments-loop-argument g l = deque_len l.left
 -- the tokens put out so far, before what the pending tokens become with the work that is left
 abbrev pub invariant-expand_list-loop-t : goal.invariant-expand_list-loop-t
 invariant-expand_list-loop-t g l =
-    (expanded_for (g.A.Answers.answerer l.source) l.initial.answers l.mode l.depth l.initial.work.left (map marked_of l.initial.pending.items)
+    (expanded_for (g.A.Answers.answerer l.source) l.initial.answers l.mode l.depth l.initial.work.left (map marked_of l.fn.given.items)
     ≡ before (map marked_of l.out.items)
-    (expanded_for (g.A.Answers.answerer l.source) l.answers l.mode l.depth l.work.left (map marked_of l.pending.items)))
+    (expanded_for (g.A.Answers.answerer l.source) l.answers l.mode l.depth l.work.left (map marked_of l.pending)))
     × (l.work.left ≤ l.initial.work.left)
 
 abbrev pub decreases-expand_list-loop-t : goal.decreases-expand_list-loop-t
-decreases-expand_list-loop-t g l = l.work.left + deque_len l.pending
+decreases-expand_list-loop-t g l = l.work.left + length l.pending

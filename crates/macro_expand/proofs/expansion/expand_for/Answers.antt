@@ -1,5 +1,7 @@
-use Rattle.std.proofs.Common.{[], ap, sym, ◌∙◌, arith}
-use Rattle.std.proofs.lemmas.List.{nil_from_length}
+use Rattle.std.proofs.Common.{List, map, [], ap, sym, ◌∙◌, arith}
+use Rattle.macro_expand.specs.declared.marked.Marked.{Marked as Kept}
+use Rattle.macro_expand.specs.Seen.{marked_of}
+use Rattle.macro_expand.proofs.PendingLemmas.{plain_unmarked}
 use Rattle.std.proofs.lemmas.Result.{err_from_is_err_and}
 use Rattle.macro_expand.specs.Answered.{expanded_for}
 use Rattle.macro_expand.proofs.AnsweredLaws.{before-nothing}
@@ -11,7 +13,8 @@ loop-t-init g c = (
   (
     [],
     (
-      ap (expanded_for (g.A.Answers.answerer c.args.source.now) c.args.answers.now c.args.mode 0 c.args.work.now.left) (sym c.in_ok-pending.ensures)
+      ap (expanded_for (g.A.Answers.answerer c.args.source.now) c.args.answers.now c.args.mode 0 c.args.work.now.left)
+          (sym (ap (λ (l : List Kept). map marked_of l) c.over-pending.ensures ∙ plain_unmarked c.args.run.now))
           ∙ sym (before-nothing _),
       c.new-out.ensures.items,
     ),
@@ -22,20 +25,20 @@ loop-t-init g c = (
 pub loop-t-preserved : goal.loop-t-preserved
 loop-t-preserved g c = (
   keeps_tokens_step (g.A.Answers.answerer c.args.source.now) c.args.mode 0 _ c.loop-t.out.items c.keep_tokens.new.out.items c.loop-t.step.items c.expand_head.new.out.items c.in-Some.t
-      c.loop-t.answers c.expand_head.new.answers c.loop-t.work.left c.expand_head.new.work.left c.loop-t.pending.items _ c.expand_head.new.pending.items
-      c.in-Some.ensures.items c.loop-t.invariant.1.0 c.in_ok-expand_head.ensures.ok c.in_ok-keep_tokens.ensures.ok c.loop-t.invariant.0,
+      c.loop-t.answers c.expand_head.new.answers c.loop-t.work.left c.expand_head.new.work.left c.loop-t.pending _ c.expand_head.new.pending
+      c.in-Some.ensures.first c.loop-t.invariant.1.0 c.in_ok-expand_head.ensures.ok c.in_ok-keep_tokens.ensures.ok c.loop-t.invariant.0,
   (c.in_ok-keep_tokens.ensures.emptied, omega (arith, c.in_ok-expand_head.ensures.spends, c.loop-t.invariant.1.1)),
 )
 
 pub returns-in_err-expand_head-clause-err : goal.returns-in_err-expand_head-clause-err
 returns-in_err-expand_head-clause-err g c =
-    let p = err_from_is_err_and c.from_residual-in_err-expand_head.result c.from_residual-in_err-expand_head.ensures.1 in
+    let p = err_from_is_err_and c.from_residual.result c.from_residual.ensures.1 in
     rw (p.1, p.2)
     (stops_tokens_step (g.A.Answers.answerer c.args.source.now) c.args.mode 0 _ c.loop-t.out.items c.in-Some.t c.loop-t.answers c.expand_head.new.answers
-    c.loop-t.work.left c.loop-t.pending.items _ _ c.in-Some.ensures.items c.in_err-expand_head.ensures.err c.loop-t.invariant.0)
+    c.loop-t.work.left c.loop-t.pending _ _ c.in-Some.ensures.first c.in_err-expand_head.ensures.err c.loop-t.invariant.0)
 
 pub returns-clause-ok : goal.returns-clause-ok
 returns-clause-ok g c =
     rw c.of.ensures
-    (keeps_tokens_end (g.A.Answers.answerer c.args.source.now) c.args.mode 0 _ c.loop-t.out.items c.loop-t.answers c.loop-t.work.left c.loop-t.pending.items
-    (nil_from_length c.loop-t.pending.items (omega (arith, c.in_default.ensures.cases.0, c.loop-t.pending.ok.0))) c.loop-t.invariant.0)
+    (keeps_tokens_end (g.A.Answers.answerer c.args.source.now) c.args.mode 0 _ c.loop-t.out.items c.loop-t.answers c.loop-t.work.left c.loop-t.pending
+    c.in_default.ensures.first.0 c.loop-t.invariant.0)

@@ -1,6 +1,6 @@
 use Rattle.std.proofs.Common.{ℕ, List, map, ap, sym, ◌∙◌, refl}
 use Rattle.std.proofs.lemmas.Result.{err_from_is_err_and}
-use Rattle.macro_defs.specs.MacroDefinition.{without_line}
+use Rattle.macro_defs.specs.Arguments.{parameters_in}
 use Rattle.macro_expand.specs.Replacement.{parts_of}
 use Rattle.macro_expand.specs.Expansion.{variable_of}
 use Rattle.macro_expand.specs.Seen.{marked_of, lists_of, parts_seen}
@@ -9,41 +9,41 @@ use Rattle.macro_expand.proofs.name.read_name.Goals as goal
 
 pub returns-in_default-clause-ok : goal.returns-in_default-clause-ok
 returns-in_default-clause-ok g c =
-    λ mode depth units role. head_undefined (g.A.Answers.answerer c.args.source.now) c.args.answers.now c.definition.new.self mode depth units c.args.t.now c.args.pending.now.items role (rw c.as_slice.ensures at c.in_ok-d.ensures.state) (rw (c.in_default.is, c.as_slice.ensures) at c.in_ok-d.ensures.answer)
+    λ mode depth units role. head_undefined (g.A.Answers.answerer c.args.source.now) c.args.answers.now c.definition.new.self mode depth units c.args.t.now c.args.pending.now role (rw c.text.ensures at c.in_ok-d.ensures.state) (rw (c.in_default.is, c.text.ensures) at c.in_ok-d.ensures.answer)
 
 pub returns-in_err-object_tokens-in-Object-clause-err : goal.returns-in_err-object_tokens-in-Object-clause-err
 returns-in_err-object_tokens-in-Object-clause-err g c =
     let p = err_from_is_err_and c.from_residual-in_err-object_tokens-in-Object.result c.from_residual-in_err-object_tokens-in-Object.ensures.1 in
     rw (p.1, p.2)
-    (λ mode depth units role. head_object_error (g.A.Answers.answerer c.args.source.now) c.args.answers.now c.definition.new.self mode depth units c.args.t.now c.args.pending.now.items role (rw c.as_slice.ensures at c.in_ok-d.ensures.state) c.in-Some.d.now (rw (c.in-Some.is, c.as_slice.ensures) at c.in_ok-d.ensures.answer)
+    (λ mode depth units role. head_object_error (g.A.Answers.answerer c.args.source.now) c.args.answers.now c.definition.new.self mode depth units c.args.t.now c.args.pending.now role (rw c.text.ensures at c.in_ok-d.ensures.state) c.in-Some.d.now (rw (c.in-Some.is, c.text.ensures) at c.in_ok-d.ensures.answer)
     _ (sym c.shape.ensures ∙ c.in-Object.is) c.in_err-object_tokens-in-Object.ensures.err)
 
 pub returns-in_ok-object_tokens-in-Object-clause-ok : goal.returns-in_ok-object_tokens-in-Object-clause-ok
 returns-in_ok-object_tokens-in-Object-clause-ok g c =
-    λ mode depth units role. head_object (g.A.Answers.answerer c.args.source.now) c.args.answers.now c.definition.new.self mode depth units c.args.t.now c.args.pending.now.items role (rw c.as_slice.ensures at c.in_ok-d.ensures.state) c.in-Some.d.now (rw (c.in-Some.is, c.as_slice.ensures) at c.in_ok-d.ensures.answer)
+    λ mode depth units role. head_object (g.A.Answers.answerer c.args.source.now) c.args.answers.now c.definition.new.self mode depth units c.args.t.now c.args.pending.now role (rw c.text.ensures at c.in_ok-d.ensures.state) c.in-Some.d.now (rw (c.in-Some.is, c.text.ensures) at c.in_ok-d.ensures.answer)
     c.in_ok-object_tokens-in-Object.field-0.items (sym c.shape.ensures ∙ c.in-Object.is) c.in_ok-object_tokens-in-Object.ensures.ok
 
 pub returns-then-not-take_open-clause-ok : goal.returns-then-not-take_open-clause-ok
 returns-then-not-take_open-clause-ok g c =
     let why = c.if-not-take_open.ensures.not_opened refl in
-    λ mode depth units role. head_not_called (g.A.Answers.answerer c.args.source.now) c.args.answers.now c.definition.new.self mode depth units c.args.t.now c.args.pending.now.items role (rw c.as_slice.ensures at c.in_ok-d.ensures.state) c.in-Some.d.now (rw (c.in-Some.is, c.as_slice.ensures) at c.in_ok-d.ensures.answer) c.in-Function.params c.in-Function.variadic (sym c.shape.ensures ∙ c.in-Function.is)
-    c.take_open.new.pending.items why.1 why.0
+    λ mode depth units role. head_not_called (g.A.Answers.answerer c.args.source.now) c.args.answers.now c.definition.new.self mode depth units c.args.t.now c.args.pending.now role (rw c.text.ensures at c.in_ok-d.ensures.state) c.in-Some.d.now (rw (c.in-Some.is, c.text.ensures) at c.in_ok-d.ensures.answer) c.in-Function.params c.in-Function.variadic (sym c.shape.ensures ∙ c.in-Function.is)
+    c.take_open.new.self why.1 why.0
 
 pub returns-in_err-read-in-Function-clause-err : goal.returns-in_err-read-in-Function-clause-err
 returns-in_err-read-in-Function-clause-err g c =
     let p = err_from_is_err_and c.from_residual-in_err-read-in-Function.result c.from_residual-in_err-read-in-Function.ensures.1 in
     rw (p.1, p.2)
-    (λ mode depth units role. head_refused (g.A.Answers.answerer c.args.source.now) c.args.answers.now c.definition.new.self mode depth units c.args.t.now c.args.pending.now.items role (rw c.as_slice.ensures at c.in_ok-d.ensures.state) c.in-Some.d.now (rw (c.in-Some.is, c.as_slice.ensures) at c.in_ok-d.ensures.answer) c.in-Function.params c.in-Function.variadic (sym c.shape.ensures ∙ c.in-Function.is)
-    (map marked_of c.take_open.new.pending.items) (c.if-not-take_open.ensures.opened refl) _ (rw c.as_slice-names.ensures at c.in_err-read-in-Function.ensures.err))
+    (λ mode depth units role. head_refused (g.A.Answers.answerer c.args.source.now) c.args.answers.now c.definition.new.self mode depth units c.args.t.now c.args.pending.now role (rw c.text.ensures at c.in_ok-d.ensures.state) c.in-Some.d.now (rw (c.in-Some.is, c.text.ensures) at c.in_ok-d.ensures.answer) c.in-Function.params c.in-Function.variadic (sym c.shape.ensures ∙ c.in-Function.is)
+    (map marked_of c.take_open.new.self) (c.if-not-take_open.ensures.opened refl) _ (rw c.as_slice-names.ensures at c.in_err-read-in-Function.ensures.err))
 
 pub returns-in_ok-written-in-Function-clause-ok : goal.returns-in_ok-written-in-Function-clause-ok
 returns-in_ok-written-in-Function-clause-ok g c =
     let made = c.in_ok-written-in-Function.ensures in
-    λ mode depth units role. head_called (g.A.Answers.answerer c.args.source.now) c.args.answers.now c.definition.new.self mode depth units c.args.t.now c.args.pending.now.items role (rw c.as_slice.ensures at c.in_ok-d.ensures.state) c.in-Some.d.now (rw (c.in-Some.is, c.as_slice.ensures) at c.in_ok-d.ensures.answer) c.in-Function.params c.in-Function.variadic (sym c.shape.ensures ∙ c.in-Function.is)
-    (map marked_of c.take_open.new.pending.items) (c.if-not-take_open.ensures.opened refl) (lists_of c.in_ok-read-in-Function.read.written.items) c.in_ok-read-in-Function.read.close
-    (map marked_of c.read_call.new.pending.items) (rw c.as_slice-names.ensures at c.in_ok-read-in-Function.ensures.ok)
+    λ mode depth units role. head_called (g.A.Answers.answerer c.args.source.now) c.args.answers.now c.definition.new.self mode depth units c.args.t.now c.args.pending.now role (rw c.text.ensures at c.in_ok-d.ensures.state) c.in-Some.d.now (rw (c.in-Some.is, c.text.ensures) at c.in_ok-d.ensures.answer) c.in-Function.params c.in-Function.variadic (sym c.shape.ensures ∙ c.in-Function.is)
+    (map marked_of c.take_open.new.self) (c.if-not-take_open.ensures.opened refl) (lists_of c.in_ok-read-in-Function.read.written.items) c.in_ok-read-in-Function.read.close
+    (map marked_of c.read_call.new.pending) (rw c.as_slice-names.ensures at c.in_ok-read-in-Function.ensures.ok)
     c.in_ok-written-in-Function.call (lists_of c.in_ok-written-in-Function.written.items) made.written
-    (made.parts ∙ ap (λ (ps : List (List ℕ)). parts_of ps (map without_line c.body.result.now)) c.as_slice-names.ensures ∙ ap (parts_of c.in-Function.params) c.body.ensures)
+    (made.parts ∙ ap (λ s. parts_of (parameters_in s) c.in-Some.d.now.body) (sym c.shape.ensures ∙ c.in-Function.is))
     (made.variable ∙ ap (λ (ps : List (List ℕ)). variable_of ps c.in-Function.variadic) c.as_slice-names.ensures) made.close made.kept
 
 pub returns-in_ok-written-in-Function-clause-alone : goal.returns-in_ok-written-in-Function-clause-alone

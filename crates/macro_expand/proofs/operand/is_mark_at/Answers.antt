@@ -1,10 +1,12 @@
-use Rattle.std.proofs.Common.{arith, ◌∙◌, refl}
+use Rattle.std.proofs.Common.{ap, sym, ◌∙◌, false, Option}
+use Rattle.std.specs.Option.{option_map_or}
+use Rattle.pp_tokens.specs.declared.token.Token.{Token}
 use Rattle.pp_tokens.specs.Marks.{is_mark}
-use Rattle.macro_expand.proofs.OperandLaws.{holds_at-none, not_below, holds_at-some}
+use Rattle.macro_expand.proofs.PendingLemmas.{holds_at-seen}
 use Rattle.macro_expand.proofs.operand.is_mark_at.Goals as goal
 
 pub returns-in-None : goal.returns-in-None
-returns-in-None c = holds_at-none (is_mark c.args.spelling.now) c.args.place c.args.rest.now.items (not_below c.args.place _ _ c.args.rest.now.ok.0 c.in-None.ensures.variant.1)
+returns-in-None c = sym (holds_at-seen (is_mark c.args.spelling.now) c.args.place c.args.rest.now ∙ ap (λ (o : Option Token). option_map_or (is_mark c.args.spelling.now) o false) (sym c.in-None.ensures))
 
 pub returns-in-Some : goal.returns-in-Some
-returns-in-Some c = c.is_mark.ensures ∙ holds_at-some (is_mark c.args.spelling.now) c.args.place c.args.rest.now.items c.in-Some.t.now (let h = c.in-Some.ensures.variant.0 refl in omega (arith, h, c.args.rest.now.ok.0)) c.in-Some.ensures.lookup
+returns-in-Some c = c.is_mark.ensures ∙ sym (holds_at-seen (is_mark c.args.spelling.now) c.args.place c.args.rest.now ∙ ap (λ (o : Option Token). option_map_or (is_mark c.args.spelling.now) o false) (sym c.in-Some.ensures))

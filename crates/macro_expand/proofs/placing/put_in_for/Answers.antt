@@ -10,10 +10,10 @@ loop-m-preserved c =
     let below : c.loop-m.m-index < length c.loop-m.m-items = omega (arith, c.loop-m.invariant.same) in
     record {
       same = place-same c.loop-m.m-items c.deref_mut-m-items.result.now c.loop-m.m-index c.place.new.m c.loop-m.invariant.same;
-      done = place-turn marked_of (placed c.args.t.now (names_in c.args.hidden.now)) c.loop-m.m-items c.deref_mut-m-items.result.now c.loop-m.m-index
+      done = place-turn marked_of (placed c.line-line.result (names_in c.args.hidden.now)) c.loop-m.m-items c.deref_mut-m-items.result.now c.loop-m.m-index
           c.m-item.result c.place.new.m below c.loop-m.invariant.same c.m-item.is
-          (c.in_ok-place.ensures.placed ∙ ap (λ m. placed c.args.t.now (names_in c.args.hidden.now) (marked_of m)) (sym c.m-item.is)) c.loop-m.invariant.done c.loop-m.invariant.left;
-      left = place-left marked_of (placed c.args.t.now (names_in c.args.hidden.now)) c.loop-m.m-items c.deref_mut-m-items.result.now c.loop-m.m-index
+          (c.in_ok-place.ensures.placed ∙ ap (λ m. placed c.line-line.result (names_in c.args.hidden.now) (marked_of m)) (sym c.m-item.is)) c.loop-m.invariant.done c.loop-m.invariant.left;
+      left = place-left marked_of (placed c.line-line.result (names_in c.args.hidden.now)) c.loop-m.m-items c.deref_mut-m-items.result.now c.loop-m.m-index
           c.place.new.m c.loop-m.invariant.left below c.loop-m.invariant.same;
       known = c.in_ok-place.ensures.known;
     }

@@ -8,7 +8,7 @@ abbrev pub invariant-loop-m : goal.invariant-loop-m
 invariant-loop-m l =
     record {
       same : length l.m-items ≡ length l.initial.m-items;
-      done : map marked_of (take l.m-index l.m-items) ≡ map (placed l.t (names_in l.hidden)) (map marked_of (take l.m-index l.initial.m-items));
+      done : map marked_of (take l.m-index l.m-items) ≡ map (placed l.line (names_in l.hidden)) (map marked_of (take l.m-index l.initial.m-items));
       left : drop l.m-index l.m-items ≡ drop l.m-index l.initial.m-items;
       known : KnowsUnion l.hidden l.last;
     }

@@ -1,26 +1,36 @@
-use Rattle.std.proofs.Common.{sym, ◌∙◌, None, map}
+use Rattle.std.proofs.Common.{List, slice_get, sym, ap, ◌∙◌, None, map}
+use Rattle.std.specs.Option.{option_and_then}
+use Rattle.pp_tokens.specs.declared.Token.{Token}
 use Rattle.macro_defs.specs.MacroDefinition.{without_line}
+use Rattle.macro_defs.specs.Arguments.{argument_named, parameters_in}
 use Rattle.macro_expand.specs.Replacement.{parts_after}
+use Rattle.macro_expand.specs.Parts.{part_of}
 use Rattle.macro_expand.specs.Seen.{parts_seen}
-use Rattle.macro_expand.proofs.PartLemmas.{read-hash, read-part, read-done}
+use Rattle.macro_expand.proofs.PartLemmas.{named-at, read-hash, read-part, read-done}
 use Rattle.macro_expand.proofs.replace.read_each_part.Goals as goal
 use Rattle.macro_expand.proofs.replace.read_each_part.Goals.{then-begins_spelling, else-begins_spelling+in_ok-push}
 
-pub loop-t-preserved : goal.loop-t-preserved
-loop-t-preserved c =
+pub loop-place-preserved : goal.loop-place-preserved
+loop-place-preserved c =
+    let names = parameters_in c.args.d.now.shape in
     elim c.if-begins_spelling.branch [
       | then-begins_spelling w ↦
-          rw (w.parts-is, w.hash-is) (read-hash c.args.params.now c.args.body.now c.loop-t.t-index c.t-item.result c.loop-t-test.true c.t-item.is
-          c.loop-t.hash c.loop-t.parts.items (parts_after None c.args.params.now (map without_line c.args.body.now)) c.loop-t.invariant
+          rw (w.parts-is, w.hash-is) (read-hash names c.body-body.result.now c.loop-place.place c.index-body-place.result c.loop-place-test.true c.index-body-place.is
+          c.loop-place.hash c.loop-place.parts.items (parts_after None names (map without_line c.body-body.result.now)) c.loop-place.invariant
           (sym c.begins_spelling.ensures ∙ w.if-begins_spelling.true))
       | else-begins_spelling+in_ok-push w ↦
-          rw (w.parts-is, w.hash-is) (read-part c.args.params.now c.args.body.now c.loop-t.t-index c.t-item.result c.loop-t-test.true c.t-item.is
-          c.loop-t.hash c.loop-t.parts.items (parts_after None c.args.params.now (map without_line c.args.body.now)) c.loop-t.invariant
+          rw (w.parts-is, w.hash-is) (read-part names c.body-body.result.now c.loop-place.place c.index-body-place.result c.loop-place-test.true c.index-body-place.is
+          c.loop-place.hash c.loop-place.parts.items (parts_after None names (map without_line c.body-body.result.now)) c.loop-place.invariant
           w.part_at.result w.push.new.self.items
-          (sym c.begins_spelling.ensures ∙ w.if-begins_spelling.false) w.part_at.ensures w.in_ok-push.ensures.items)
+          (sym c.begins_spelling.ensures ∙ w.if-begins_spelling.false)
+          (w.part_at.ensures ∙ ap (part_of c.loop-place.hash (without_line c.index-body-place.result))
+          (w.parameter_at.ensures ∙ ap (λ (ts : List Token). option_and_then (argument_named names) (slice_get ts c.loop-place.place)) (sym c.body-body.ensures)
+          ∙ named-at names c.body-body.result.now c.loop-place.place c.index-body-place.result c.loop-place-test.true c.index-body-place.is))
+          w.in_ok-push.ensures.items)
     ]
 
 pub returns : goal.returns
 returns c =
-    read-done c.args.params.now c.args.body.now c.loop-t.t-index c.loop-t.hash (parts_seen c.loop-t.parts.items)
-    (parts_after None c.args.params.now (map without_line c.args.body.now)) c.loop-t-test.false c.loop-t.invariant
+    read-done (parameters_in c.args.d.now.shape) c.body-body.result.now c.loop-place.place c.loop-place.hash (parts_seen c.loop-place.parts.items)
+    (parts_after None (parameters_in c.args.d.now.shape) (map without_line c.body-body.result.now)) c.loop-place-test.false c.loop-place.invariant
+    ∙ ap (parts_after None (parameters_in c.args.d.now.shape)) c.body-body.ensures

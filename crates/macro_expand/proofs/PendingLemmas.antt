@@ -1,0 +1,51 @@
+-- Pending tokens as lists.
+use Rattle.std.proofs.Common.{◌≡◌, ℕ, zero, suc, ◌+◌, ◌≤◌, Bool, false, List, [], ◌∷◌, map, drop, Option, Some, None, refl, ap, sym, ◌∙◌, slice_get, MatchOption, arith}
+use Rattle.std.specs.Option.{option_map, option_map_or}
+use Rattle.pp_tokens.specs.declared.token.Token.{Token}
+use Rattle.pp_tokens.specs.declared.token.TokenRef.{TokenRef}
+use Rattle.pp_tokens.specs.Tokens.{token_seen}
+use Rattle.macro_expand.specs.declared.marked.Marked.{Marked as Kept}
+use Rattle.pp_tokens.specs.Marks.{is_open}
+use Rattle.macro_expand.specs.Replacement.{unmarked, Marked, after_open}
+use Rattle.macro_expand.specs.Reading.{holds_at}
+use Rattle.macro_expand.specs.Seen.{marked_of, kept_plain, kept_token}
+
+-- tokens with no hidden name are those of the text
+pub plain_unmarked : (ts : List Token) → map marked_of (map kept_plain ts) ≡ map unmarked ts
+plain_unmarked [] = refl
+plain_unmarked (t ∷ ts) = ap (λ (l : List Marked). unmarked t ∷ l) (plain_unmarked ts)
+
+-- a test of the token at a place
+pub holds_at-seen : (test : Token → Bool) (place : ℕ) (ts : List Kept) →
+    holds_at test place (map marked_of ts) ≡ option_map_or test (option_map kept_token (slice_get ts place)) false
+holds_at-seen test place [] = refl
+holds_at-seen test zero (t ∷ ts) = refl
+holds_at-seen test (suc place) (t ∷ ts) = holds_at-seen test place ts
+
+-- the first of what is left behind so many
+pub dropped_first : {A : Type 0} (xs : List A) (i : ℕ) (x : A) (ys : List A) → drop i xs ≡ x ∷ ys → (slice_get xs i ≡ Some x) × (drop (i + 1) xs ≡ ys)
+dropped_first [] zero x ys e = (cc, cc)
+dropped_first [] (suc i) x ys e = (cc, cc)
+dropped_first (z ∷ xs) zero x ys e = (cc, cc)
+dropped_first (z ∷ xs) (suc i) x ys e = let more : suc i + 1 ≡ suc (i + 1) = omega arith in rw more (dropped_first xs i x ys e)
+
+-- nothing stands behind the end
+pub dropped_none : {A : Type 0} (xs : List A) (i j : ℕ) → drop i xs ≡ [] → i ≤ j → slice_get xs j ≡ None
+dropped_none [] i j e le = refl
+dropped_none (z ∷ xs) zero j e le = cc
+dropped_none (z ∷ xs) (suc i) zero e le = absurd (omega arith)
+dropped_none (z ∷ xs) (suc i) (suc j) e le = dropped_none xs i j e (omega arith)
+
+-- what is read behind so many is what stands there
+pub read_behind : (xs ys new : List Token) (i j : ℕ) (o : Option TokenRef) → ys ≡ drop i xs → i ≤ j → j ≤ i →
+    MatchOption o ((ys ≡ []) × (new ≡ [])) (λ t. ys ≡ token_seen t ∷ new) → option_map token_seen o ≡ slice_get xs j
+read_behind xs ys new i j None left le ge is = sym (dropped_none xs i j (sym left ∙ is.0) le)
+read_behind xs ys new i j (Some t) left le ge is = let same : j ≡ i = omega (arith, le, ge) in rw same (sym (dropped_first xs i (token_seen t) new (sym left ∙ is)).0)
+
+-- what doesn't begin with a `(`
+pub begins_otherwise : (ts : List Kept) (t : Token) → Some t ≡ option_map kept_token (slice_get ts 0) → is_open t ≡ false → after_open (map marked_of ts) ≡ None
+begins_otherwise [] t is other = refl
+begins_otherwise (m ∷ ts) t is other =
+    let same : t ≡ m.token = cc in
+    let closed : is_open m.token ≡ false = ap is_open (sym same) ∙ other in
+    rw closed refl

@@ -1,5 +1,0 @@
-use Rattle.macro_expand.proofs.MiddleLaws.{support_decides}
-use Rattle.macro_expand.proofs.laws.support_decides.Goals as goal
-
-pub returns : goal.returns
-returns g c = support_decides

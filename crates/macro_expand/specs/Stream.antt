@@ -1,0 +1,92 @@
+-- Expansion that gives its tokens one after another (6.10.3): what it still gives, and how it stands after a token, at the end and after an
+-- error.
+use Rattle.std.specs.Prelude.{◌≡◌, ℕ, ◌+◌, ◌⊎◌, List, [], ◌∷◌, ◌++◌, map, length, Option, Some, None, Result, Ok, Err}
+use Rattle.pp_tokens.specs.declared.token.Token.{Token}
+use Rattle.macro_defs.specs.Table.{Entries, lookup}
+use Rattle.macro_expand.specs.declared.answers.Presumed.{Presumed}
+use Rattle.macro_expand.specs.declared.marked.Marked.{Marked as Kept}
+use Rattle.macro_expand.specs.declared.outcome.Mode.{Mode}
+use Rattle.macro_expand.specs.declared.outcome.ExpandError.{ExpandError}
+use Rattle.macro_expand.specs.declared.outcome.ExpandError.TheVariants.{Count, Unclosed, Paste, Deep, Work, Memory}
+use Rattle.macro_expand.specs.declared.stream.Standing.{Standing}
+use Rattle.macro_expand.specs.declared.stream.Standing.TheVariants.{Going, Ended, Refused, NoMemory}
+use Rattle.macro_expand.specs.Asking.{Failure}
+use Rattle.macro_expand.specs.declared.answers.TablePlace.{TablePlace}
+use Rattle.macro_expand.specs.declared.marked.Role.TheVariants.{Name, Ordinary}
+use Rattle.macro_expand.specs.Expansion.{Expanded, Table, expanded_by, role_of}
+use Rattle.macro_expand.specs.Answered.{before, expanded_for, table_answerer}
+use Rattle.macro_expand.specs.Seen.{marked_of, kept_token, place_of}
+
+-- tokens, whatever their hide sets, and the units of work left
+pub record Given : Type 0 where
+  pub tokens : List Token
+  pub units : ℕ
+
+abbrev pub given : Result Expanded Failure → Result Given Failure
+given (Ok e) = Ok (record { tokens = map (λ m. m.token) e.tokens; units = e.units })
+given (Err f) = Err f
+
+-- tokens before those that are given
+abbrev pub given_before : List Token → Result Given Failure → Result Given Failure
+given_before ts (Ok g) = Ok (record g { tokens = ts ++ g.tokens })
+given_before ts (Err f) = Err f
+
+-- An expansion under way: the table and the place that answer, what is expanded, the tokens that were put out and aren't given yet, those
+-- that are still to be expanded, and how it stands.
+pub record Stream : Type 0 where
+  pub table : Entries
+  pub here : Presumed
+  pub mode : Mode
+  pub ready : List Kept
+  pub pending : List Kept
+  pub standing : Standing
+
+-- what an expansion that goes on still gives, with so many units of work
+abbrev pub to_come : Stream → ℕ → Result Given Failure
+to_come s units = given_before (map kept_token s.ready) (given (expanded_by (lookup s.table) (place_of s.here) s.mode 0 units (map marked_of s.pending)))
+
+-- how many tokens are there, expanded or not
+abbrev pub at_hand : Stream → ℕ
+at_hand s = length s.ready + length s.pending
+
+-- a token is the first of those that are ready, and the others stay
+pub record FirstReady (t : Token) (old new : Stream) : Type 0 where
+  pub given : (units : ℕ) → to_come old units ≡ given_before (t ∷ []) (to_come new units)
+  pub fewer : at_hand new + 1 ≡ at_hand old
+
+-- a token is the first that is still to come, and none comes where nothing is left but the units
+abbrev pub GivesNext : Option Token → Stream → ℕ → Stream → ℕ → Type 0
+GivesNext (Some t) old units new left = to_come old units ≡ given_before (t ∷ []) (to_come new left)
+GivesNext None old units new left = to_come old units ≡ Ok (record { tokens = []; units = left })
+
+-- after an error the expansion stands refused by it, or, as after want of memory, without memory
+abbrev pub StandsAfter : ExpandError → Standing → Type 0
+StandsAfter (Count name line) new = (new ≡ Refused (Count name line)) ⊎ (new ≡ NoMemory)
+StandsAfter (Unclosed name line) new = (new ≡ Refused (Unclosed name line)) ⊎ (new ≡ NoMemory)
+StandsAfter (Paste left right line) new = (new ≡ Refused (Paste left right line)) ⊎ (new ≡ NoMemory)
+StandsAfter (Deep line) new = (new ≡ Refused (Deep line)) ⊎ (new ≡ NoMemory)
+StandsAfter Work new = (new ≡ Refused Work) ⊎ (new ≡ NoMemory)
+StandsAfter Memory new = new ≡ NoMemory
+
+-- how it stands after an answer; the end and want of memory stay, and another error stays or turns into want of memory
+abbrev pub IsAnswer : Standing → Result (Option Token) ExpandError → Standing → Type 0
+IsAnswer Going (Ok (Some t)) new = new ≡ Going
+IsAnswer Going (Ok None) new = new ≡ Ended
+IsAnswer Going (Err e) new = StandsAfter e new
+IsAnswer Ended r new = (r ≡ Ok None) × (new ≡ Ended)
+IsAnswer (Refused e) r new = ((r ≡ Err e) × (new ≡ Refused e)) ⊎ ((r ≡ Err Memory) × (new ≡ NoMemory))
+IsAnswer NoMemory r new = (r ≡ Err Memory) × (new ≡ NoMemory)
+
+-- Steps under a table.
+
+-- a token is put out as it is: an ordinary one, or a name without a definition
+abbrev pub StaysAsItIs : Table → Mode → Kept → List Kept → Type 0
+StaysAsItIs table mode t rest =
+    (role_of mode (marked_of t) (map marked_of rest) ≡ Ordinary)
+    ⊎ ((role_of mode (marked_of t) (map marked_of rest) ≡ Name) × (table t.token.text ≡ None))
+
+-- these pending tokens become those that were put out, before what the later ones become
+abbrev pub Becomes : Table → TablePlace → Mode → ℕ → List Kept → List Kept → TablePlace → ℕ → List Kept → Type 0
+Becomes table s mode units pending out u left later =
+    expanded_for (table_answerer (λ _. table) (λ p. place_of p.here.now)) s mode 0 units (map marked_of pending)
+    ≡ before (map marked_of out) (expanded_for (table_answerer (λ _. table) (λ p. place_of p.here.now)) u mode 0 left (map marked_of later))

@@ -1,0 +1,308 @@
+// Expansion that gives its tokens one after another.
+ghost use Rattle.std.specs.Prelude.{◌≡◌, ◌+◌, ◌<◌, ◌≤◌, ◌++◌, ◌∷◌, [], map, length, reverse, IfOk, IfErr, IfSome, IsNone, IsTrue, MatchOption, OnOk};
+ghost use Rattle.macro_defs.specs.Table.{lookup};
+ghost use Rattle.macro_expand.specs.Replacement.{unmarked};
+ghost use Rattle.macro_expand.specs.Expansion.{expanded_by};
+ghost use Rattle.macro_expand.specs.Answered.{expanded_for, table_answerer};
+ghost use Rattle.macro_expand.specs.Seen.{marked_of, kept_plain, place_of, Gives, Stops, ReportsResult};
+ghost use Rattle.macro_expand.specs.Pending.{run_tokens};
+ghost use Rattle.macro_expand.specs.Stream.{to_come, at_hand, FirstReady, GivesNext, StandsAfter, IsAnswer, StaysAsItIs, Becomes};
+
+use crate::answers::{Presumed, TablePlace};
+use crate::expansion::{expand_head, public_error, role};
+use crate::marked::{Marked, Role};
+use crate::outcome::{ExpandError, Mode, RunError, Work};
+use crate::pending::Pending;
+use crate::run::Run;
+use base_types::{Bytes, List};
+use macro_defs::MacroTable;
+use pp_tokens::{Token, TokenCow};
+use std::alloc::{AllocError, Global};
+use std::marker::Model;
+
+/// How an expansion stands: it goes on, it gave its last token, or it has an error, which for want of memory isn't copied.
+#[derive(Debug, Drop)]
+pub enum Standing {
+    Going,
+    Ended,
+    Refused(ExpandError),
+    NoMemory,
+}
+
+/// The expansion of a run of text under a table of macros (ISO C 6.10.3), which gives its tokens one after another, as [`expand`](crate::expand) does
+/// all of them. The run is read where it stands, and what no macro touches is lent from there; a replacement's tokens are lent from the
+/// macro's definition. So it takes memory for what macros put in, and for the arguments of the call that it reads.
+#[derive(Drop)]
+pub struct Expander<'a> {
+    alloc: Global,
+    table: &'a MacroTable,
+    answers: TablePlace<'a>,
+    mode: Mode,
+    // The tokens that one step put out, the last first.
+    ready: Vec<Marked<'a>>,
+    pending: Pending<'a>,
+    standing: Standing,
+}
+
+impl<'a> Model for Expander<'a> {
+    ghost use Rattle.std.specs.Prelude.{reverse};
+    ghost use Rattle.macro_expand.specs.Stream.{Stream};
+
+    ghost Value = { Stream };
+
+    ghost view = { λ e. record {
+      table = e.table.now;
+      here = e.answers.here.now;
+      mode = e.mode;
+      ready = reverse e.ready.items;
+      pending = e.pending;
+      standing = e.standing;
+    } };
+}
+
+impl<'a> Expander<'a> {
+    /// The expansion of a run, before its first token. `here` says what `__FILE__` and `__LINE__` stand for (6.10.8.1); in
+    /// `Mode::Condition` a `defined` and its operand are given as they are (6.10.1 paragraph 4).
+    pub fn over(
+        alloc: Global,
+        table: &'a MacroTable,
+        run: Run<'a>,
+        here: &'a Presumed,
+        mode: Mode,
+    ) -> Expander<'a>
+        ensures { result ≡ record {
+          table = table.now;
+          here = here.now;
+          mode = mode;
+          ready = [];
+          pending = map kept_plain (run_tokens run.entry);
+          standing = Standing.Going;
+        } }
+    {
+        Expander {
+            alloc,
+            table,
+            answers: TablePlace { here },
+            mode,
+            ready: Vec::new(alloc),
+            pending: Pending::over(alloc, run),
+            standing: Standing::Going,
+        }
+    }
+
+    /// The next token; `None` behind the last. A call asks for the units of work that the call before it left, and the tokens and the
+    /// error are those of the expansion of the whole run with the units of the first call: those given are a prefix of its
+    /// tokens, `None` comes exactly behind them, with the units that it leaves, and an error but `Memory` exactly where it has that
+    /// error. `None` and `Memory` stay; another error stays or turns into `Memory`. There are never more tokens than those of the
+    /// run and the units spent. How far ahead it reads is not told: to the end of a call's arguments.
+    pub fn next(&mut self, work: &mut Work) -> Result<Option<TokenCow<'a>>, ExpandError>
+        ensures gives { self.old.standing ≡ Standing.Going → IfOk result (λ o. GivesNext o self.old work.old.left self.new work.new.left) }
+        ensures err { self.old.standing ≡ Standing.Going → IfErr result (λ e. ReportsResult e (to_come self.old work.old.left)) }
+        ensures stands { IsAnswer self.old.standing result self.new.standing }
+        ensures spends { work.new.left ≤ work.old.left }
+        ensures few { IfOk result (λ o. IfSome o (λ t. at_hand self.new + work.new.left < at_hand self.old + work.old.left)) }
+    {
+        match &self.standing {
+            Standing::Going => self.go_on(work),
+            Standing::Ended => Ok(None),
+            Standing::NoMemory => Err(ExpandError::Memory),
+            Standing::Refused(e) => match copied(self.alloc, e) {
+                Ok(again) => Err(again),
+                Err(_) => {
+                    self.standing = Standing::NoMemory;
+                    Err(ExpandError::Memory)
+                }
+            },
+        }
+    }
+
+    // The next token of an expansion that goes on.
+    fn go_on(&mut self, work: &mut Work) -> Result<Option<TokenCow<'a>>, ExpandError>
+        requires { self.old.standing ≡ Standing.Going }
+        ensures gives { IfOk result (λ o. GivesNext o self.old work.old.left self.new work.new.left) }
+        ensures err { IfErr result (λ e. ReportsResult e (to_come self.old work.old.left)) }
+        ensures stands { IsAnswer Standing.Going result self.new.standing }
+        ensures spends { work.new.left ≤ work.old.left }
+        ensures few { IfOk result (λ o. IfSome o (λ t. at_hand self.new + work.new.left < at_hand self.old + work.old.left)) }
+    {
+        match self.first() {
+            Some(t) => Ok(Some(t)),
+            None => self.step(work),
+        }
+    }
+
+    // The first token that is ready.
+    fn first(&mut self) -> Option<TokenCow<'a>>
+        ensures first { IfSome result (λ t. FirstReady t self.old self.new) }
+        ensures none { IsNone result → (self.old.ready ≡ []) × (self.new ≡ self.old) }
+        ensures same { self.new.standing ≡ self.old.standing }
+    {
+        match self.ready.pop() {
+            None => None,
+            Some(m) => Some(m.bare()),
+        }
+    }
+
+    // Takes steps until one puts out tokens, and gives the first of them.
+    fn step(&mut self, work: &mut Work) -> Result<Option<TokenCow<'a>>, ExpandError>
+        requires going { self.old.standing ≡ Standing.Going }
+        requires empty { self.old.ready ≡ [] }
+        ensures gives { IfOk result (λ o. GivesNext o self.old work.old.left self.new work.new.left) }
+        ensures err { IfErr result (λ e. ReportsResult e (to_come self.old work.old.left)) }
+        ensures stands { IsAnswer Standing.Going result self.new.standing }
+        ensures spends { work.new.left ≤ work.old.left }
+        ensures few { IfOk result (λ o. IfSome o (λ t. at_hand self.new + work.new.left < at_hand self.old + work.old.left)) }
+    {
+        match advance(
+            self.alloc,
+            self.table,
+            &mut self.answers,
+            self.mode,
+            &mut self.ready,
+            &mut self.pending,
+            work,
+        ) {
+            Ok(Some(m)) => Ok(Some(m.bare())),
+            Ok(None) => {
+                self.standing = Standing::Ended;
+                Ok(None)
+            }
+            Err(e) => {
+                let e = public_error(e);
+                self.standing = standing_after(self.alloc, &e);
+                Err(e)
+            }
+        }
+    }
+}
+
+// Whether a token is put out as it is under a table: it is no identifier, or is hidden from itself, or has no definition.
+fn stays(table: &MacroTable, mode: Mode, t: &Marked, rest: &Pending) -> bool
+    ensures { IsTrue result → StaysAsItIs (lookup table.now) mode t.now rest.now }
+{
+    match role(mode, t, rest) {
+        Role::Ordinary => true,
+        Role::Name => table.get(t.token.text()).is_none(),
+        _ => false,
+    }
+}
+
+// Takes the first of the tokens that a step put out, and turns the others round.
+fn first_of<'s>(out: &mut Vec<Marked<'s>>) -> Option<Marked<'s>>
+    ensures { MatchOption result ((out.old.items ≡ []) × (out.new.items ≡ [])) (λ t. out.old.items ≡ t ∷ reverse out.new.items) }
+{
+    out.reverse();
+    out.pop()
+}
+
+// Steps, until one puts out tokens: the first of them; the others are in `out`, the last first. Most tokens of a text are
+// put out as they are, so they take the short way.
+fn advance<'s>(
+    alloc: Global,
+    table: &'s MacroTable,
+    answers: &mut TablePlace<'s>,
+    mode: Mode,
+    out: &mut Vec<Marked<'s>>,
+    pending: &mut Pending<'s>,
+    work: &mut Work,
+) -> Result<Option<Marked<'s>>, RunError>
+    requires { out.old.items ≡ [] }
+    ensures some { IfOk result (λ o. IfSome o (λ t. Becomes (lookup table.now) answers.old mode work.old.left pending.old
+        (t ∷ reverse out.new.items) answers.new work.new.left pending.new)) }
+    ensures none { IfOk result (λ o. IsNone o → Becomes (lookup table.now) answers.old mode work.old.left pending.old [] answers.new work.new.left []) }
+    ensures few { IfOk result (λ o. IfSome o (λ t. length out.new.items + length pending.new + work.new.left < length pending.old + work.old.left)) }
+    ensures spends { work.new.left ≤ work.old.left }
+    ensures err { IfErr result (λ e. Stops e answers.new
+        (expanded_for (table_answerer (λ s. lookup table.now) (λ s. place_of s.here.now)) answers.old mode 0 work.old.left (map marked_of pending.old))) }
+{
+    while let Some(t) = pending.pop() {
+        if stays(table, mode, &t, pending) {
+            return Ok(Some(t));
+        }
+        expand_head(alloc, table, answers, mode, 0, t, out, pending, work)?;
+        if let Some(first) = first_of(out) {
+            return Ok(Some(first));
+        }
+    }
+    Ok(None)
+}
+
+// A copy of an error that has one; want of memory has none.
+fn copied(alloc: Global, e: &ExpandError) -> Result<ExpandError, AllocError>
+    ensures { IfOk result (λ c. (c ≡ e.now) × ((e.now ≡ ExpandError.Memory) → ⊥)) }
+{
+    Ok(match e {
+        ExpandError::Count { name, line } => ExpandError::Count {
+            name: Bytes::copy_of(alloc, name.as_slice())?,
+            line: *line,
+        },
+        ExpandError::Unclosed { name, line } => ExpandError::Unclosed {
+            name: Bytes::copy_of(alloc, name.as_slice())?,
+            line: *line,
+        },
+        ExpandError::Paste { left, right, line } => ExpandError::Paste {
+            left: Bytes::copy_of(alloc, left.as_slice())?,
+            right: Bytes::copy_of(alloc, right.as_slice())?,
+            line: *line,
+        },
+        ExpandError::Deep { line } => ExpandError::Deep { line: *line },
+        ExpandError::Work => ExpandError::Work,
+        ExpandError::Memory => return Err(AllocError),
+    })
+}
+
+// How an expansion stands after an error.
+fn standing_after(alloc: Global, e: &ExpandError) -> Standing
+    ensures { StandsAfter e.now result }
+{
+    match copied(alloc, e) {
+        Ok(kept) => Standing::Refused(kept),
+        Err(_) => Standing::NoMemory,
+    }
+}
+
+/// The tokens that a list of tokens becomes under a table of macros (ISO C 6.10.3), each with the white space of what it
+/// stands for. `here` says what `__FILE__` and `__LINE__` stand for (6.10.8.1); in `Mode::Condition` a `defined` and its operand are put
+/// out as they are (6.10.1 paragraph 4). Each replacement takes its units from `work`: one, and one for each token that it puts in.
+/// Reading a call, its arguments from left to right, its pastes and then its own units come in this order, and the first error ends
+/// the expansion: `Unclosed`, `Count`, `Deep`, `Paste` or `Work`, each exactly where `ExpandError` says, or `Memory`.
+pub fn expand(
+    alloc: Global,
+    table: &MacroTable,
+    run: &[Token],
+    here: &Presumed,
+    mode: Mode,
+    work: &mut Work,
+) -> Result<List<Token>, ExpandError>
+    ensures ok { IfOk result (λ out. Gives (expanded_by (lookup table.now) (place_of here.now) mode 0 work.old.left (map unmarked run.now))
+        out work.new.left) }
+    ensures spends { work.new.left ≤ work.old.left }
+    ensures err { IfErr result (λ e. ReportsResult e
+        (expanded_by (lookup table.now) (place_of here.now) mode 0 work.old.left (map unmarked run.now))) }
+{
+    let mut stream = Expander::over(alloc, table, Run::Listed(run), here, mode);
+    let mut out = Vec::new(alloc);
+    while let Some(t) = stream.next(work)? {
+        keep(alloc, &mut out, t)?;
+    }
+    Ok(List::of(out))
+}
+
+// Puts a token behind others, with a spelling of its own.
+fn keep(alloc: Global, out: &mut Vec<Token>, t: TokenCow) -> Result<(), ExpandError>
+    ensures ok { OnOk result (out.new.items ≡ out.old.items ++ t.entry ∷ []) }
+    ensures err { IfErr result (λ e. e ≡ ExpandError.Memory) }
+{
+    match owned(alloc, out, t) {
+        Ok(()) => Ok(()),
+        Err(_) => Err(ExpandError::Memory),
+    }
+}
+
+fn owned(alloc: Global, out: &mut Vec<Token>, t: TokenCow) -> Result<(), AllocError>
+    ensures { OnOk result (out.new.items ≡ out.old.items ++ t.entry ∷ []) }
+{
+    let token = t.to_token(alloc)?;
+    out.push(token)?;
+    Ok(())
+}

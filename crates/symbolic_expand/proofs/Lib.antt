@@ -1,0 +1,17 @@
+pub mod TextLaws
+pub mod OrderLaws
+pub mod Elements
+pub mod DefinedLaws
+pub mod EnumerationLaws
+pub mod VisitLaws
+pub mod ChoosingLaws
+pub mod NextLaws
+pub mod FoundLaws
+pub mod ProgressLaws
+pub mod HeaderOrder
+pub mod MoreLaws
+pub mod CountLaws
+pub mod SupportLaws
+pub mod KeptLaws
+pub mod MiddleLaws
+pub mod TableLaws
