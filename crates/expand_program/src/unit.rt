@@ -1,16 +1,14 @@
 // The pieces of a file, taken in order: its definitions, and what its text becomes.
-ghost use Rattle.std.specs.Prelude.{◌≤◌, map, IfOk, IfErr, IfSome};
-ghost use Rattle.macro_defs.specs.Table.{lookup};
+ghost use Rattle.std.specs.Prelude.{◌≡◌, [], map};
+ghost use Rattle.pp_tokens.specs.Tokens.{rest_of};
 ghost use Rattle.macro_expand.specs.declared.outcome.Mode.TheVariants.{Text};
-ghost use Rattle.macro_expand.specs.Replacement.{unmarked};
-ghost use Rattle.macro_expand.specs.Expansion.{expanded_by};
-ghost use Rattle.macro_expand.specs.Seen.{Gives, ReportsResult, place_of};
+ghost use Rattle.macro_expand.specs.Seen.{kept_plain};
 
-use base_types::{Bytes, List};
-use directive_scan::{Directive, Piece};
+use base_types::Bytes;
+use directive_scan::{Directive, DirectiveRef};
 use macro_defs::{DefineError, MacroTable, names_macro, read_define};
-use macro_expand::{ExpandError, Mode, Presumed, Work, expand};
-use pp_tokens::Token;
+use macro_expand::{Expander, Mode, Presumed, Run, Standing};
+use pp_tokens::{Token, Tokens};
 use std::alloc::{AllocError, Global};
 
 /// The units of work that each run of text has.
@@ -22,13 +20,6 @@ pub struct Unit {
     table: MacroTable,
     here: Presumed,
     refused: u64,
-}
-
-/// What a run of text became, and the units of work that it left.
-#[derive(Drop)]
-pub struct Expanded {
-    pub tokens: List<Token>,
-    pub left: u64,
 }
 
 impl Unit {
@@ -50,37 +41,23 @@ impl Unit {
         self.refused
     }
 
-    /// What a run of text becomes; a directive is obeyed where it is `#define` or `#undef`, and becomes nothing.
-    pub fn take(&mut self, alloc: Global, piece: &Piece) -> Result<Option<Expanded>, ExpandError>
-        ensures { IfOk result (λ taken. IfSome taken (λ e. e.left ≤ 20000000)) }
+    /// The expansion of a run of text under the definitions so far.
+    pub fn expansion<'u>(&'u self, alloc: Global, run: Tokens<'u>) -> Expander<'u>
+        ensures { result ≡ record {
+          table = self.now.table;
+          here = self.now.here;
+          mode = Text;
+          ready = [];
+          pending = map kept_plain (rest_of run.entry);
+          standing = Standing.Going;
+        } }
     {
-        match piece {
-            Piece::Run { tokens } => Ok(Some(self.expanded(alloc, tokens.as_slice())?)),
-            Piece::Line { what, .. } => match self.obey(alloc, what) {
-                Ok(()) => Ok(None),
-                Err(_) => Err(ExpandError::Memory),
-            },
-        }
+        Expander::over(alloc, &self.table, Run::Lexed(run), &self.here, Mode::Text)
     }
 
-    // What the definitions so far make of a run, or its first error.
-    fn expanded(&self, alloc: Global, run: &[Token]) -> Result<Expanded, ExpandError>
-        ensures within { IfOk result (λ e. e.left ≤ 20000000) }
-        ensures ok { IfOk result (λ e. Gives (expanded_by (lookup self.now.table) (place_of self.now.here) Text 0 20000000 (map unmarked run.now))
-            e.tokens e.left) }
-        ensures err { IfErr result (λ e. ReportsResult e
-            (expanded_by (lookup self.now.table) (place_of self.now.here) Text 0 20000000 (map unmarked run.now))) }
-    {
-        let mut work = Work { left: UNITS };
-        let tokens = expand(alloc, &self.table, run, &self.here, Mode::Text, &mut work)?;
-        Ok(Expanded {
-            tokens,
-            left: work.left,
-        })
-    }
-
-    fn obey(&mut self, alloc: Global, what: &Directive) -> Result<(), AllocError> {
-        match what {
+    /// A directive is obeyed where it is `#define` or `#undef`.
+    pub fn obey(&mut self, alloc: Global, line: DirectiveRef<'_>) -> Result<(), AllocError> {
+        match line.read(alloc)? {
             Directive::Define(rest) => self.define(alloc, rest.as_slice()),
             Directive::Undef(rest) => {
                 self.undefine(rest.as_slice());
