@@ -115,11 +115,33 @@ def expansions():
     body = " ".join(f"w{n}" for n in range(50))
     yield "a body of 50 tokens, 100,000 times", f"#define X {body}\n" + "X\n" * 100_000
     yield "2,000 arguments of 1,000 tokens", "#define F(a) a\n" + ("F(" + "x " * 1_000 + ")\n") * 2_000
+    chain = lines_of(3_000, lambda n: f"#define A{n + 1} A{n}\n")
+    words = " ".join(f"w{n}" for n in range(500))
+    nested = f"#define F(x) x\n#define A0 {'F(' * 20}{words}{')' * 20}\n"
+    yield "500 words in 20 calls, in a chain of 3,000 names", f"{nested}{chain}A3000\n"
+    calls = lines_of(4_800, lambda n: f"#define F{n + 1}(x) F{n}(x)\n")
+    yield "a chain of 4,800 calls", f"#define F0(x) x\n{calls}F4800(1)\n"
+    parameters = ",".join(f"p{n}" for n in range(40_000))
+    yield "a call with 40,000 parameters", f"#define F({parameters}) {'p39999 ' * 100_000}\nF({',' * 39_999})\n"
+    yield "20,000 spellings pasted", f"#define F(x) {' ## '.join(['x'] * 20_000)}\nF(a)\n"
 
 
 def doubling(calls):
     """Macros, each of which is the one before it twice."""
     return "#define A0 x x\n" + lines_of(21, lambda n: f"#define A{n + 1} A{n} A{n}\n") + calls + "\n"
+
+
+def choices():
+    """Cases of `choice_examples`, and how many lists of choices each runs through: headers of many parts, each with four
+    definitions; twelve names with one each, in tokens that name one header; and a computed include as real code has it."""
+    parts = [letter * 2 for letter in "abcdef"]
+    four = "".join(f"#define {part} {number}\n" for part in parts for number in range(1, 5))
+    yield "15,625 headers", f"{four}#define H <{'/'.join(parts)}>\nH\nnames 15626 =>\n", 15_626
+    names = " ".join(f"n{number}" for number in range(12))
+    twelve = lines_of(12, lambda number: f"#define n{number}\n")
+    yield "12 names, one header", f"{twelve}<h.h> {names}\nnames 4096 =>\n", 4_096
+    real = "#define STR(x) #x\n#define NAME(dir, file) STR(dir/file.h)\n" + "NAME(sys, types)\n#undef none\n" * 1_000
+    yield "a macro that spells its header, 1,000 times", real + "names 100 =>\n", 3_000
 
 
 def compile_list(size):
