@@ -252,6 +252,19 @@ def reply(written):
     return written[:12].decode(errors="replace")
 
 
+def choices(bench):
+    """Computed includes under sets of definitions, by every list of choices."""
+    rows = []
+    for number, (label, text, lists_run) in enumerate(bodies.choices()):
+        path = bench.write(f"choices{number}", text.encode())
+        row = bench.row(label, ["choice_examples"], count=lists_run)
+        for job in row.jobs:
+            job.given = path
+        rows.append(row)
+    bench.goal("15,625 headers", rows[0], lambda row: per_one(row) * row.count / 1e9, 1, "s")
+    return Table("What computed includes may name, by lists of choices.", "list", rows)
+
+
 def memos(bench):
     """So many looks and publications in a memo that clients share, whatever the number of its keys."""
     rows = []
@@ -293,6 +306,7 @@ TABLES = [
     hostile,
     real_code,
     expansion,
+    choices,
     start,
     includes,
     searches,

@@ -15,7 +15,7 @@ build() {
     done
 }
 
-programs=$(build lex_program expand_program tree_program pump_program pumpd share_program)
+programs=$(build lex_program expand_program choice_examples tree_program pump_program pumpd share_program)
 counter=out/bench/count_malloc.so
 if ! gcc -O2 -shared -fPIC tools/count_malloc.c -o "$counter" 2> out/bench/count_malloc.log; then
     echo "allocations aren't counted: see out/bench/count_malloc.log" >&2

@@ -18,7 +18,7 @@ build() {
     fi
 }
 
-examples='token_examples expansion_examples frame_examples tree_examples'
+examples='token_examples expansion_examples choice_examples condition_examples frame_examples tree_examples'
 for program in pump_program pumpd lex_program tree_program expand_program share_program $examples; do
     build $program
 done
@@ -97,9 +97,11 @@ for threads in 0 65; do
     try 2 '' 'usage: *' empty "$(program share_program)" slots $threads 1
 done
 printf 'no such case\n' > odd-case
+printf '1 + \377\n' > odd-text
 for name in $examples; do
     try 2 '' 'usage: *' empty "$(program $name)" more
-    try 2 '*' "$name: line *" odd-case "$(program $name)"
+    case $name in condition_examples) input=odd-text ;; *) input=odd-case ;; esac
+    try 2 '*' "$name: line *" $input "$(program $name)"
 done
 try 0 '2 found' '' empty "$(program tree_program)" search 3 2
 try 0 'taken 4000' '' empty "$(program share_program)" slots 4 1000
