@@ -8,3 +8,4 @@ mod OpenFronts
 mod StackSteps
 mod Whole
 mod ClosedNames
+mod PartSteps

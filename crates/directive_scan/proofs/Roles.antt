@@ -1,6 +1,6 @@
 -- What a directive is to the nesting, by its name.
 use Rattle.std.specs.Prelude.{◌≡◌, ◌<◌, ℕ, zero, suc, length, map, get_or, Bool, true, false, List, [], ◌∷◌, ◌++◌, refl, codes, bytes_eq, if◌then◌else◌, ◌⊎◌}
-use Rattle.std.proofs.Common.{sym, ◌∙◌, ap, inr, arith}
+use Rattle.std.proofs.Common.{sym, ◌∙◌, ap, inr, arith, subst}
 use Rattle.std.specs.Cmp.Lexicographic.{bytes_decides}
 use Rattle.std.proofs.lemmas.List.{length-map}
 use Rattle.pp_tokens.specs.declared.Token.{Token}
@@ -13,10 +13,12 @@ use Rattle.directive_scan.specs.declared.outline.Open.{Open}
 use Rattle.directive_scan.specs.declared.role.Nesting.{Nesting}
 use Rattle.directive_scan.specs.declared.role.Nesting.TheVariants as nesting
 use Rattle.directive_scan.specs.Directives.{directive_named, pragma_of, target_of}
-use Rattle.directive_scan.specs.Groups.{Role, single, opening, elif_line, else_line, endif_line, directive_role}
+use Rattle.directive_scan.specs.Groups.{Role, single, opening, elif_line, else_line, endif_line, directive_role, role_of}
 use Rattle.directive_scan.specs.OpenStack.{branch_step, endif_step, directive_step, nesting_step}
+use Rattle.directive_scan.specs.declared.directive.Piece.{Piece}
 use Rattle.directive_scan.specs.declared.spots.Spot.{Spot}
-use Rattle.directive_scan.specs.Spots.{role_told, piece_at, KnowsRole, EachKnowsRole}
+use Rattle.directive_scan.specs.declared.spots.Spot.TheVariants as spot
+use Rattle.directive_scan.specs.Spots.{role_told, piece_at, directive_on, KnowsRole, EachKnowsRole}
 
 -- a name that is one of six
 pub by_name : (name text : List ℕ) (ts : List Token) → bytes_eq name text ≡ true → directive_role (directive_named name ts) ≡ directive_role (directive_named text ts)
@@ -102,6 +104,16 @@ pub shown_at : (file : LexedFile) (spots : List Spot) (i : ℕ) (d : Spot) → i
 shown_at file [] i d below = absurd (omega arith)
 shown_at file (s ∷ spots) zero d below = refl
 shown_at file (s ∷ spots) (suc i) d below = shown_at file spots i d (omega arith)
+
+-- what is told of a directive among the spots is its role among the pieces
+pub role_here : (file : LexedFile) (spots : List Spot) (i : ℕ) (d : Spot) (line at : ℕ) (n : Nesting) (p : Piece) → EachKnowsRole file spots → i < length spots
+    → get_or spots i d ≡ spot.Line line at n → role_told n ≡ role_of (get_or (map (piece_at file) spots) i p)
+unfolding EachKnowsRole
+role_here file [] i d line at n p each below is = absurd (omega arith)
+role_here file (s ∷ spots) zero d line at n p each below is =
+    let here : role_told n ≡ directive_role (directive_on file line) = subst (KnowsRole file) is each.0 in
+    here ∙ ap (λ (x : Spot). role_of (piece_at file x)) (sym is)
+role_here file (s ∷ spots) (suc i) d line at n p each below is = role_here file spots i d line at n p each.1 (omega arith) is
 
 pub length_shown : (file : LexedFile) (spots : List Spot) (i : ℕ) → i < length spots → i < length (map (piece_at file) spots)
 length_shown file spots i below = omega (arith, below, length-map spots (piece_at file))

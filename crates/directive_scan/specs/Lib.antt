@@ -3,11 +3,15 @@
 --     Gathered      how the pieces of a file come together, line by line
 --     Spots         where the pieces of a file lie in its lexed form
 --     HeaderNames   the header name that expanded tokens give
+--     Operands      the operands of `__has_include` on the line of a condition
+--     PartsSoFar    how the parts of such a line come together, token by token
 --     Groups        how pieces nest, and what is wrong where they don't
 --     OpenStack     the open conditionals of a file, piece by piece
 pub mod Directives
 pub mod Gathered
 pub mod HeaderNames
+pub mod Operands
+pub mod PartsSoFar
 pub mod Groups
 pub mod OpenStack
 pub mod Spots

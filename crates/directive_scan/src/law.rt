@@ -1,7 +1,12 @@
 // Laws of the definitions.
-ghost use Rattle.std.specs.Prelude.{◌≡◌, ◌↔◌, List, None};
+ghost use Rattle.std.specs.Prelude.{◌≡◌, ◌↔◌, List, None, Some, false, map, codes};
+ghost use Rattle.std.specs.List.{list_any};
+ghost use Rattle.pp_tokens.specs.declared.Token.{Token};
+ghost use Rattle.pp_tokens.specs.Marks.{is_word};
 ghost use Rattle.directive_scan.specs.Groups.{Group, HasOutline, Outline, Role, malformed_by, outline, role_of, whole};
+ghost use Rattle.directive_scan.specs.Operands.{parts_of};
 ghost use Rattle.directive_scan.specs.declared.directive.Piece.{Piece};
+ghost use Rattle.directive_scan.specs.declared.operand.ConditionPart.TheVariants.{Written};
 
 /// Each list of pieces has the outline that the definition computes.
 pub fn outline_holds()
@@ -16,4 +21,9 @@ pub fn one_outline()
 /// Nothing is malformed exactly where the whole file is groups.
 pub fn nesting_told()
     ensures { (pieces : List Piece) → (malformed_by (outline role_of pieces) ≡ None) ↔ ((g : Group) × HasOutline role_of pieces (whole g)) }
+{}
+
+/// A condition's line without `__has_include` has its tokens as parts, as written.
+pub fn parts_without_probe()
+    ensures { (line : List Token) → list_any (is_word (codes "__has_include")) line ≡ false → parts_of line ≡ Some (map Written line) }
 {}

@@ -2,11 +2,13 @@
 ghost use Rattle.std.specs.Prelude.{◌≡◌, ◌<◌, ◌≤◌, ◌+◌, [], length, map, get_or, IfOk};
 ghost use Rattle.directive_scan.specs.Directives.{pieces};
 ghost use Rattle.directive_scan.specs.Groups.{malformed_by, outline, role_of};
-ghost use Rattle.directive_scan.specs.Spots.{piece_seen, directive_seen};
+ghost use Rattle.directive_scan.specs.Spots.{piece_seen, directive_seen, role_told};
+ghost use Rattle.directive_scan.specs.declared.directive.Piece.{Piece};
 
 use crate::conditional::Malformed;
 use crate::directive::Directive;
 use crate::outline::first_malformed;
+use crate::role::Nesting;
 use crate::scanner::directive_at;
 use crate::spots::{Spot, spots};
 use pp_tokens::{Lexed, Tokens};
@@ -80,6 +82,17 @@ impl Pieces {
         ensures { IfOk result (λ found. found ≡ malformed_by (outline role_of self.now)) }
     {
         first_malformed(alloc, &self.spots)
+    }
+
+    /// What the piece with a number is to the nesting of conditionals (ISO C 6.10.1). No token is read.
+    pub fn nesting(&self, number: usize) -> Nesting
+        requires { number < length self.now }
+        ensures { (p : Piece) → role_told result ≡ role_of (get_or self.now number p) }
+    {
+        match self.spots[number] {
+            Spot::Text { .. } => Nesting::Single,
+            Spot::Line { nesting, .. } => nesting,
+        }
     }
 
     /// The piece with a number, from 0.

@@ -137,7 +137,7 @@ fn target_at(alloc: Global, lexed: &Lexed, line: usize) -> Result<Target, AllocE
 }
 
 // The header name that a spelling is.
-fn header_name(alloc: Global, text: &[u8]) -> Result<HeaderName, AllocError>
+pub fn header_name(alloc: Global, text: &[u8]) -> Result<HeaderName, AllocError>
     ensures { IfOk result (λ header. header ≡ header_name text.now) }
 {
     let name = Bytes::copy_of(alloc, between(text))?;
