@@ -1,13 +1,15 @@
 -- Reading words from left to right.
-use Rattle.std.proofs.Common.{◌≡◌, ℕ, ◌+◌, ◌<◌, ◌≤◌, ◌⊎◌, inl, inr, List, [], ◌∷◌, length, drop, get_or, Option, Some, None, Result, Ok, Err, refl, sym, ap, ◌∙◌, arith}
-use Rattle.std.proofs.lemmas.List.{drop_all, drop_more}
+use Rattle.std.proofs.Common.{◌≡◌, ℕ, ◌+◌, ◌<◌, ◌≤◌, ◌⊎◌, inl, inr, if◌then◌else◌, Bool, true, false, List, [], ◌∷◌, length, drop, get_or, Option, Some, None, Result, Ok, Err, refl, sym, ap, ◌∙◌, arith, bytes_eq}
+use Rattle.std.specs.Prelude.{codes}
+use Rattle.std.proofs.lemmas.List.{drop_all, drop_more, length-drop}
 use Rattle.tree_model.specs.Paths.{Text}
 use Rattle.job_words.specs.declared.given.Given.{Given}
 use Rattle.job_words.specs.declared.given.Taker.{Taker}
 use Rattle.job_words.specs.declared.reading.WordError.{WordError}
 use Rattle.job_words.specs.declared.reading.WordError.TheVariants.{Memory}
-use Rattle.job_words.specs.Words.{Onward, Takes, at_word, at_operand, read_on}
-use Rattle.job_words.specs.Told.{IsRead, at_any}
+use Rattle.job_words.specs.declared.given.Taker.TheVariants.{Directory, QuoteDirectory, SystemDirectory, AfterDirectory, Include, Define, Undefine, Output}
+use Rattle.job_words.specs.Words.{Onward, Word, Takes, Trigraphs, NoEffect, Source, NotKnown, at_word, at_operand, begins, has_no_effect, is_no_name, read_on, word_of, word_without_operand}
+use Rattle.job_words.specs.Told.{IsRead, IsShortWord, at_any}
 
 -- an operand in its option's word
 pub operand-here : (next : Onward) (taker : Taker) (text : Text) (given : Given) → 0 < length text → at_operand next taker text given ≡ at_word next (Takes taker text) given
@@ -41,3 +43,30 @@ error-at whole step next why is (inr ends) = inr (is ∙ ends next)
 -- the end of all words
 pub at-end : (words : List Text) (i : ℕ) (waiting : Option Taker) (given : Given) → length words ≤ i → read_on waiting (drop i words) given ≡ read_on waiting [] given
 at-end words i waiting given past = ap (λ rest. read_on waiting rest given) (drop_all i words past)
+
+-- ---- lengths ----
+
+takes-short : (test : Bool) (taker : Taker) (text : Text) (otherwise : Word) → length text ≤ 4096 → IsShortWord otherwise → IsShortWord (if test then Takes taker text else otherwise)
+takes-short true taker text otherwise short other = short
+takes-short false taker text otherwise short other = other
+
+without-short : (a b c : Bool) (word : Text) → IsShortWord (if a then Trigraphs else (if b then NoEffect else (if c then NotKnown else Source word)))
+without-short true b c word = tt
+without-short false true c word = tt
+without-short false false true word = tt
+without-short false false false word = tt
+
+-- an operand is no longer than its word
+pub short-word : (word : Text) → length word ≤ 4096 → IsShortWord (word_of word)
+unfolding word_of word_without_operand
+short-word word short =
+    let behind : (n : ℕ) → length (drop n word) ≤ 4096 = λ n. omega (arith, length-drop n word, short) in
+    takes-short (begins word (codes "-I")) Directory (drop 2 word) _ (behind 2)
+    (takes-short (begins word (codes "-iquote")) QuoteDirectory (drop 7 word) _ (behind 7)
+    (takes-short (begins word (codes "-isystem")) SystemDirectory (drop 8 word) _ (behind 8)
+    (takes-short (begins word (codes "-idirafter")) AfterDirectory (drop 10 word) _ (behind 10)
+    (takes-short (begins word (codes "-include")) Include (drop 8 word) _ (behind 8)
+    (takes-short (begins word (codes "-D")) Define (drop 2 word) _ (behind 2)
+    (takes-short (begins word (codes "-U")) Undefine (drop 2 word) _ (behind 2)
+    (takes-short (begins word (codes "-o")) Output (drop 2 word) _ (behind 2)
+    (without-short (bytes_eq word (codes "-trigraphs")) (has_no_effect word) (is_no_name word) word))))))))

@@ -6,8 +6,9 @@ use Rattle.std.specs.List.{list_any}
 use Rattle.tree_model.specs.Paths.{Text}
 use Rattle.job_words.specs.declared.given.Given.{Given}
 use Rattle.job_words.specs.declared.given.Taker.{Taker}
+use Rattle.job_words.specs.declared.given.Taker.TheVariants.{Define, Undefine}
 use Rattle.job_words.specs.declared.reading.WordError.{WordError}
-use Rattle.job_words.specs.declared.reading.WordError.TheVariants.{Memory}
+use Rattle.job_words.specs.declared.reading.WordError.TheVariants.{BadMacro, Memory}
 use Rattle.job_words.specs.Words.{Word, Takes, Trigraphs, NoEffect, Source, NotKnown, Onward, at_operand, at_word, word_of}
 use Rattle.job_words.specs.declared.word.Word as code
 use Rattle.job_words.specs.declared.word.Word.TheVariants as variant
@@ -18,6 +19,20 @@ told_word variant.Trigraphs = Trigraphs
 told_word variant.NoEffect = NoEffect
 told_word (variant.Source name) = Source name.now
 told_word variant.Unknown = NotKnown
+
+-- the operand in an option's word has at most 4,096 bytes
+abbrev pub IsShortWord : Word → Type 0
+IsShortWord (Takes taker text) = length text ≤ 4096
+IsShortWord Trigraphs = Unit {0}
+IsShortWord NoEffect = Unit {0}
+IsShortWord (Source name) = Unit {0}
+IsShortWord NotKnown = Unit {0}
+
+-- an option whose operand is kept as it is
+abbrev pub IsText : Taker → Type 0
+IsText Define = ⊥
+IsText Undefine = ⊥
+IsText _ = Unit {0}
 
 -- how many directories were given
 abbrev pub texts_given : Given → ℕ
@@ -35,6 +50,10 @@ IsRead step old new result =
     (λ waiting. ((next : Onward) → step next ≡ next waiting new) × (texts_given new ≤ texts_given old + 1))
     (λ why. (why ≡ Memory) ⊎ ((next : Onward) → step next ≡ Err why))
 
+-- an error of code tells that there is no macro or no line; want of memory tells nothing
+abbrev pub IsRefused : {A : Type 0} → WordError → Option A → Type 0
+IsRefused why given = (why ≡ Memory) ⊎ ((why ≡ BadMacro) × (given ≡ None))
+
 -- a set has the texts of a list
 abbrev pub HasTexts : {S : Type 0} → HashSet (Bor Text) S → List Text → Type 0
 HasTexts seen texts = (text : Text) → contains_by (λ other. bytes_eq text other.now) seen ≡ list_any (λ other. bytes_eq text other) texts
@@ -42,6 +61,11 @@ HasTexts seen texts = (text : Text) → contains_by (λ other. bytes_eq text oth
 -- a byte stands at no place of a text from this one on
 abbrev pub NoneFrom : ℕ → ℕ → Text → Type 0
 NoneFrom start byte text = (k : ℕ) → start ≤ k → k < length text → (slice_index text k == byte) ≡ false
+
+-- the first place of a byte in a text
+abbrev pub IsFirst : ℕ → ℕ → Text → Type 0
+IsFirst place byte text =
+    (place < length text) × ((slice_index text place == byte) ≡ true) × ((k : ℕ) → k < place → (slice_index text k == byte) ≡ false)
 
 -- the last place of a byte in a text
 abbrev pub IsLast : ℕ → ℕ → Text → Type 0

@@ -5,10 +5,12 @@ use Rattle.tree_model.specs.Paths.{Text}
 use Rattle.tree_model.specs.Walk.{is_absolute, components, last_of}
 use Rattle.search_path.specs.SetupOf.{SetupData, setup_of}
 use Rattle.job_words.specs.JobOf.{JobData, job_of_parts}
+use Rattle.job_words.specs.Macros.{define_word, undef_word}
+use Rattle.job_words.specs.declared.macro_word.MacroWord.{MacroWord}
 use Rattle.job_words.specs.declared.reading.WordError.{WordError}
-use Rattle.job_words.specs.declared.reading.WordError.TheVariants.{NoSource, TwoSources, Unknown, NoOperand, Limit, Cwd}
+use Rattle.job_words.specs.declared.reading.WordError.TheVariants.{NoSource, TwoSources, Unknown, NoOperand, BadMacro, Limit, Cwd}
 use Rattle.job_words.specs.declared.given.Taker.{Taker}
-use Rattle.job_words.specs.declared.given.Taker.TheVariants.{Directory, QuoteDirectory, SystemDirectory, AfterDirectory, Include, Output}
+use Rattle.job_words.specs.declared.given.Taker.TheVariants.{Directory, QuoteDirectory, SystemDirectory, AfterDirectory, Include, Define, Undefine, Output}
 use Rattle.job_words.specs.declared.given.Given.{Given}
 
 -- ---- one word ----
@@ -60,21 +62,30 @@ word_of word =
     (takes (codes "-isystem") SystemDirectory word
     (takes (codes "-idirafter") AfterDirectory word
     (takes (codes "-include") Include word
-    (takes (codes "-o") Output word (word_without_operand word))))))
+    (takes (codes "-D") Define word
+    (takes (codes "-U") Undefine word
+    (takes (codes "-o") Output word (word_without_operand word))))))))
 
 -- ---- all words ----
 
 -- nothing was read
 abbrev pub nothing : Given
-nothing = record { source = None; quote = []; directories = []; system = []; after = []; forced = []; output = None; trigraphs = false }
+nothing = record { source = None; quote = []; directories = []; system = []; after = []; macros = []; forced = []; output = None; trigraphs = false }
 
--- an operand joins those of its option, or is refused, as none of these options does with its own; of outputs the last holds
+-- a macro joins those before it; without one there is no job
+abbrev pub give_macro : Option MacroWord → Given → Result Given WordError
+give_macro None given = Err BadMacro
+give_macro (Some word) given = Ok (record given { macros = given.macros ++ word ∷ [] })
+
+-- an operand joins those of its option, or is refused; of outputs the last holds
 abbrev pub give : Taker → Text → Given → Result Given WordError
 give Directory text given = Ok (record given { directories = given.directories ++ text ∷ [] })
 give QuoteDirectory text given = Ok (record given { quote = given.quote ++ text ∷ [] })
 give SystemDirectory text given = Ok (record given { system = given.system ++ text ∷ [] })
 give AfterDirectory text given = Ok (record given { after = given.after ++ text ∷ [] })
 give Include text given = Ok (record given { forced = given.forced ++ text ∷ [] })
+give Define text given = give_macro (define_word text) given
+give Undefine text given = give_macro (undef_word text) given
 give Output text given = Ok (record given { output = Some text })
 
 -- what was read so far is read on from, and a refusal stays
@@ -144,6 +155,7 @@ job_in cwd words source given = job_of_parts (record {
   words = words;
   source = source;
   setup = setup_in cwd given;
+  macros = given.macros;
   forced = given.forced;
   output = unwrap_or given.output (output_of source);
 })

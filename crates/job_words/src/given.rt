@@ -1,14 +1,15 @@
 // What compile words give.
-ghost use Rattle.std.specs.Prelude.{◌≡◌, ◌≤◌, ◌+◌, ◌⊎◌, Ok, Err, OnOk, IfErr};
+ghost use Rattle.std.specs.Prelude.{◌≡◌, ◌≤◌, ◌+◌, ◌⊎◌, Some, length, Ok, Err, OnOk, IfErr};
 ghost use Rattle.job_words.specs.Words as compile;
-ghost use Rattle.job_words.specs.Told.{texts_given};
+ghost use Rattle.job_words.specs.Told.{texts_given, IsText};
 
-use crate::reading::WordError;
+use crate::macros::{define_word, undef_word};
+use crate::{MacroWord, WordError};
 use base_types::{Bytes, List};
 use std::alloc::{AllocError, Global};
 
 // An option that takes an operand: a directory for all names, for quoted names, behind those for all, or behind these;
-// a file that is included in front of the source; or the output's name.
+// a file that is included in front of the source; a macro that is defined or undefined; or the output's name.
 #[derive(Clone, Copy, Debug, PartialEq, Eq, Drop)]
 pub enum Taker {
     Directory,
@@ -16,6 +17,8 @@ pub enum Taker {
     SystemDirectory,
     AfterDirectory,
     Include,
+    Define,
+    Undefine,
     Output,
 }
 
@@ -27,6 +30,7 @@ pub struct Given {
     pub directories: List<Bytes>,
     pub system: List<Bytes>,
     pub after: List<Bytes>,
+    pub macros: List<MacroWord>,
     pub forced: List<Bytes>,
     pub output: Option<Bytes>,
     pub trigraphs: bool,
@@ -42,6 +46,7 @@ impl Given {
             directories: List::new(alloc),
             system: List::new(alloc),
             after: List::new(alloc),
+            macros: List::new(alloc),
             forced: List::new(alloc),
             output: None,
             trigraphs: false,
@@ -50,20 +55,37 @@ impl Given {
 
     // Adds an operand to those of its option, or refuses it.
     pub fn give(&mut self, alloc: Global, taker: Taker, text: &[u8]) -> Result<(), WordError>
+        requires { length text.now ≤ 4096 }
         ensures given { OnOk result (compile.give taker text.now self.old ≡ Ok self.new) }
         ensures few { OnOk result (texts_given self.new ≤ texts_given self.old + 1) }
         ensures why { IfErr result (λ e. (e ≡ WordError.Memory) ⊎ (compile.give taker text.now self.old ≡ Err e)) }
     {
-        self.add(taker, Bytes::copy_of(alloc, text)?)?;
+        match taker {
+            Taker::Define => self.give_macro(define_word(alloc, text)?)?,
+            Taker::Undefine => self.give_macro(undef_word(alloc, text)?)?,
+            _ => self.give_text(alloc, taker, text)?,
+        }
+        Ok(())
+    }
+
+    // Adds a macro to those of the words in front.
+    fn give_macro(&mut self, word: MacroWord) -> Result<(), AllocError>
+        ensures given { OnOk result (compile.give_macro (Some word) self.old ≡ Ok self.new) }
+        ensures few { OnOk result (texts_given self.new ≡ texts_given self.old) }
+    {
+        self.macros.push(word)?;
         Ok(())
     }
 
     // Adds an operand to those of an option that takes any.
-    fn add(&mut self, taker: Taker, text: Bytes) -> Result<(), AllocError>
-        ensures given { OnOk result (compile.give taker text self.old ≡ Ok self.new) }
+    fn give_text(&mut self, alloc: Global, taker: Taker, text: &[u8]) -> Result<(), AllocError>
+        requires { IsText taker }
+        ensures given { OnOk result (compile.give taker text.now self.old ≡ Ok self.new) }
         ensures few { OnOk result (texts_given self.new ≤ texts_given self.old + 1) }
     {
+        let text = Bytes::copy_of(alloc, text)?;
         match taker {
+            Taker::Define | Taker::Undefine => unreachable!(),
             Taker::Directory => self.directories.push(text)?,
             Taker::QuoteDirectory => self.quote.push(text)?,
             Taker::SystemDirectory => self.system.push(text)?,

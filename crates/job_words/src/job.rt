@@ -6,6 +6,7 @@ ghost use Rattle.job_words.specs.JobOf.{job_of_parts};
 ghost use Rattle.job_words.specs.Keys.{is_same_job, is_same_job-Decides, same_job_equiv, job_writes};
 ghost use Rattle.job_words.specs.Words.{IsJob};
 
+use crate::MacroWord;
 use base_types::{Bytes, List};
 use search_path::Setup;
 use std::alloc::{AllocError, Global};
@@ -21,11 +22,12 @@ pub struct Job {
 }
 
 // What a job and its copies hold.
-#[derive(PartialEq, Eq, Hash, Drop)]
+#[derive(PartialEq, Eq, Drop)]
 pub struct Parts {
     pub words: List<Bytes>,
     pub source: Bytes,
     pub setup: Setup,
+    pub macros: List<MacroWord>,
     pub forced: List<Bytes>,
     pub output: Bytes,
 }
@@ -90,6 +92,14 @@ impl Job {
         &self.parts.setup
     }
 
+    /// What the `-D` and `-U` of the words say, in the order of the words; a name may stand in several. All of them come
+    /// before the files that are included in front of the source.
+    pub fn macros(&self) -> &[MacroWord]
+        ensures { result.now ≡ self.now.macros }
+    {
+        self.parts.macros.as_slice()
+    }
+
     /// The names of the files that are included in front of the source, in order.
     pub fn forced(&self) -> &[Bytes]
         ensures { result.now ≡ self.now.forced }
@@ -125,6 +135,10 @@ impl Hash for Job {
     ghost respects_eq = { λ x y same. ap job_writes ((is_same_job-Decides x y).0 same) };
 
     fn hash<H: Hasher>(&self, state: &mut H) {
-        self.parts.hash(state);
+        self.parts.words.hash(state);
+        self.parts.source.hash(state);
+        self.parts.setup.hash(state);
+        self.parts.forced.hash(state);
+        self.parts.output.hash(state);
     }
 }

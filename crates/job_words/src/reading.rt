@@ -4,7 +4,7 @@ ghost use Rattle.std.specs.List.{list_all};
 ghost use Rattle.tree_model.specs.Walk as walks;
 ghost use Rattle.job_words.specs.Words as compile;
 ghost use Rattle.job_words.specs.Words.{add_once, each_once, is_directory, are_short, output_of, read_on, reading, stem, nothing, with_source};
-ghost use Rattle.job_words.specs.Told.{IsLast, IsRead, HasTexts, NoneFrom, texts_given, told_word, at_any};
+ghost use Rattle.job_words.specs.Told.{IsLast, IsRead, IsShortWord, HasTexts, NoneFrom, texts_given, told_word, at_any};
 
 use crate::Job;
 use crate::given::{Given, Taker};
@@ -19,8 +19,8 @@ use thiserror::Error;
 /// Why words give no job. In this order: the working directory doesn't begin with `/`, or has a byte 0 or more than
 /// 4,096 bytes (`Cwd`); there are more than 1,000 words, or one has more than 4,096 bytes (`Limit`); then the words
 /// from left to right: a second source (`TwoSources`), a word that isn't known (`Unknown`), an option whose operand is
-/// missing or empty (`NoOperand`), a macro that can't be defined so (`BadMacro`, which comes from no word so far); and
-/// at last that no word is a source (`NoSource`). `Memory`: no memory was found.
+/// missing or empty (`NoOperand`), a macro that can't be defined or undefined so (`BadMacro`); and at last that no word is
+/// a source (`NoSource`). `Memory`: no memory was found.
 #[derive(Clone, Copy, Debug, PartialEq, Eq, Drop, Error)]
 pub enum WordError {
     #[error("NoSource")]
@@ -59,10 +59,15 @@ const TEXT_LIMIT: usize = 4096;
 const WORD_LIMIT: usize = 1000;
 
 /// The job that a working directory and compile words give, or the first reason why they give none. Options are those
-/// of GCC: `-I`, `-iquote`, `-isystem`, `-idirafter`, `-include` and `-o`, each with its operand in the same word or
-/// the next one, and `-trigraphs`; `-c`, `-E`, `-S`, `-w`, `-pipe`, `-pthread`, `-nostdinc` and what begins with `-O`,
-/// `-W` (but not `-Wp,`), `-g`, `-f`, `-m`, `-pedantic` or `-std=` have no effect. Time is proportional to the bytes of
-/// the words, as far as the directories' hashes differ.
+/// of GCC: `-I`, `-iquote`, `-isystem`, `-idirafter`, `-include`, `-D`, `-U` and `-o`, each with its operand in the same
+/// word or the next one, and `-trigraphs`; `-c`, `-E`, `-S`, `-w`, `-pipe`, `-pthread`, `-nostdinc` and what begins with
+/// `-O`, `-W` (but not `-Wp,`), `-g`, `-f`, `-m`, `-pedantic` or `-std=` have no effect.
+///
+/// The operand of `-D` is read as what stands behind `#define`, with its first `=` as a space and, where it has none, ` 1`
+/// behind it. It is a `BadMacro` where this isn't one line that defines a macro (ISO C 6.10.3), as one with a line feed or
+/// with a comment that never ends. The operand of `-U` is a `BadMacro` where it isn't one identifier that may be defined.
+///
+/// Time is proportional to the bytes of the words, as far as the hashes of directories and of parameters' names differ.
 #[tactic(auto, unfolding(crate::specs::Words::reading))]
 pub fn read_words(alloc: Global, cwd: &[u8], words: &[Bytes]) -> Result<Job, WordError>
     ensures job { IfOk result (λ job. reading cwd.now words.now ≡ Ok job) }
@@ -105,6 +110,7 @@ fn has_no_zero(text: &[u8]) -> bool
 fn are_short(words: &[Bytes]) -> bool
     ensures test { result ≡ are_short words.now }
     ensures few { IsTrue result → length words.now ≤ 1000 }
+    ensures short { IsTrue result → IsTrue (list_all (λ word. nat_le (length word) 4096) words.now) }
 {
     words.len() <= WORD_LIMIT && are_texts(words)
 }
@@ -118,6 +124,7 @@ fn are_texts(words: &[Bytes]) -> bool
 
 // What the words give, from left to right.
 fn read_all(alloc: Global, words: &[Bytes]) -> Result<Given, WordError>
+    requires { IsTrue (list_all (λ word. nat_le (length word) 4096) words.now) }
     ensures given { IfOk result (λ given. read_on None words.now nothing ≡ Ok given) }
     ensures few { IfOk result (λ given. texts_given given ≤ length words.now) }
     ensures why { IfErr result (λ e. (e ≡ WordError.Memory) ⊎ (read_on None words.now nothing ≡ Err e)) }
@@ -140,6 +147,7 @@ fn read_word(
     word: &[u8],
     given: &mut Given,
 ) -> Result<Option<Taker>, WordError>
+    requires { length word.now ≤ 4096 }
     ensures { IsRead (λ next. at_any next waiting word.now given.old) given.old given.new result }
 {
     match waiting {
@@ -154,6 +162,7 @@ fn read_by_itself(
     word: Word<'_>,
     given: &mut Given,
 ) -> Result<Option<Taker>, WordError>
+    requires { IsShortWord (told_word word) }
     ensures { IsRead (λ next. compile.at_word next (told_word word.entry) given.old) given.old given.new result }
 {
     match word {
@@ -180,6 +189,7 @@ fn read_operand(
     text: &[u8],
     given: &mut Given,
 ) -> Result<Option<Taker>, WordError>
+    requires { length text.now ≤ 4096 }
     ensures { IsRead (λ next. compile.at_operand next taker text.now given.old) given.old given.new result }
 {
     if text.is_empty() {
@@ -213,6 +223,7 @@ fn job_of(alloc: Global, cwd: &[u8], words: &[Bytes], given: Given) -> Result<Jo
         directories,
         system,
         after,
+        macros,
         forced,
         output,
         trigraphs,
@@ -230,6 +241,7 @@ fn job_of(alloc: Global, cwd: &[u8], words: &[Bytes], given: Given) -> Result<Jo
         words,
         source,
         setup,
+        macros,
         forced,
         output,
     };

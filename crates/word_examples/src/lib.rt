@@ -10,6 +10,8 @@ mod keys;
 #[cfg(test)]
 mod limits;
 #[cfg(test)]
+mod macros;
+#[cfg(test)]
 mod notation;
 #[cfg(test)]
 mod outputs;

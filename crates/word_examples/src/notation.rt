@@ -1,6 +1,7 @@
 // The job that words give, as text.
 use base_types::{Bytes, List};
-use job_words::{Job, WordError, read_words};
+use job_words::{Job, MacroWord, WordError, read_words};
+use macro_defs::{Definition, Shape};
 use std::alloc::Global;
 use std::process::Abort;
 
@@ -65,7 +66,7 @@ pub fn add_word(rt: &impl Abort, alloc: Global, words: &mut List<Bytes>, word: &
 }
 
 // The source's and the output's name, and then, where there are some, the directories of quoted names, those of all
-// names, the files that are included in front of the source, and whether trigraphs are read.
+// names, the files that are included in front of the source, whether trigraphs are read, and the macros.
 fn shown(rt: &impl Abort, alloc: Global, job: &Job) -> Vec<u8> {
     let mut text = Vec::new(alloc);
     add(rt, &mut text, job.source());
@@ -76,6 +77,9 @@ fn shown(rt: &impl Abort, alloc: Global, job: &Job) -> Vec<u8> {
     add_list(rt, &mut text, b", forced", job.forced());
     if job.setup().trigraphs() {
         add(rt, &mut text, b", trigraphs");
+    }
+    for word in job.macros() {
+        add_macro(rt, &mut text, word);
     }
     text
 }
@@ -88,6 +92,58 @@ fn add_list(rt: &impl Abort, text: &mut Vec<u8>, name: &[u8], items: &[Bytes]) {
         add(rt, text, b" ");
         add(rt, text, item.as_slice());
     }
+}
+
+fn add_macro(rt: &impl Abort, text: &mut Vec<u8>, word: &MacroWord) {
+    match word {
+        MacroWord::Define(name, definition) => {
+            add(rt, text, b", define ");
+            add(rt, text, name.as_slice());
+            add_definition(rt, text, definition);
+        }
+        MacroWord::Undef(name) => {
+            add(rt, text, b", undef ");
+            add(rt, text, name.as_slice());
+        }
+    }
+}
+
+// The parameters in parentheses, and behind `as` the replacement list, with a blank before each token that white space
+// stands before.
+fn add_definition(rt: &impl Abort, text: &mut Vec<u8>, definition: &Definition) {
+    if let Shape::Function { params, variadic } = definition.shape() {
+        add_params(rt, text, params.as_slice(), *variadic);
+    }
+    add(rt, text, b" as");
+    for token in definition.body() {
+        add(
+            rt,
+            text,
+            if token.space {
+                b" ".as_slice()
+            } else {
+                b"".as_slice()
+            },
+        );
+        add(rt, text, token.text.as_slice());
+    }
+}
+
+fn add_params(rt: &impl Abort, text: &mut Vec<u8>, params: &[Bytes], variadic: bool) {
+    add(rt, text, b"(");
+    for name in params {
+        add(rt, text, name.as_slice());
+        add(rt, text, b" ");
+    }
+    add(
+        rt,
+        text,
+        if variadic {
+            b"...)".as_slice()
+        } else {
+            b")".as_slice()
+        },
+    );
 }
 
 /// Adds bytes to a text.

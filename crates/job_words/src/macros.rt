@@ -1,0 +1,120 @@
+// The macros of compile words.
+ghost use Rattle.std.specs.Prelude.{◌≡◌, ◌≤◌, ◌+◌, ◌==◌, true, false, length, drop, Some, IfOk, IfErr};
+ghost use Rattle.std.specs.List.{list_any};
+ghost use Rattle.std.specs.Option.{MatchOption};
+ghost use Rattle.job_words.specs.Macros as spec;
+ghost use Rattle.job_words.specs.Macros.{define_line, line_of, line_at, define_word, undef_word, undef_word_of, defined_word};
+ghost use Rattle.job_words.specs.Told.{IsFirst, IsRefused, NoneFrom};
+ghost use Rattle.macro_defs.specs.Defining.{defined_by};
+
+use crate::{MacroWord, WordError};
+use base_types::{Bytes, List};
+use macro_defs::{DefineError, names_macro, read_define};
+use pp_tokens::{Lexed, Token, lex};
+use std::alloc::{AllocError, Global};
+
+// What a `-D` says.
+#[tactic(auto, unfolding(crate::specs::Macros::define_word))]
+pub fn define_word(alloc: Global, text: &[u8]) -> Result<MacroWord, WordError>
+    requires { length text.now ≤ 4096 }
+    ensures macros { IfOk result (λ word. define_word text.now ≡ Some word) }
+    ensures why { IfErr result (λ e. IsRefused e (define_word text.now)) }
+{
+    let line = define_line(alloc, text)?;
+    let tokens = line_tokens(alloc, &line)?;
+    defined(alloc, tokens.as_slice())
+}
+
+// What a `-U` says.
+#[tactic(auto, unfolding(crate::specs::Macros::undef_word))]
+pub fn undef_word(alloc: Global, text: &[u8]) -> Result<MacroWord, WordError>
+    requires { length text.now ≤ 4096 }
+    ensures macros { IfOk result (λ word. undef_word text.now ≡ Some word) }
+    ensures why { IfErr result (λ e. IsRefused e (undef_word text.now)) }
+{
+    let tokens = line_tokens(alloc, text)?;
+    undefined(alloc, tokens.as_slice())
+}
+
+// What `-D` defines, as what stands behind `#define`.
+fn define_line(alloc: Global, text: &[u8]) -> Result<Vec<u8>, AllocError>
+    ensures line { IfOk result (λ line. line.items ≡ define_line text.now) }
+    ensures short { IfOk result (λ line. length line.items ≤ length text.now + 2) }
+{
+    let mut line = Vec::from_slice(alloc, text)?;
+    match first_equals(text) {
+        Some(place) => line[place] = b' ',
+        None => line.extend_from_slice(b" 1")?,
+    }
+    Ok(line)
+}
+
+// The first `=` of a text.
+fn first_equals(text: &[u8]) -> Option<usize>
+    ensures { MatchOption result (NoneFrom 0 61 text.now) (λ place. IsFirst place 61 text.now) }
+{
+    text.iter().position(|b| *b == b'=')
+}
+
+// The tokens of a text that is one line, without a comment that never ends.
+#[tactic(auto, unfolding(crate::specs::Macros::line_of))]
+fn line_tokens(alloc: Global, text: &[u8]) -> Result<List<Token>, WordError>
+    requires { length text.now ≤ 16777216 }
+    ensures line { IfOk result (λ tokens. line_of text.now ≡ Some tokens) }
+    ensures why { IfErr result (λ e. IsRefused e (line_of text.now)) }
+{
+    if has_newline(text) {
+        return Err(WordError::BadMacro);
+    }
+    let lexed = lex(alloc, text, false)?;
+    if lexed.open_comment().is_some() {
+        return Err(WordError::BadMacro);
+    }
+    Ok(first_line(alloc, &lexed)?)
+}
+
+fn has_newline(text: &[u8]) -> bool
+    ensures { result ≡ list_any (λ b. b == 10) text.now }
+{
+    text.iter().any(|b| *b == b'\n')
+}
+
+// The tokens of the first line.
+fn first_line(alloc: Global, lexed: &Lexed) -> Result<List<Token>, AllocError>
+    ensures { IfOk result (λ tokens. tokens ≡ line_at lexed.now 0) }
+{
+    let mut tokens = Vec::new(alloc);
+    for at in 0..lexed.token_count(0) {
+        if let Some(token) = lexed.token(0, at) {
+            tokens.push(token.to_token(alloc)?)?;
+        }
+    }
+    Ok(List::of(tokens))
+}
+
+// What tokens behind `#define` define.
+fn defined(alloc: Global, tokens: &[Token]) -> Result<MacroWord, WordError>
+    ensures macros { IfOk result (λ word. defined_word (defined_by tokens.now) ≡ Some word) }
+    ensures why { IfErr result (λ e. IsRefused e (defined_word (defined_by tokens.now))) }
+{
+    match read_define(alloc, tokens) {
+        Ok((name, definition)) => Ok(MacroWord::Define(name, definition)),
+        Err(DefineError::Memory) => Err(WordError::Memory),
+        Err(_) => Err(WordError::BadMacro),
+    }
+}
+
+// One identifier that may be defined.
+fn undefined(alloc: Global, tokens: &[Token]) -> Result<MacroWord, WordError>
+    ensures macros { IfOk result (λ word. undef_word_of (Some tokens.now) ≡ Some word) }
+    ensures why { IfErr result (λ e. IsRefused e (undef_word_of (Some tokens.now))) }
+{
+    let [token] = tokens else {
+        return Err(WordError::BadMacro);
+    };
+    if !names_macro(token) {
+        return Err(WordError::BadMacro);
+    }
+    let name = Bytes::copy_of(alloc, token.text.as_slice())?;
+    Ok(MacroWord::Undef(name))
+}
