@@ -1,44 +1,238 @@
--- A group's pieces one after another do what the group does, and a file with nothing malformed is a group.
-use Rattle.std.proofs.Common.{◌≡◌, ℕ, List, None, refl, sym, ◌∙◌, ap}
-use Rattle.std.specs.Prelude.{◌↔◌}
-use Rattle.directive_scan.specs.declared.Directive.{Directive}
-use Rattle.directive_scan.specs.declared.Directive.TheVariants as named
+-- Reading pieces one after another is reading the groups that they are.
+use Rattle.std.proofs.Common.{◌≡◌, ℕ, zero, suc, Bool, true, false, List, [], ◌∷◌, ◌++◌, refl, ap, sym, ◌∙◌, append_assoc, append-nil, inl, inr}
 use Rattle.directive_scan.specs.declared.Piece.{Piece}
-use Rattle.directive_scan.specs.declared.Piece.TheVariants.{Run, Line}
-use Rattle.directive_scan.specs.Groups.{opening, directive_role, role_of, Group, nothing, one, conditional, group_pieces, IsGroup, Outline, whole, HasOutline, outline, malformed_by}
-use Rattle.cpp_output.specs.Layout.{Event}
-use Rattle.daemon_cpp.specs.Prep.{World, Entering, State, Step, Go, Stop, and_then, say, piece_step, directive_step, run_group, run_outline}
-use Rattle.daemon_cpp.specs.Reading.{run_pieces}
+use Rattle.directive_scan.specs.Groups.{Role, single, opening, elif_line, else_line, endif_line, role_of, Group, nothing, one, conditional, Branches, ended, branch, group_pieces, branches_pieces, IsGroup, IsBranches}
+use Rattle.daemon_cpp.specs.Prep.{World, State, Step, Go, Stop, and_then, Reached, Gives, Ends, with_value, Entering, piece_step, piece_test, group_or, run_group, run_branches}
+use Rattle.daemon_cpp.specs.Reading.{Stage, reading, seeking, passing, stage_of, staged, run_flat, skipped, skip_piece}
 
-then-same : (f g : State → Step) → ((s : State) → f s ≡ g s) → (step : Step) → and_then f step ≡ and_then g step
-then-same f g same (Go s) = same s
-then-same f g same (Stop d s) = refl
+-- one step after another
 
--- the line that opens a conditional ends preprocessing, so nothing behind it matters
-opening-directive : (world : World) (entering : Entering) (at : ℕ) (what : Directive) (next : State → Step) (s : State) → directive_role what ≡ opening → directive_step world entering at what s ≡ and_then next (directive_step world entering at what s)
-opening-directive world entering at (named.If ts) next s role = refl
-opening-directive world entering at (named.Ifdef ts) next s role = refl
-opening-directive world entering at (named.Ifndef ts) next s role = refl
-opening-directive world entering at what next s role = absurd (cc)
+pub then-same : (f g : State → Step) (s : Step) → ((x : State) → f x ≡ g x) → and_then f s ≡ and_then g s
+then-same f g (Go x) h = h x
+then-same f g (Stop d x) h = refl
 
-opening-ends : (world : World) (entering : Entering) (piece : Piece) (next : State → Step) (s : State) → role_of piece ≡ opening → piece_step world entering piece s ≡ and_then next (piece_step world entering piece s)
-opening-ends world entering (Run tokens) next s role = absurd (cc)
-opening-ends world entering (Line at what) next s role = opening-directive world entering at what next s role
+pub then-then : (f g : State → Step) (s : Step) → and_then f (and_then g s) ≡ and_then (λ x. and_then f (g x)) s
+then-then f g (Go x) = refl
+then-then f g (Stop d x) = refl
 
-pub run-flat : (world : World) (entering : Entering) (g : Group) (s : State) → IsGroup role_of g → run_group world entering g s ≡ run_pieces world entering (group_pieces g) s
-unfolding run_group run_pieces group_pieces IsGroup
-run-flat world entering nothing s is = refl
-run-flat world entering (one piece g) s (role, is) =
-    then-same (λ after. run_group world entering g after) (λ after. run_pieces world entering (group_pieces g) after) (λ after. run-flat world entering g after is) (piece_step world entering piece s)
-run-flat world entering (conditional piece g bs behind) s (role, is, branches, rest) =
-    opening-ends world entering piece _ s role
+pub then-value : {A : Type 0} (f : State → Step) (g : A → State → Step) (r : Reached A) → and_then f (with_value g r) ≡ with_value (λ a x. and_then f (g a x)) r
+then-value f g (Gives a x) = refl
+then-value f g (Ends d x) = refl
 
--- where nothing is malformed, the groups of a file are run as its pieces
-pub run-outline : (world : World) (entering : Entering) (events : List Event) (pieces : List Piece) (s : State) → (malformed_by (outline role_of pieces) ≡ None) ↔ ((g : Group) × HasOutline role_of pieces (whole g)) → ((o : Outline) → HasOutline role_of pieces o → o ≡ outline role_of pieces) → malformed_by (outline role_of pieces) ≡ None → run_outline world entering events (outline role_of pieces) s ≡ and_then (λ after. run_pieces world entering pieces after) (say events s)
-run-outline world entering events pieces s told only fine = of_group (told.0 fine)
-  where
-    of_group : (g : Group) × HasOutline role_of pieces (whole g) → run_outline world entering events (outline role_of pieces) s ≡ and_then (λ after. run_pieces world entering pieces after) (say events s)
-    of_group (g, (is, same)) =
-        ap (λ (o : Outline). run_outline world entering events o s) (sym (only (whole g) (is, same)))
-        ∙ then-same (λ after. run_group world entering g after) (λ after. run_pieces world entering (group_pieces g) after) (λ after. run-flat world entering g after is) (say events s)
-        ∙ ap (λ (ps : List Piece). and_then (λ after. run_pieces world entering ps after) (say events s)) same
+pub value-same : {A : Type 0} (f g : A → State → Step) (r : Reached A) → ((a : A) (x : State) → f a x ≡ g a x) → with_value f r ≡ with_value g r
+value-same f g (Gives a x) h = h a x
+value-same f g (Ends d x) h = refl
+
+three : (a b c : List Piece) → (a ++ b) ++ c ≡ a ++ (b ++ c)
+three a b c = append_assoc a b c
+
+module _ (world : World) (entering : Entering) where
+  -- a piece that is read at a stage
+  pub at-role : (p : Piece) (ps : List Piece) (state : State) (stage : Stage) (r : Role) → role_of p ≡ r →
+      run_flat world entering stage (p ∷ ps) state ≡ staged world entering (λ next after. run_flat world entering next ps after) p state stage r
+  unfolding run_flat
+  at-role p ps state stage r h = ap (staged world entering (λ next after. run_flat world entering next ps after) p state stage) h
+
+  -- groups that aren't read
+  mutual
+    unfolding group_pieces branches_pieces IsGroup IsBranches
+
+    seek-group : (g : Group) → IsGroup role_of g → (n : ℕ) (rest : List Piece) (state : State) →
+        run_flat world entering (seeking n) (group_pieces g ++ rest) state ≡ run_flat world entering (seeking n) rest state
+    seek-group nothing w n rest state = refl
+    seek-group (one p g) w n rest state =
+        at-role p (group_pieces g ++ rest) state (seeking n) single w.0 ∙ seek-group g w.1 n rest state
+    seek-group (conditional p g bs after) w n rest state =
+        at-role p ((group_pieces g ++ (branches_pieces bs ++ group_pieces after)) ++ rest) state (seeking n) opening w.0
+        ∙ ap (λ ps. run_flat world entering (seeking (suc n)) ps state) (three (group_pieces g) (branches_pieces bs ++ group_pieces after) rest ∙ ap (λ ps. group_pieces g ++ ps) (three (branches_pieces bs) (group_pieces after) rest))
+        ∙ seek-group g w.1 (suc n) (branches_pieces bs ++ (group_pieces after ++ rest)) state
+        ∙ seek-branches bs false w.2 n (group_pieces after ++ rest) state
+        ∙ seek-group after w.3 n rest state
+
+    seek-branches : (bs : Branches) (b : Bool) → IsBranches role_of b bs → (n : ℕ) (rest : List Piece) (state : State) →
+        run_flat world entering (seeking (suc n)) (branches_pieces bs ++ rest) state ≡ run_flat world entering (seeking n) rest state
+    seek-branches (ended p) b w n rest state = at-role p rest state (seeking (suc n)) endif_line w
+    seek-branches (branch p g bs) b (e, inl (r, more), inside) n rest state =
+        at-role p ((group_pieces g ++ branches_pieces bs) ++ rest) state (seeking (suc n)) elif_line r
+        ∙ ap (λ ps. run_flat world entering (seeking (suc n)) ps state) (three (group_pieces g) (branches_pieces bs) rest)
+        ∙ seek-group g inside (suc n) (branches_pieces bs ++ rest) state
+        ∙ seek-branches bs false more n rest state
+    seek-branches (branch p g bs) b (e, inr (r, more), inside) n rest state =
+        at-role p ((group_pieces g ++ branches_pieces bs) ++ rest) state (seeking (suc n)) else_line r
+        ∙ ap (λ ps. run_flat world entering (seeking (suc n)) ps state) (three (group_pieces g) (branches_pieces bs) rest)
+        ∙ seek-group g inside (suc n) (branches_pieces bs ++ rest) state
+        ∙ seek-branches bs true more n rest state
+
+  mutual
+    unfolding group_pieces branches_pieces IsGroup IsBranches
+
+    pass-group : (g : Group) → IsGroup role_of g → (n : ℕ) (rest : List Piece) (state : State) →
+        run_flat world entering (passing n) (group_pieces g ++ rest) state ≡ run_flat world entering (passing n) rest state
+    pass-group nothing w n rest state = refl
+    pass-group (one p g) w n rest state =
+        at-role p (group_pieces g ++ rest) state (passing n) single w.0 ∙ pass-group g w.1 n rest state
+    pass-group (conditional p g bs after) w n rest state =
+        at-role p ((group_pieces g ++ (branches_pieces bs ++ group_pieces after)) ++ rest) state (passing n) opening w.0
+        ∙ ap (λ ps. run_flat world entering (passing (suc n)) ps state) (three (group_pieces g) (branches_pieces bs ++ group_pieces after) rest ∙ ap (λ ps. group_pieces g ++ ps) (three (branches_pieces bs) (group_pieces after) rest))
+        ∙ pass-group g w.1 (suc n) (branches_pieces bs ++ (group_pieces after ++ rest)) state
+        ∙ pass-branches bs false w.2 n (group_pieces after ++ rest) state
+        ∙ pass-group after w.3 n rest state
+
+    pass-branches : (bs : Branches) (b : Bool) → IsBranches role_of b bs → (n : ℕ) (rest : List Piece) (state : State) →
+        run_flat world entering (passing (suc n)) (branches_pieces bs ++ rest) state ≡ run_flat world entering (passing n) rest state
+    pass-branches (ended p) b w n rest state = at-role p rest state (passing (suc n)) endif_line w
+    pass-branches (branch p g bs) b (e, inl (r, more), inside) n rest state =
+        at-role p ((group_pieces g ++ branches_pieces bs) ++ rest) state (passing (suc n)) elif_line r
+        ∙ ap (λ ps. run_flat world entering (passing (suc n)) ps state) (three (group_pieces g) (branches_pieces bs) rest)
+        ∙ pass-group g inside (suc n) (branches_pieces bs ++ rest) state
+        ∙ pass-branches bs false more n rest state
+    pass-branches (branch p g bs) b (e, inr (r, more), inside) n rest state =
+        at-role p ((group_pieces g ++ branches_pieces bs) ++ rest) state (passing (suc n)) else_line r
+        ∙ ap (λ ps. run_flat world entering (passing (suc n)) ps state) (three (group_pieces g) (branches_pieces bs) rest)
+        ∙ pass-group g inside (suc n) (branches_pieces bs ++ rest) state
+        ∙ pass-branches bs true more n rest state
+
+  leave-passing : (bs : Branches) (b : Bool) → IsBranches role_of b bs → (rest : List Piece) (state : State) →
+      run_flat world entering (passing 0) (branches_pieces bs ++ rest) state ≡ run_flat world entering reading rest state
+  unfolding branches_pieces IsBranches
+  leave-passing (ended p) b w rest state = at-role p rest state (passing 0) endif_line w
+  leave-passing (branch p g bs) b (e, inl (r, more), inside) rest state =
+      at-role p ((group_pieces g ++ branches_pieces bs) ++ rest) state (passing 0) elif_line r
+      ∙ ap (λ ps. run_flat world entering (passing 0) ps state) (three (group_pieces g) (branches_pieces bs) rest)
+      ∙ pass-group g inside 0 (branches_pieces bs ++ rest) state
+      ∙ leave-passing bs false more rest state
+  leave-passing (branch p g bs) b (e, inr (r, more), inside) rest state =
+      at-role p ((group_pieces g ++ branches_pieces bs) ++ rest) state (passing 0) else_line r
+      ∙ ap (λ ps. run_flat world entering (passing 0) ps state) (three (group_pieces g) (branches_pieces bs) rest)
+      ∙ pass-group g inside 0 (branches_pieces bs ++ rest) state
+      ∙ leave-passing bs true more rest state
+
+  -- what is left of a conditional of which a group was read
+  leave : (bs : Branches) (b : Bool) → IsBranches role_of b bs → (rest : List Piece) (state : State) →
+      run_flat world entering reading (branches_pieces bs ++ rest) state ≡ run_flat world entering reading rest state
+  unfolding branches_pieces IsBranches
+  leave (ended p) b w rest state = at-role p rest state reading endif_line w
+  leave (branch p g bs) b (e, inl (r, more), inside) rest state =
+      at-role p ((group_pieces g ++ branches_pieces bs) ++ rest) state reading elif_line r
+      ∙ ap (λ ps. run_flat world entering (passing 0) ps state) (three (group_pieces g) (branches_pieces bs) rest)
+      ∙ pass-group g inside 0 (branches_pieces bs ++ rest) state
+      ∙ leave-passing bs false more rest state
+  leave (branch p g bs) b (e, inr (r, more), inside) rest state =
+      at-role p ((group_pieces g ++ branches_pieces bs) ++ rest) state reading else_line r
+      ∙ ap (λ ps. run_flat world entering (passing 0) ps state) (three (group_pieces g) (branches_pieces bs) rest)
+      ∙ pass-group g inside 0 (branches_pieces bs ++ rest) state
+      ∙ leave-passing bs true more rest state
+
+  -- the group behind a line, or the other branches, by the readings of both
+  read-either : (g : Group) → IsGroup role_of g → (bs : Branches) (b : Bool) → IsBranches role_of b bs → (rest : List Piece) (holds : Bool) (x : State) →
+      ((more : List Piece) (y : State) → run_flat world entering reading (group_pieces g ++ more) y
+      ≡ and_then (λ z. run_flat world entering reading more z) (run_group world entering g y)) →
+      ((more : List Piece) (y : State) → run_flat world entering (seeking 0) (branches_pieces bs ++ more) y
+      ≡ and_then (λ z. run_flat world entering reading more z) (run_branches world entering bs y)) →
+      run_flat world entering (stage_of holds) (group_pieces g ++ (branches_pieces bs ++ rest)) x
+      ≡ and_then (λ y. run_flat world entering reading rest y) (group_or world entering (λ y. run_group world entering g y) (λ y. run_branches world entering bs y) holds x)
+  read-either g wg bs b wb rest true x read-g read-bs =
+      read-g (branches_pieces bs ++ rest) x
+      ∙ then-same (λ y. run_flat world entering reading (branches_pieces bs ++ rest) y) (λ y. run_flat world entering reading rest y) (run_group world entering g x) (λ y. leave bs b wb rest y)
+  read-either g wg bs b wb rest false x read-g read-bs =
+      seek-group g wg 0 (branches_pieces bs ++ rest) x ∙ read-bs rest x
+
+  -- groups that are read
+  mutual
+    unfolding group_pieces branches_pieces IsGroup IsBranches run_group run_branches
+
+    pub read-group : (g : Group) → IsGroup role_of g → (rest : List Piece) (state : State) →
+        run_flat world entering reading (group_pieces g ++ rest) state ≡ and_then (λ x. run_flat world entering reading rest x) (run_group world entering g state)
+    read-group nothing w rest state = refl
+    read-group (one p g) w rest state =
+        at-role p (group_pieces g ++ rest) state reading single w.0
+        ∙ then-same (λ x. run_flat world entering reading (group_pieces g ++ rest) x)
+        (λ x. and_then (λ y. run_flat world entering reading rest y) (run_group world entering g x)) (piece_step world entering p state) (λ x. read-group g w.1 rest x)
+        ∙ sym (then-then (λ y. run_flat world entering reading rest y) (λ x. run_group world entering g x) (piece_step world entering p state))
+    read-group (conditional p g bs after) w rest state =
+        at-role p ((group_pieces g ++ (branches_pieces bs ++ group_pieces after)) ++ rest) state reading opening w.0
+        ∙ ap (λ ps. with_value (λ holds x. run_flat world entering (stage_of holds) ps x) (piece_test world p state))
+        (three (group_pieces g) (branches_pieces bs ++ group_pieces after) rest ∙ ap (λ ps. group_pieces g ++ ps) (three (branches_pieces bs) (group_pieces after) rest))
+        ∙ value-same
+        (λ holds x. run_flat world entering (stage_of holds) (group_pieces g ++ (branches_pieces bs ++ (group_pieces after ++ rest))) x)
+        (λ holds x. and_then (λ y. run_flat world entering reading (group_pieces after ++ rest) y)
+        (group_or world entering (λ y. run_group world entering g y) (λ y. run_branches world entering bs y) holds x))
+        (piece_test world p state)
+        (λ holds x. read-either g w.1 bs false w.2 (group_pieces after ++ rest) holds x (λ more y. read-group g w.1 more y) (λ more y. read-branches bs false w.2 more y))
+        ∙ sym (then-value (λ y. run_flat world entering reading (group_pieces after ++ rest) y)
+        (λ holds x. group_or world entering (λ y. run_group world entering g y) (λ y. run_branches world entering bs y) holds x) (piece_test world p state))
+        ∙ then-same (λ y. run_flat world entering reading (group_pieces after ++ rest) y)
+        (λ y. and_then (λ z. run_flat world entering reading rest z) (run_group world entering after y))
+        (with_value (λ holds x. group_or world entering (λ y. run_group world entering g y) (λ y. run_branches world entering bs y) holds x) (piece_test world p state))
+        (λ y. read-group after w.3 rest y)
+        ∙ sym (then-then (λ z. run_flat world entering reading rest z) (λ y. run_group world entering after y)
+        (with_value (λ holds x. group_or world entering (λ y. run_group world entering g y) (λ y. run_branches world entering bs y) holds x) (piece_test world p state)))
+
+    read-branches : (bs : Branches) (b : Bool) → IsBranches role_of b bs → (rest : List Piece) (state : State) →
+        run_flat world entering (seeking 0) (branches_pieces bs ++ rest) state
+        ≡ and_then (λ y. run_flat world entering reading rest y) (run_branches world entering bs state)
+    read-branches (ended p) b w rest state = at-role p rest state (seeking 0) endif_line w
+    read-branches (branch p g bs) b (e, inl (r, more), inside) rest state =
+        at-role p ((group_pieces g ++ branches_pieces bs) ++ rest) state (seeking 0) elif_line r
+        ∙ ap (λ ps. with_value (λ holds x. run_flat world entering (stage_of holds) ps x) (piece_test world p state)) (three (group_pieces g) (branches_pieces bs) rest)
+        ∙ value-same
+        (λ holds x. run_flat world entering (stage_of holds) (group_pieces g ++ (branches_pieces bs ++ rest)) x)
+        (λ holds x. and_then (λ y. run_flat world entering reading rest y) (group_or world entering (λ y. run_group world entering g y) (λ y. run_branches world entering bs y) holds x))
+        (piece_test world p state) (λ holds x. read-either g inside bs false more rest holds x (λ ps y. read-group g inside ps y) (λ ps y. read-branches bs false more ps y))
+        ∙ sym (then-value (λ y. run_flat world entering reading rest y)
+        (λ holds x. group_or world entering (λ y. run_group world entering g y) (λ y. run_branches world entering bs y) holds x) (piece_test world p state))
+    read-branches (branch p g bs) b (e, inr (r, more), inside) rest state =
+        at-role p ((group_pieces g ++ branches_pieces bs) ++ rest) state (seeking 0) else_line r
+        ∙ ap (λ ps. with_value (λ holds x. run_flat world entering (stage_of holds) ps x) (piece_test world p state)) (three (group_pieces g) (branches_pieces bs) rest)
+        ∙ value-same
+        (λ holds x. run_flat world entering (stage_of holds) (group_pieces g ++ (branches_pieces bs ++ rest)) x)
+        (λ holds x. and_then (λ y. run_flat world entering reading rest y) (group_or world entering (λ y. run_group world entering g y) (λ y. run_branches world entering bs y) holds x))
+        (piece_test world p state) (λ holds x. read-either g inside bs true more rest holds x (λ ps y. read-group g inside ps y) (λ ps y. read-branches bs true more ps y))
+        ∙ sym (then-value (λ y. run_flat world entering reading rest y)
+        (λ holds x. group_or world entering (λ y. run_group world entering g y) (λ y. run_branches world entering bs y) holds x) (piece_test world p state))
+
+  -- a whole file
+  pub read-file : (g : Group) → IsGroup role_of g → (state : State) → run_flat world entering reading (group_pieces g) state ≡ run_group world entering g state
+  unfolding run_flat
+  read-file g w state =
+      ap (λ ps. run_flat world entering reading ps state) (sym (append-nil (group_pieces g)))
+      ∙ read-group g w [] state ∙ go (run_group world entering g state)
+    where
+      go : (s : Step) → and_then (λ y. run_flat world entering reading [] y) s ≡ s
+      go (Go x) = refl
+      go (Stop d x) = refl
+
+  -- pieces that aren't read, up to the next line of the conditional
+  pub seek-skipped : (ps : List Piece) (n : ℕ) (state : State) → run_flat world entering (seeking n) ps state ≡ run_flat world entering (seeking 0) (skipped n ps) state
+  unfolding run_flat skipped
+  seek-skipped [] n state = refl
+  seek-skipped (p ∷ ps) n state = go (role_of p) refl n (λ m. seek-skipped ps m state)
+    where
+      go : (r : Role) → role_of p ≡ r → (n : ℕ) →
+          ((m : ℕ) → run_flat world entering (seeking m) ps state ≡ run_flat world entering (seeking 0) (skipped m ps) state) →
+          run_flat world entering (seeking n) (p ∷ ps) state ≡ run_flat world entering (seeking 0) (skipped n (p ∷ ps)) state
+      go single h n ih = rw h (ih n)
+      go opening h n ih = rw h (ih (suc n))
+      go elif_line h zero ih = sym (ap (λ r. run_flat world entering (seeking 0) (skip_piece (λ m. skipped m ps) (p ∷ ps) zero r) state) h)
+      go else_line h zero ih = sym (ap (λ r. run_flat world entering (seeking 0) (skip_piece (λ m. skipped m ps) (p ∷ ps) zero r) state) h)
+      go endif_line h zero ih = sym (ap (λ r. run_flat world entering (seeking 0) (skip_piece (λ m. skipped m ps) (p ∷ ps) zero r) state) h)
+      go elif_line h (suc n) ih = rw h (ih (suc n))
+      go else_line h (suc n) ih = rw h (ih (suc n))
+      go endif_line h (suc n) ih = rw h (ih n)
+
+  pub pass-skipped : (ps : List Piece) (n : ℕ) (state : State) → run_flat world entering (passing n) ps state ≡ run_flat world entering (passing 0) (skipped n ps) state
+  unfolding run_flat skipped
+  pass-skipped [] n state = refl
+  pass-skipped (p ∷ ps) n state = go (role_of p) refl n (λ m. pass-skipped ps m state)
+    where
+      go : (r : Role) → role_of p ≡ r → (n : ℕ) →
+          ((m : ℕ) → run_flat world entering (passing m) ps state ≡ run_flat world entering (passing 0) (skipped m ps) state) →
+          run_flat world entering (passing n) (p ∷ ps) state ≡ run_flat world entering (passing 0) (skipped n (p ∷ ps)) state
+      go single h n ih = rw h (ih n)
+      go opening h n ih = rw h (ih (suc n))
+      go elif_line h zero ih = sym (ap (λ r. run_flat world entering (passing 0) (skip_piece (λ m. skipped m ps) (p ∷ ps) zero r) state) h)
+      go else_line h zero ih = sym (ap (λ r. run_flat world entering (passing 0) (skip_piece (λ m. skipped m ps) (p ∷ ps) zero r) state) h)
+      go endif_line h zero ih = sym (ap (λ r. run_flat world entering (passing 0) (skip_piece (λ m. skipped m ps) (p ∷ ps) zero r) state) h)
+      go elif_line h (suc n) ih = rw h (ih (suc n))
+      go else_line h (suc n) ih = rw h (ih (suc n))
+      go endif_line h (suc n) ih = rw h (ih n)

@@ -1,45 +1,58 @@
--- The outcome of a job from its parts.
-use Rattle.std.proofs.Common.{◌≡◌, ◌<◌, ◌≤◌, List, length, Option, None, Some, Result, Ok, Err, refl, sym, ◌∙◌, ap, IfOk}
-use Rattle.std.specs.Prelude.{IfSome}
+-- What is told of a job from its parts.
+use Rattle.std.proofs.Common.{◌≡◌, ◌<◌, ◌≤◌, List, [], length, Option, None, Some, Result, Ok, Err, refl, sym, ◌∙◌, ap}
+use Rattle.std.specs.Prelude.{IfOk, IfSome}
 use Rattle.std.specs.Option.{ForSome}
 use Rattle.cpp_output.specs.Layout.{text_limit}
-use Rattle.cpp_output.specs.Laid.{Laid, begun}
+use Rattle.cpp_output.specs.Laid.{begun}
 use Rattle.tree_model.specs.Paths.{Text, spelled}
+use Rattle.tree_model.specs.Shown.{presumed_name}
 use Rattle.tree_model.specs.Trees.{FileTree}
 use Rattle.search_path.specs.SetupOf.{SetupData, absolute}
+use Rattle.search_path.specs.Asks.{source_ask}
 use Rattle.search_path.specs.Search.{Hit}
 use Rattle.search_path.specs.declared.asking.Ask.{Ask}
 use Rattle.job_words.specs.JobOf.{JobData}
+use Rattle.job_words.specs.declared.MacroWord.{MacroWord}
 use Rattle.daemon_cpp.specs.declared.outcome.Outcome.TheVariants as outcome
+use Rattle.daemon_cpp.specs.declared.cpp.Reader.{Reader}
 use Rattle.daemon_cpp.specs.Diagnostics.{NoSource, TextLimit, diagnostic_text}
-use Rattle.daemon_cpp.specs.Prep.{World, Step, and_then, limited, world_of, open_source, run_forced, enter_file, depth_limit, prepared, first_state, run_job, prep, outcome_over}
-use Rattle.tree_model.specs.Shown.{presumed_name}
-use Rattle.search_path.specs.Asks.{source_ask}
-use Rattle.daemon_cpp.specs.Files.{begun_outcome, source_outcome}
+use Rattle.daemon_cpp.specs.Prep.{World, Step, world_of, and_then, first_state, run_forced, enter_file, depth_limit, open_source, run_job, prep, outcome_over}
+use Rattle.daemon_cpp.specs.Files.{IsShown, ComesTo, told_of, source_behind, source_told}
 use Rattle.daemon_cpp.proofs.Limits.{within, past}
 
--- a source behind its first marker, and one whose first marker doesn't fit
-pub source-begun : (world : World) (source : Hit) (names : List Text) (layout : Laid) → layout ≡ begun (presumed_name source.0.place) → length layout.text ≤ text_limit → begun_outcome world source names layout ≡ source_outcome world source names
-source-begun world source names layout begins short =
-    let whole = λ (step : Step). (prepared (and_then (λ state. open_source world source state) (and_then (λ state. run_forced world (enter_file world depth_limit) names state) step))).outcome in
-    sym (ap whole (within (record (first_state source) { output = layout }) short))
-    ∙ ap (λ (o : Laid). whole (limited (record (first_state source) { output = o }))) begins
+-- all files of a job, behind a step
+abbrev whole : World → List Text → Hit → Step → Step
+whole world names source step = and_then (λ state. open_source world source state) (and_then (λ state. run_forced world (enter_file world depth_limit) names state) step)
 
-pub source-full : (world : World) (source : Hit) (names : List Text) → text_limit < length (begun (presumed_name source.0.place)).text → outcome.Diag (diagnostic_text (record { place = spelled source.0.place; at = 0; complaint = TextLimit })) ≡ source_outcome world source names
-source-full world source names full =
-    sym (ap (λ (step : Step). (prepared (and_then (λ state. open_source world source state) (and_then (λ state. run_forced world (enter_file world depth_limit) names state) step))).outcome) (past (first_state source) full))
+-- a source behind its first marker, and one whose first marker doesn't fit
+pub begins-told : (world : World) (macros : List MacroWord) (source : Hit) (names : List Text) (reader : Reader) → length (begun (presumed_name source.0.place)).text ≤ text_limit →
+    IsShown reader (first_state macros source) → ComesTo (source_behind world source names) reader (source_told world macros source names)
+unfolding run_forced begun
+begins-told world macros source names reader short shows = record {
+  state = first_state macros source;
+  shows = shows;
+  same = sym (ap (λ (step : Step). told_of (whole world names source step)) (within (first_state macros source) short));
+}
+
+pub source-full : (world : World) (macros : List MacroWord) (source : Hit) (names : List Text) → text_limit < length (begun (presumed_name source.0.place)).text →
+    record { outcome = outcome.Diag (diagnostic_text (record { place = spelled source.0.place; at = 0; complaint = TextLimit })); opened = [] } ≡ source_told world macros source names
+unfolding begun
+source-full world macros source names full =
+    sym (ap (λ (step : Step). told_of (whole world names source step)) (past (first_state macros source) full))
 
 -- a job whose source was searched
 prep-is : (world : World) (job : JobData) (o : Option Hit) → o ≡ world.find (source_ask job.source) → (run_job world job o).outcome ≡ (prep world job).outcome
 unfolding prep
 prep-is world job o is = ap (λ (found : Option Hit). (run_job world job found).outcome) is
 
-pub job-found : (told : FileTree) (job : JobData) (setup : SetupData) (ask : Ask) (source : Hit) → (world_of told setup).find ask ≡ Some source → setup ≡ job.setup → ask ≡ source_ask job.source → source_outcome (world_of told job.setup) source job.forced ≡ outcome_over told job
+pub job-found : (told : FileTree) (job : JobData) (setup : SetupData) (ask : Ask) (source : Hit) → (world_of told setup).find ask ≡ Some source → setup ≡ job.setup → ask ≡ source_ask job.source →
+    (source_told (world_of told job.setup) job.macros source job.forced).outcome ≡ outcome_over told job
 job-found told job setup ask source found said asked =
     prep-is (world_of told job.setup) job (Some source)
     (sym found ∙ ap (λ (s : SetupData). (world_of told s).find ask) said ∙ ap (λ (a : Ask). (world_of told job.setup).find a) asked)
 
-pub job-not_found : (told : FileTree) (job : JobData) (setup : SetupData) (ask : Ask) → (world_of told setup).find ask ≡ None → setup ≡ job.setup → ask ≡ source_ask job.source → outcome.Diag (diagnostic_text (record { place = absolute job.setup.cwd job.source; at = 0; complaint = NoSource })) ≡ outcome_over told job
+pub job-not_found : (told : FileTree) (job : JobData) (setup : SetupData) (ask : Ask) → (world_of told setup).find ask ≡ None → setup ≡ job.setup → ask ≡ source_ask job.source →
+    outcome.Diag (diagnostic_text (record { place = absolute job.setup.cwd job.source; at = 0; complaint = NoSource })) ≡ outcome_over told job
 job-not_found told job setup ask found said asked =
     prep-is (world_of told job.setup) job None
     (sym found ∙ ap (λ (s : SetupData). (world_of told s).find ask) said ∙ ap (λ (a : Ask). (world_of told job.setup).find a) asked)

@@ -1,25 +1,45 @@
 -- Lemmas on preprocessing.
---     ReservedLines    the first reserved identifier from a token on
---     Shown            what is shown of a list, one member more
---     Limits           more output, within the limit or past it
---     Leading          what a piece leads to
---     Searches         what was searched in the told tree
---     Work             the work of opening a file
---     Fewer            the pieces of a file are few
---     Flat             the groups of a file, piece by piece
---     FileSteps        what opening a file leads to
---     Frames           what is left to read of the files around the one that is read
---     Readers          the same as the code keeps it, through each of its steps
---     Jobs             the outcome of a job from its parts
-pub mod ReservedLines
+--     Shown        what is shown of a list, one member more
+--     Searches     what was searched in the told tree
+--     Limits       more output, within the limit or past it
+--     Steps        steps one after another, by what is kept before and behind them
+--     Markers      output of one event
+--     Including    includes, by what is kept before and behind them
+--     Marks        the files that are read once, one more
+--     Moving       what the pieces of a file lead to, by the same
+--     Texts        runs of text, expanded and laid out
+--     Defines      definitions, as steps
+--     Lines        the numbers of line directives
+--     Conditions   what the steps of conditions lead to
+--     DefinedSteps one more token behind a `defined`
+--     Flat         pieces one after another are groups
+--     Skipping     pieces that aren't read
+--     Sections     where an if-section goes on
+--     Work         the work of opening a file
+--     Fewer        the pieces of a file are few
+--     Openings     what opening a file leads to
+--     Frames       what is left to read of the files around the one that is read
+--     Readers      the same as the code keeps it, through each of its steps
+--     Jobs         what is told of a job from its parts
 pub mod Shown
-pub mod Limits
-pub mod Leading
 mod Searches
+pub mod Limits
+pub mod Steps
+mod Markers
+mod Including
+mod Marks
+mod Moving
+pub mod Texts
+pub mod Defines
+pub mod Lines
+pub mod Conditions
+pub mod DefinedSteps
+pub mod Flat
+pub mod Skipping
+pub mod Sections
 mod Work
 mod Fewer
-mod Flat
-mod FileSteps
+mod Openings
 mod Frames
 mod Readers
 mod Jobs

@@ -1,341 +1,405 @@
 -- What is left to read, as the code keeps it, through each of its steps.
-use Rattle.std.proofs.Common.{◌≡◌, ◌<◌, ◌≤◌, ◌+◌, ℕ, suc, pos, List, [], ◌∷◌, ◌++◌, length, map, get_or, drop, Option, None, Some, refl, sym, ◌∙◌, ap, subst, false, arith}
+use Rattle.std.proofs.Common.{Vec, Global, length-append, ◌≡◌, ◌<◌, ◌≤◌, ◌+◌, ℕ, suc, Bool, true, false, List, [], ◌∷◌, ◌++◌, length, map, get_or, drop, Option, None, Some, Result, Ok, Err, refl, sym, ◌∙◌, ap, subst, arith}
 use Rattle.std.proofs.lemmas.List.{drop_more, drop_all, length-drop, length-map, map-append}
 use Rattle.std.proofs.lemmas.List.Sums.{sum_by_push}
 use Rattle.directive_scan.specs.declared.Piece.{Piece}
-use Rattle.cpp_output.specs.Layout.{back, enter, text_limit}
-use Rattle.cpp_output.specs.Laid.{Laid, after_event}
+use Rattle.directive_scan.specs.Groups.{Role, role_of, single, opening}
+use Rattle.cpp_output.specs.Layout.{enter}
 use Rattle.tree_model.specs.Paths.{Text, Path, spelled}
+use Rattle.tree_model.specs.Shown.{presumed_name}
 use Rattle.search_path.specs.Search.{Hit}
-use Rattle.daemon_cpp.specs.declared.outcome.Outcome.{Outcome}
-use Rattle.daemon_cpp.specs.declared.outcome.Outcome.TheVariants as outcome
+use Rattle.search_path.specs.Asks.{forced_ask}
+use Rattle.daemon_cpp.specs.declared.kept.Kept.{Kept}
+use Rattle.daemon_cpp.specs.declared.stop.Stop.{Stop}
+use Rattle.daemon_cpp.specs.declared.stop.Stop.TheVariants as stop
 use Rattle.daemon_cpp.specs.declared.pieces.Move.{Move}
-use Rattle.daemon_cpp.specs.declared.pieces.Move.TheVariants.{Onward, Enter, Ended}
-use Rattle.daemon_cpp.specs.declared.opening.Opened.{Opened}
-use Rattle.daemon_cpp.specs.declared.opening.Opened.TheVariants.{Pieces, Refused}
+use Rattle.daemon_cpp.specs.declared.pieces.Move.TheVariants.{Onward, Enter, Renumber}
+use Rattle.daemon_cpp.specs.declared.cpp.Told.{Told}
 use Rattle.daemon_cpp.specs.declared.cpp.OpenFile.{OpenFile}
 use Rattle.daemon_cpp.specs.declared.cpp.Left.{Left}
 use Rattle.daemon_cpp.specs.declared.cpp.Reader.{Reader}
-use Rattle.daemon_cpp.specs.Diagnostics.{TooNested, TextLimit, NotFound, diagnostic_text}
-use Rattle.daemon_cpp.specs.Prep.{World, State, Step, Go, Stop, and_then, complain, complain_of_job, touch, visit_of, found, Entering, piece_step, open_file, enter_file, back_in, depth_limit, run_forced, open_source, prepared}
-use Rattle.tree_model.specs.Shown.{presumed_name}
-use Rattle.search_path.specs.Asks.{forced_ask}
-use Rattle.daemon_cpp.specs.Reading.{Frame, run_pieces, entering_at, StopsWith, Leads, Opens, inside, Shortens}
-use Rattle.daemon_cpp.specs.Moving.{Marked, StaysWithin}
-use Rattle.daemon_cpp.specs.Files.{After, here_of, rest_of, frame_of, frames_of, state_of, outcome_behind, LeadsTo, EntersTo, ComesTo, opened_file, GoesInto, OpensTo, BeginsTo, GoesOn, ReadsTo, AllRead, EndsRead, work_ahead, Advances, source_behind}
-use Rattle.daemon_cpp.proofs.Frames.{then-go, then-then, stopped, next-piece, enters, too-nested, entered, back-out, back-within, back-past, at-end, at-start}
+use Rattle.daemon_cpp.specs.Diagnostics.{TooNested, diagnostic_text}
+use Rattle.daemon_cpp.specs.Prep.{World, Here, Entering, State, Step, Go, Stop as Stopped, and_then, with_value, piece_step, piece_test, found_file, complain, open_file, enter_file, back_in, depth_limit, run_forced, open_source, here_at}
+use Rattle.daemon_cpp.specs.Reading.{Frame, run_flat, staged, stage_of, reading, seeking, entering_at}
+use Rattle.daemon_cpp.specs.Showing.{Shows, StopsWith, Refuses, Leads, Moves, Seeks, Includes, Opens}
+use Rattle.daemon_cpp.specs.Files.{After, here_of, rest_of, frame_of, frames_of, told_of, told_behind, run_rest, LeadsTo, StepsTo, EntersTo, ComesTo, opened_file, GoesInto, Brings, IsEnd, Turns, AllRead, work_ahead, source_behind, behind_piece, Follows, NamedTo, InsideTo}
+use Rattle.daemon_cpp.proofs.Steps.{stops-on, ends-step}
+use Rattle.daemon_cpp.proofs.Skipping.{filler}
+use Rattle.daemon_cpp.proofs.Flat.{at-role}
+use Rattle.daemon_cpp.proofs.Frames.{then-go, then-then, stopped, stopped-at-once, behind-frame, enters, too-nested, at-end, none-left}
+
+-- ---- steps one after another ----
+
+pub brings-then : {A B : Type 0} (before : Told → Type 0) (mid last : Reader) (between : A → Told → Type 0) (after : B → Told → Type 0) (x : A) (r : Result B Stop) →
+    Brings before mid between (Ok x) → Brings (between x) last after r → Brings before last after r
+brings-then before mid last between after x (Ok y) first next = λ whole is. next whole (first whole is)
+brings-then before mid last between after x (Err (stop.Ended words)) first next = λ whole is. next whole (first whole is)
+brings-then before mid last between after x (Err stop.Fault) first next = tt
+brings-then before mid last between after x (Err stop.Memory) first next = tt
+
+pub brings-stop : {A B : Type 0} (before : Told → Type 0) (reader : Reader) (between : A → Told → Type 0) (after : B → Told → Type 0) (e : Stop) →
+    Brings before reader between (Err e) → Brings before reader after (Err e)
+brings-stop before reader between after (stop.Ended words) first = first
+brings-stop before reader between after stop.Fault first = tt
+brings-stop before reader between after stop.Memory first = tt
+
+pub brings-end : {A : Type 0} (before : Told → Type 0) (reader : Reader) (r : Result A Stop) (whole : Told) → before whole → Brings before reader (λ done. ComesTo (λ state. Go state) reader) r → IsEnd reader whole r
+brings-end before reader (Ok x) whole is brings = brings whole is
+brings-end before reader (Err (stop.Ended words)) whole is brings = brings whole is
+brings-end before reader (Err stop.Fault) whole is brings = tt
+brings-end before reader (Err stop.Memory) whole is brings = tt
+
+pub brings-before : {A : Type 0} (first before : Told → Type 0) (reader : Reader) (after : A → Told → Type 0) (r : Result A Stop) →
+    ((whole : Told) → first whole → before whole) → Brings before reader after r → Brings first reader after r
+brings-before first before reader after (Ok x) to brings = λ whole is. brings whole (to whole is)
+brings-before first before reader after (Err (stop.Ended words)) to brings = λ whole is. brings whole (to whole is)
+brings-before first before reader after (Err stop.Fault) to brings = tt
+brings-before first before reader after (Err stop.Memory) to brings = tt
 
 -- ---- a piece ----
 
--- behind a piece of the file that is read, with this output
-abbrev pub behind_piece : Reader → Laid → Reader
-behind_piece reader output = record reader { layout = output; file = record reader.file { next = reader.file.next + 1 } }
+pub rest-at : (file : OpenFile) (piece : Piece) → piece ≡ get_or file.pieces file.next piece → file.next < length file.pieces → rest_of file ≡ piece ∷ drop (file.next + 1) file.pieces
+rest-at file piece is below = drop_more file.pieces file.next piece below ∙ ap (λ (p : Piece). p ∷ drop (file.next + 1) file.pieces) (sym is)
 
-piece-left : (world : World) (behind : After) (reader : Reader) (whole : Outcome) (piece : Piece) → piece ≡ get_or reader.file.pieces reader.file.next piece → reader.file.next < length reader.file.pieces → (left : LeadsTo world behind reader whole) → outcome_behind world behind (frames_of reader) (drop (reader.file.next + 1) reader.file.pieces) (piece_step world (entering_at world (length (frames_of reader))) piece (state_of reader left.touched left.opened)) ≡ whole
-piece-left world behind reader whole piece is below left =
-    let rest : drop reader.file.next reader.file.pieces ≡ piece ∷ drop (reader.file.next + 1) reader.file.pieces =
-    drop_more reader.file.pieces reader.file.next piece below ∙ ap (λ (p : Piece). p ∷ drop (reader.file.next + 1) reader.file.pieces) (sym is) in
-    sym (next-piece world behind (frames_of reader) piece (drop (reader.file.next + 1) reader.file.pieces) (state_of reader left.touched left.opened))
-    ∙ sym (ap (λ (ps : List Piece). outcome_behind world behind (frames_of reader) ps (Go (state_of reader left.touched left.opened))) rest)
-    ∙ left.same
+single-first : (world : World) (frames : List Frame) (file : OpenFile) (piece : Piece) (state : State) → piece ≡ get_or file.pieces file.next piece → file.next < length file.pieces → role_of piece ≡ single →
+    run_rest world frames (rest_of file) state ≡ and_then (λ after. run_rest world frames (drop (file.next + 1) file.pieces) after) (piece_step world (entering_at world (length frames)) piece state)
+single-first world frames file piece state is below role =
+    ap (λ (ps : List Piece). run_rest world frames ps state) (rest-at file piece is below)
+    ∙ at-role world (entering_at world (length frames)) piece (drop (file.next + 1) file.pieces) state reading single role
 
--- what a piece is known to lead to
-abbrev pub PieceLeads : World → Reader → Laid → Piece → Move → Type 0
-PieceLeads world reader output piece move =
-    (entering : Entering) (state : State) → state.source ≡ reader.source → visit_of state.here ≡ reader.file.visit → state.output ≡ reader.layout → Leads entering (record state { output = output }) move (piece_step world entering piece state)
+-- a piece that stands by itself
+module _ (world : World) (behind : After) (reader : Reader) (new : Kept) (piece : Piece) (is : piece ≡ get_or reader.file.pieces reader.file.next piece) (below : reader.file.next < length reader.file.pieces) (role : role_of piece ≡ single) where
+  read-first : (whole : Told) (left : LeadsTo world behind reader whole) →
+      told_behind world behind (frames_of reader) (and_then (λ after. run_rest world (frames_of reader) (drop (reader.file.next + 1) reader.file.pieces) after) (piece_step world (entering_at world (length (frames_of reader))) piece left.state)) ≡ whole
+  read-first whole left =
+      sym (ap (λ (step : Step). told_behind world behind (frames_of reader) step) (single-first world (frames_of reader) reader.file piece left.state is below role)) ∙ left.same
 
--- what is left to do behind a piece
-abbrev pub Follows : World → After → Reader → Outcome → Move → Type 0
-Follows world behind reader whole Onward = LeadsTo world behind reader whole
-Follows world behind reader whole (Enter at inner) = EntersTo world behind reader at inner whole
-Follows world behind reader whole (Ended words) = outcome.Diag words ≡ whole
+  pub piece-brings : (r : Result Move Stop) → Moves reader.kept new reader.source (here_of reader.file) (λ entering state. piece_step world entering piece state) r →
+      Brings (LeadsTo world behind reader) (behind_piece reader new) (λ move whole. Follows world behind (behind_piece reader new) move whole) r
+  piece-brings (Ok Onward) moves = λ whole left.
+      let one = moves (entering_at world (length (frames_of reader))) left.state left.shows in
+      record {
+        state = one.0;
+        shows = one.1.1;
+        same = sym (ap (λ (step : Step). told_behind world behind (frames_of reader) (and_then (λ after. run_rest world (frames_of reader) (drop (reader.file.next + 1) reader.file.pieces) after) step)) one.1.0) ∙ read-first whole left;
+      }
+  piece-brings (Ok (Enter at inner)) moves = λ whole left.
+      let one = moves (entering_at world (length (frames_of reader))) left.state left.shows in
+      record {
+        state = one.0;
+        shows = one.1.1;
+        same = sym (ap (λ (step : Step). told_behind world behind (frames_of reader) (and_then (λ after. run_rest world (frames_of reader) (drop (reader.file.next + 1) reader.file.pieces) after) step)) one.1.0) ∙ read-first whole left;
+      }
+  piece-brings (Ok (Renumber at numbers)) moves = λ whole left.
+      let one = moves (entering_at world (length (frames_of reader))) left.state left.shows in
+      record {
+        state = one.0;
+        shows = one.1.1;
+        same = sym (ap (λ (step : Step). told_behind world behind (frames_of reader) (and_then (λ after. run_rest world (frames_of reader) (drop (reader.file.next + 1) reader.file.pieces) after) step)) one.1.0) ∙ read-first whole left;
+      }
+  piece-brings (Err (stop.Ended words)) moves = λ whole left.
+      stopped world behind (frames_of reader) words new.opened (and_then (λ after. run_rest world (frames_of reader) (drop (reader.file.next + 1) reader.file.pieces) after) (piece_step world (entering_at world (length (frames_of reader))) piece left.state))
+      (stops-on (λ after. run_rest world (frames_of reader) (drop (reader.file.next + 1) reader.file.pieces) after) words new.opened (piece_step world (entering_at world (length (frames_of reader))) piece left.state) (moves (entering_at world (length (frames_of reader))) left.state left.shows))
+      ∙ read-first whole left
+  piece-brings (Err stop.Fault) moves = tt
+  piece-brings (Err stop.Memory) moves = tt
 
-pub follows : (world : World) (behind : After) (reader : Reader) (whole : Outcome) (output : Laid) (piece : Piece) (move : Move) → piece ≡ get_or reader.file.pieces reader.file.next piece → reader.file.next < length reader.file.pieces → PieceLeads world reader output piece move → LeadsTo world behind reader whole → Follows world behind (behind_piece reader output) whole move
-follows world behind reader whole output piece Onward is below leads left =
+-- a step between two files
+pub turns-brings : {A : Type 0} (world : World) (behind : After) (reader after : Reader) (from : Here) (step : State → Step) (r : Result A Stop) →
+    after.source ≡ reader.source → after.around ≡ reader.around → rest_of after.file ≡ rest_of reader.file →
+    Turns reader.kept after.kept reader.source from (here_of after.file) step r → Brings (StepsTo world behind reader from step) after (λ done. LeadsTo world behind after) r
+turns-brings world behind reader after from step (Ok x) source around rest turns = λ whole steps.
+    let one = turns steps.state steps.shows in
     record {
-      touched = left.touched;
-      opened = left.opened;
+      state = one.0;
+      shows = subst (λ (p : Path). Shows after.kept p (here_of after.file) one.0) (sym source) one.1.1;
       same =
-          sym (ap (λ (step : Step). outcome_behind world behind (frames_of reader) (drop (reader.file.next + 1) reader.file.pieces) step) (leads (entering_at world (length (frames_of reader))) (state_of reader left.touched left.opened) refl refl refl))
-          ∙ piece-left world behind reader whole piece is below left;
+          ap (λ (rest : List Piece). told_behind world behind (frames_of after) (run_rest world (frames_of after) rest one.0)) rest
+          ∙ ap (λ (left : Vec Left Global). told_behind world behind (map frame_of left.items) (run_rest world (map frame_of left.items) (rest_of reader.file) one.0)) around
+          ∙ sym (ap (λ (s : Step). told_behind world behind (frames_of reader) (and_then (λ after. run_rest world (frames_of reader) (rest_of reader.file) after) s)) one.1.0)
+          ∙ steps.same;
     }
-follows world behind reader whole output piece (Enter at inner) is below leads left =
+turns-brings world behind reader after from step (Err (stop.Ended words)) source around rest turns = λ whole steps.
+    stopped world behind (frames_of reader) words after.kept.opened (and_then (λ after. run_rest world (frames_of reader) (rest_of reader.file) after) (step steps.state))
+    (stops-on (λ after. run_rest world (frames_of reader) (rest_of reader.file) after) words after.kept.opened (step steps.state) (turns steps.state steps.shows))
+    ∙ steps.same
+turns-brings world behind reader after from step (Err stop.Fault) source around rest turns = tt
+turns-brings world behind reader after from step (Err stop.Memory) source around rest turns = tt
+
+-- ---- conditionals ----
+
+-- the file goes on at another piece
+pub goes-on-at : (world : World) (behind : After) (reader : Reader) (n : ℕ) →
+    ((entering : Entering) (state : State) → run_flat world entering reading (rest_of reader.file) state ≡ run_flat world entering reading (drop n reader.file.pieces) state) →
+    (whole : Told) → LeadsTo world behind reader whole → LeadsTo world behind (record reader { file = record reader.file { next = n } }) whole
+goes-on-at world behind reader n same whole left = record {
+  state = left.state;
+  shows = left.shows;
+  same = sym (ap (λ (step : Step). told_behind world behind (frames_of reader) step) (same (entering_at world (length (frames_of reader))) left.state)) ∙ left.same;
+}
+
+pub seeks-brings : (world : World) (behind : After) (reader : Reader) (new : Kept) (r : Result ℕ Stop) →
+    Seeks reader.kept new reader.source (here_of reader.file) world reader.file.pieces (λ entering state. run_flat world entering reading (rest_of reader.file) state) r →
+    Brings (LeadsTo world behind reader) (record reader { kept = new }) (λ n whole. LeadsTo world behind (record reader { kept = new; file = record reader.file { next = n } }) whole) r
+seeks-brings world behind reader new (Ok n) seeks = λ whole left.
+    let one = seeks (entering_at world (length (frames_of reader))) left.state left.shows in
     record {
-      touched = left.touched ++ inner.1 ∷ [];
-      opened = left.opened;
-      same =
-          sym (ap (λ (step : Step). outcome_behind world behind (frames_of reader) (drop (reader.file.next + 1) reader.file.pieces) step) (leads (entering_at world (length (frames_of reader))) (state_of reader left.touched left.opened) refl refl refl))
-          ∙ piece-left world behind reader whole piece is below left;
+      state = one.0;
+      shows = one.1.1;
+      same = sym (ap (λ (step : Step). told_behind world behind (frames_of reader) step) one.1.0) ∙ left.same;
     }
-follows world behind reader whole output piece (Ended words) is below leads left =
-    stopped world behind (frames_of reader) (drop (reader.file.next + 1) reader.file.pieces) words (piece_step world (entering_at world (length (frames_of reader))) piece (state_of reader left.touched left.opened)) (leads (entering_at world (length (frames_of reader))) (state_of reader left.touched left.opened) refl refl refl)
-    ∙ piece-left world behind reader whole piece is below left
+seeks-brings world behind reader new (Err (stop.Ended words)) seeks = λ whole left.
+    stopped world behind (frames_of reader) words new.opened (run_rest world (frames_of reader) (rest_of reader.file) left.state) (seeks (entering_at world (length (frames_of reader))) left.state left.shows) ∙ left.same
+seeks-brings world behind reader new (Err stop.Fault) seeks = tt
+seeks-brings world behind reader new (Err stop.Memory) seeks = tt
 
--- the work ahead behind a piece
-pub piece-done : (reader : Reader) (output : Laid) → reader.file.next < length reader.file.pieces → suc (work_ahead (behind_piece reader output)) ≡ work_ahead reader
-piece-done reader output below =
-    let rest : suc (length (drop (reader.file.next + 1) reader.file.pieces)) ≡ length (drop reader.file.next reader.file.pieces) =
-    omega (arith, length-drop reader.file.next reader.file.pieces, length-drop (reader.file.next + 1) reader.file.pieces, below) in
-    omega (arith, rest)
+-- the line that opens a conditional
+module _ (main : Path) (file : Here) (world : World) (pieces : List Piece) (line : ℕ) (p : Piece) (is : p ≡ get_or pieces line p) (below : line < length pieces) (role : role_of p ≡ opening) where
+  opening-first : (entering : Entering) (state : State) →
+      run_flat world entering reading (drop line pieces) state ≡ with_value (λ holds after. run_flat world entering (stage_of holds) (drop (line + 1) pieces) after) (piece_test world p state)
+  opening-first entering state =
+      ap (λ (ps : List Piece). run_flat world entering reading ps state) (drop_more pieces line p below ∙ ap (λ (q : Piece). q ∷ drop (line + 1) pieces) (sym is))
+      ∙ at-role world entering p (drop (line + 1) pieces) state reading opening role
 
-pub onward : (reader : Reader) (output : Laid) (move : Move) → move ≡ Onward → reader.file.next < length reader.file.pieces → StaysWithin output move → Advances (work_ahead reader) (behind_piece reader output) None
-onward reader output move is below within =
-    (subst (λ (m : Move). StaysWithin output m) is within, omega (arith, piece-done reader output below))
+  pub opening-holds : (old new : Kept) → Leads old new main file (λ state. piece_test world p state) (Ok true) →
+      Seeks old new main file world pieces (λ entering state. run_flat world entering reading (drop line pieces) state) (Ok (line + 1))
+  opening-holds old new leads = λ entering state shows.
+      let one = leads state shows in
+      (one.0, (opening-first entering state ∙ ap (with_value (λ holds after. run_flat world entering (stage_of holds) (drop (line + 1) pieces) after)) one.1.0, one.1.1))
+
+  pub opening-stops : (old new : Kept) (e : Stop) → Leads old new main file {A = Bool} (λ state. piece_test world p state) (Err e) →
+      Seeks old new main file world pieces (λ entering state. run_flat world entering reading (drop line pieces) state) (Err e)
+  opening-stops old new (stop.Ended words) leads = λ entering state shows.
+      subst (λ (s : Step). StopsWith words new.opened s) (sym (opening-first entering state))
+      (ends-step (λ holds after. run_flat world entering (stage_of holds) (drop (line + 1) pieces) after) words new.opened (piece_test world p state) (leads state shows))
+  opening-stops old new stop.Fault leads = tt
+  opening-stops old new stop.Memory leads = tt
+
+  pub opening-seeks : (old mid new : Kept) (r : Result ℕ Stop) → Leads old mid main file (λ state. piece_test world p state) (Ok false) →
+      Seeks mid new main file world pieces (λ entering state. run_flat world entering (seeking 0) (drop (line + 1) pieces) state) r →
+      Seeks old new main file world pieces (λ entering state. run_flat world entering reading (drop line pieces) state) r
+  opening-seeks old mid new (Ok n) leads seeks = λ entering state shows.
+      let one = leads state shows in
+      let two = seeks entering one.0 one.1.1 in
+      (two.0, (opening-first entering state ∙ ap (with_value (λ holds after. run_flat world entering (stage_of holds) (drop (line + 1) pieces) after)) one.1.0 ∙ two.1.0, two.1.1))
+  opening-seeks old mid new (Err (stop.Ended words)) leads seeks = λ entering state shows.
+      let one = leads state shows in
+      subst (λ (s : Step). StopsWith words new.opened s) (sym (opening-first entering state ∙ ap (with_value (λ holds after. run_flat world entering (stage_of holds) (drop (line + 1) pieces) after)) one.1.0))
+      (seeks entering one.0 one.1.1)
+  opening-seeks old mid new (Err stop.Fault) leads seeks = tt
+  opening-seeks old mid new (Err stop.Memory) leads seeks = tt
+
+-- a line that ends a group that was read
+pub branch-first : (world : World) (entering : Entering) (pieces : List Piece) (line : ℕ) (r : Role) (state : State) → line < length pieces → ((p : Piece) → role_of (get_or pieces line p) ≡ r) →
+    run_flat world entering reading (drop line pieces) state ≡ staged world entering (λ next after. run_flat world entering next (drop (line + 1) pieces) after) (get_or pieces line filler) state reading r
+branch-first world entering pieces line r state below role =
+    ap (λ (ps : List Piece). run_flat world entering reading ps state) (drop_more pieces line filler below)
+    ∙ at-role world entering (get_or pieces line filler) (drop (line + 1) pieces) state reading r (role filler)
 
 -- ---- an include ----
 
-pub too-deep : (world : World) (behind : After) (reader : Reader) (at : ℕ) (inner : Hit) (whole : Outcome) → 200 ≤ length reader.around.items → EntersTo world behind reader at inner whole → outcome.Diag (diagnostic_text (record { place = spelled reader.file.visit.place; at = at; complaint = TooNested })) ≡ whole
-too-deep world behind reader at inner whole deep left =
-    let state : State = state_of reader left.touched left.opened in
+pub too-deep : {A : Type 0} (world : World) (behind : After) (reader : Reader) (at : ℕ) (inner : Hit) (after : A → Told → Type 0) (e : Stop) → 200 ≤ length reader.around.items →
+    Refuses (record { place = spelled reader.file.visit.place; at = at; complaint = TooNested }) e → Brings (EntersTo world behind reader at inner) reader after (Err e)
+too-deep world behind reader at inner after (stop.Ended words) deep told = λ whole enters_to.
     let past : 200 ≤ length (frames_of reader) = omega (arith, deep, length-map reader.around.items frame_of) in
-    stopped world behind (frames_of reader) (rest_of reader.file) (diagnostic_text (record { place = spelled reader.file.visit.place; at = at; complaint = TooNested })) (complain at TooNested state) refl
-    ∙ sym (ap (λ (step : Step). outcome_behind world behind (frames_of reader) (rest_of reader.file) step) (too-nested world (length (frames_of reader)) at inner state past))
-    ∙ left.same
+    let nested = too-nested world (length (frames_of reader)) at inner enters_to.state past in
+    stopped world behind (frames_of reader) words reader.kept.opened (and_then (λ s. run_rest world (frames_of reader) (rest_of reader.file) s) (complain at TooNested enters_to.state))
+    (told ∙ ap (λ (h : Here). diagnostic_text (record { place = spelled h.place; at = at; complaint = TooNested })) (sym enters_to.shows.here), enters_to.shows.opened)
+    ∙ sym (ap (λ (step : Step). told_behind world behind (frames_of reader) (and_then (λ s. run_rest world (frames_of reader) (rest_of reader.file) s) step)) nested)
+    ∙ enters_to.same
+too-deep world behind reader at inner after stop.Fault deep told = absurd told
+too-deep world behind reader at inner after stop.Memory deep told = tt
 
--- an end is an end of all that comes behind it
-stops-behind : (next : State → Step) (words : Text) (step : Step) → StopsWith words step → StopsWith words (and_then next step)
-stops-behind next words (Go state) stops = absurd stops
-stops-behind next words (Stop diagnostic state) stops = stops
-
--- what opening a file is known to lead to
-abbrev pub OpeningLeads : World → Reader → Laid → ℕ → Hit → Opened → Type 0
-OpeningLeads world reader output left inner opened =
-    (entering : Entering) (state : State) → state.source ≡ reader.source → state.output ≡ reader.layout → state.left ≡ reader.left → Opens world entering (inside inner (record state { output = output; left = left })) opened (open_file world entering (enter (presumed_name inner.0.place) ∷ []) inner state)
-
-pub not-opened : (world : World) (behind : After) (reader : Reader) (output : Laid) (units at : ℕ) (inner : Hit) (whole : Outcome) (opened : Opened) (words : Text) → length reader.around.items < 200 → opened ≡ Refused words → OpeningLeads world reader output units inner opened → EntersTo world behind reader at inner whole → outcome.Diag words ≡ whole
-not-opened world behind reader output units at inner whole opened words shallow is leads left =
-    let state : State = state_of reader left.touched left.opened in
+-- the step that enters a file, level by level
+enter-step : (world : World) (behind : After) (reader : Reader) (at : ℕ) (inner : Hit) (whole : Told) → length reader.around.items < 200 → (enters_to : EntersTo world behind reader at inner whole) →
+    told_behind world behind (frames_of reader) (and_then (λ s. run_rest world (frames_of reader) (rest_of reader.file) s) (and_then (λ s. back_in (here_of reader.file) at s)
+    (open_file world (entering_at world (suc (length (frames_of reader)))) (enter (presumed_name inner.0.place) ∷ []) inner enters_to.state))) ≡ whole
+enter-step world behind reader at inner whole shallow enters_to =
     let below : length (frames_of reader) < 200 = omega (arith, shallow, length-map reader.around.items frame_of) in
-    let refused = subst (λ (o : Opened). OpeningLeads world reader output units inner o) is leads in
-    stopped world behind (frames_of reader) (rest_of reader.file) words
-    (and_then (λ after. back_in (here_of reader.file) at after) (open_file world (entering_at world (suc (length (frames_of reader)))) (enter (presumed_name inner.0.place) ∷ []) inner state))
-    (stops-behind (λ after. back_in (here_of reader.file) at after) words (open_file world (entering_at world (suc (length (frames_of reader)))) (enter (presumed_name inner.0.place) ∷ []) inner state) (refused (entering_at world (suc (length (frames_of reader)))) state refl refl refl))
-    ∙ sym (ap (λ (step : Step). outcome_behind world behind (frames_of reader) (rest_of reader.file) step) (enters world (length (frames_of reader)) at inner state below))
-    ∙ left.same
+    let opens = open_file world (entering_at world (suc (length (frames_of reader)))) (enter (presumed_name inner.0.place) ∷ []) inner enters_to.state in
+    let behind_step = λ (step : Step). told_behind world behind (frames_of reader) (and_then (λ s. run_rest world (frames_of reader) (rest_of reader.file) s) step) in
+    sym (ap (λ (h : Here). behind_step (and_then (λ s. back_in h at s) opens)) enters_to.shows.here)
+    ∙ sym (ap behind_step (enters world (length (frames_of reader)) at inner enters_to.state below))
+    ∙ enters_to.same
 
--- in a file that was entered, with the one around it put aside
-pub in-file : (world : World) (behind : After) (reader after : Reader) (output : Laid) (units at : ℕ) (inner : Hit) (whole : Outcome) (opened : Opened) (pieces : List Piece) → length reader.around.items < 200 → opened ≡ Pieces pieces → OpeningLeads world reader output units inner opened → after.file ≡ opened_file inner pieces → after.around.items ≡ reader.around.items ++ record { file = reader.file; at = at } ∷ [] → EntersTo world behind reader at inner whole → LeadsTo world behind (record after { source = reader.source; layout = output; left = units }) whole
-in-file world behind reader after output units at inner whole opened pieces shallow is leads file_is around_is left =
-    let state : State = state_of reader left.touched left.opened in
-    let below : length (frames_of reader) < 200 = omega (arith, shallow, length-map reader.around.items frame_of) in
-    let goes = subst (λ (o : Opened). OpeningLeads world reader output units inner o) is leads in
-    let stood : State = inside inner (record state { output = output; left = units }) in
-    let frame : Frame = record { here = here_of reader.file; at = at; rest = rest_of reader.file } in
+-- a reader that has gone into a file
+inside : (world : World) (behind : After) (reader after : Reader) (at : ℕ) (inner : Hit) (pieces : List Piece) (state : State) (whole : Told) →
+    GoesInto reader (opened_file inner pieces) at after → Shows reader.kept reader.source (here_at inner) state →
+    told_behind world behind (frames_of reader) (and_then (λ s. run_rest world (frames_of reader) (rest_of reader.file) s) (and_then (λ s. back_in (here_of reader.file) at s) (run_flat world (entering_at world (suc (length (frames_of reader)))) reading pieces state))) ≡ whole →
+    LeadsTo world behind after whole
+inside world behind reader after at inner pieces state whole goes shows same =
+    let left : Left = record { file = reader.file; at = at } in
+    let frames : frames_of after ≡ frames_of reader ++ frame_of left ∷ [] = ap (map frame_of) goes.around ∙ map-append frame_of reader.around.items (left ∷ []) in
+    let longer : length (frames_of reader ++ frame_of left ∷ []) ≡ suc (length (frames_of reader)) = omega (arith, length-append (frames_of reader) (frame_of left ∷ [])) in
     record {
-      touched = left.touched;
-      opened = left.opened ++ inner.0.place ∷ [];
+      state = state;
+      shows =
+          subst (λ (h : Here). Shows after.kept after.source h state) (ap here_of (sym goes.file_is))
+          (subst (λ (p : Path). Shows after.kept p (here_at inner) state) (sym goes.source) (subst (λ (k : Kept). Shows k reader.source (here_at inner) state) (sym goes.kept) shows));
       same =
-          ap (λ (file : OpenFile). outcome_behind world behind (frames_of after) (rest_of file) (Go (record stood { here = here_of file }))) file_is
-          ∙ ap (λ (items : List Left). outcome_behind world behind (map frame_of items) pieces (Go stood)) around_is
-          ∙ ap (λ (frames : List Frame). outcome_behind world behind frames pieces (Go stood)) (map-append frame_of reader.around.items (record { file = reader.file; at = at } ∷ []))
-          ∙ entered world behind (frames_of reader) (rest_of reader.file) pieces at inner state stood below (goes (entering_at world (suc (length (frames_of reader)))) state refl refl refl)
-          ∙ left.same;
+          ap (λ (file : OpenFile). told_behind world behind (frames_of after) (run_rest world (frames_of after) (rest_of file) state)) goes.file_is
+          ∙ ap (λ (fs : List Frame). told_behind world behind fs (run_rest world fs pieces state)) frames
+          ∙ ap (λ (n : ℕ). told_behind world behind (frames_of reader ++ frame_of left ∷ []) (run_flat world (entering_at world n) reading pieces state)) longer
+          ∙ behind-frame world behind (frames_of reader) (frame_of left) (run_flat world (entering_at world (suc (length (frames_of reader)))) reading pieces state)
+          ∙ same;
     }
 
--- a reader whose parts are these
-stands : (world : World) (behind : After) (whole : Outcome) (after : Reader) (source : Path) (output : Laid) (units : ℕ) → after.source ≡ source → after.layout ≡ output → after.left ≡ units → LeadsTo world behind (record after { source = source; layout = output; left = units }) whole → LeadsTo world behind after whole
-stands world behind whole after source output units source_is layout_is left_is left =
-    subst (λ (p : Path). LeadsTo world behind (record after { source = p }) whole) (sym source_is)
-    (subst (λ (o : Laid). LeadsTo world behind (record after { source = source; layout = o }) whole) (sym layout_is)
-    (subst (λ (n : ℕ). LeadsTo world behind (record after { source = source; layout = output; left = n }) whole) (sym left_is) left))
-
-pub opens-file : (world : World) (behind : After) (reader : Reader) (output : Laid) (units at : ℕ) (inner : Hit) (whole : Outcome) (opened : Opened) → length reader.around.items < 200 → OpeningLeads world reader output units inner opened → EntersTo world behind reader at inner whole → OpensTo world behind (record reader { layout = output; left = units }) at inner whole opened
-opens-file world behind reader output units at inner whole (Pieces pieces) shallow leads left =
-    λ after goes.
-    stands world behind whole after reader.source output units goes.source goes.layout goes.left
-    (in-file world behind reader after output units at inner whole (Pieces pieces) pieces shallow refl leads goes.file_is goes.around left)
-opens-file world behind reader output units at inner whole (Refused words) shallow leads left =
-    not-opened world behind reader output units at inner whole (Refused words) words shallow refl leads left
-
--- a file that was not opened for its depth
-pub refused-deep : (world : World) (behind : After) (reader : Reader) (at : ℕ) (inner : Hit) (whole : Outcome) (opened : Opened) → 200 ≤ length reader.around.items → opened ≡ Refused (diagnostic_text (record { place = spelled reader.file.visit.place; at = at; complaint = TooNested })) → EntersTo world behind reader at inner whole → OpensTo world behind reader at inner whole opened
-refused-deep world behind reader at inner whole opened deep is left =
-    subst (λ (o : Opened). OpensTo world behind reader at inner whole o) (sym is) (too-deep world behind reader at inner whole deep left)
-
--- what opening a file leads to, where it was opened and gone into, and where it was not
-pub went-in : (world : World) (behind : After) (reader after : Reader) (at : ℕ) (inner : Hit) (whole : Outcome) (opened : Opened) (pieces : List Piece) → opened ≡ Pieces pieces → OpensTo world behind reader at inner whole opened → GoesInto reader (opened_file inner pieces) at after → LeadsTo world behind after whole
-went-in world behind reader after at inner whole opened pieces is leads goes =
-    subst (λ (o : Opened). OpensTo world behind reader at inner whole o) is leads after goes
-
-pub kept-out : (world : World) (behind : After) (reader : Reader) (at : ℕ) (inner : Hit) (whole : Outcome) (opened : Opened) (words : Text) → opened ≡ Refused words → OpensTo world behind reader at inner whole opened → outcome.Diag words ≡ whole
-kept-out world behind reader at inner whole opened words is leads =
-    subst (λ (o : Opened). OpensTo world behind reader at inner whole o) is leads
-
--- the work ahead in a file that was entered
-pub less-ahead : (before reader after : Reader) (at : ℕ) (inner : Hit) (opened : Opened) (pieces : List Piece) → opened ≡ Pieces pieces → Shortens before.left reader.left opened → reader.file ≡ before.file → reader.around ≡ before.around → GoesInto reader (opened_file inner pieces) at after → work_ahead after < suc (work_ahead before)
-less-ahead before reader after at inner opened pieces is shorter same_file same_around goes =
-    let paid : length pieces + 1 + (reader.left + reader.left) ≤ before.left + before.left = subst (λ (o : Opened). Shortens before.left reader.left o) is shorter in
-    let weight : Left → ℕ = λ left. length (rest_of left.file) + 1 in
-    let pushed = sum_by_push weight reader.around.items (record { file = reader.file; at = at }) in
-    rw (goes.left, goes.file_is, goes.around, pushed, same_file, same_around) (omega (arith, paid))
+pub opens-brings : (world : World) (behind : After) (reader : Reader) (new : Kept) (at : ℕ) (inner : Hit) (r : Result (List Piece) Stop) → length reader.around.items < 200 →
+    Opens reader.kept new reader.source world inner (λ entering state. open_file world entering (enter (presumed_name inner.0.place) ∷ []) inner state) r →
+    Brings (EntersTo world behind reader at inner) (record reader { kept = new }) (λ pieces whole. InsideTo world behind (record reader { kept = new }) at inner pieces whole) r
+opens-brings world behind reader new at inner (Ok pieces) shallow opens = λ whole enters_to after goes.
+    let one = opens (entering_at world (suc (length (frames_of reader)))) (here_of reader.file) enters_to.state enters_to.shows in
+    inside world behind (record reader { kept = new }) after at inner pieces one.0 whole goes one.1.1
+    (sym (ap (λ (step : Step). told_behind world behind (frames_of reader) (and_then (λ s. run_rest world (frames_of reader) (rest_of reader.file) s) (and_then (λ s. back_in (here_of reader.file) at s) step))) one.1.0)
+    ∙ enter-step world behind reader at inner whole shallow enters_to)
+opens-brings world behind reader new at inner (Err (stop.Ended words)) shallow opens = λ whole enters_to.
+    let opening = open_file world (entering_at world (suc (length (frames_of reader)))) (enter (presumed_name inner.0.place) ∷ []) inner enters_to.state in
+    let back = and_then (λ s. back_in (here_of reader.file) at s) opening in
+    stopped world behind (frames_of reader) words new.opened (and_then (λ s. run_rest world (frames_of reader) (rest_of reader.file) s) back)
+    (stops-on (λ s. run_rest world (frames_of reader) (rest_of reader.file) s) words new.opened back
+    (stops-on (λ s. back_in (here_of reader.file) at s) words new.opened opening (opens (entering_at world (suc (length (frames_of reader)))) (here_of reader.file) enters_to.state enters_to.shows)))
+    ∙ enter-step world behind reader at inner whole shallow enters_to
+opens-brings world behind reader new at inner (Err stop.Fault) shallow opens = tt
+opens-brings world behind reader new at inner (Err stop.Memory) shallow opens = tt
 
 -- ---- the end of a file ----
 
-came : (world : World) (behind : After) (reader after : Reader) (outer : Left) (whole : Outcome) → length reader.file.pieces ≤ reader.file.next → reader.around.items ≡ after.around.items ++ outer ∷ [] → (left : LeadsTo world behind reader whole) → outcome_behind world behind (frames_of after) (rest_of outer.file) (back_in (here_of outer.file) outer.at (state_of reader left.touched left.opened)) ≡ whole
-came world behind reader after outer whole ends around_is left =
-    let state : State = state_of reader left.touched left.opened in
-    sym (back-out world behind (frames_of after) (frame_of outer) state)
-    ∙ sym (ap (λ (frames : List Frame). outcome_behind world behind frames [] (Go state)) (map-append frame_of after.around.items (outer ∷ [])))
-    ∙ sym (ap (λ (items : List Left). outcome_behind world behind (map frame_of items) [] (Go state)) around_is)
-    ∙ sym (ap (λ (rest : List Piece). outcome_behind world behind (frames_of reader) rest (Go state)) (drop_all reader.file.next reader.file.pieces ends))
-    ∙ left.same
-
-pub came-back : (world : World) (behind : After) (reader after : Reader) (outer : Left) (output : Laid) (whole : Outcome) → length reader.file.pieces ≤ reader.file.next → reader.around.items ≡ after.around.items ++ outer ∷ [] → output ≡ after_event reader.layout (back (presumed_name outer.file.visit.place) (pos (outer.at + 1)) outer.at) → length output.text ≤ text_limit → LeadsTo world behind reader whole → LeadsTo world behind (record after { source = reader.source; layout = output; left = reader.left; file = outer.file }) whole
-came-back world behind reader after outer output whole ends around_is is short left =
+pub came-back : (world : World) (behind : After) (reader after : Reader) (outer : Left) (whole : Told) → length reader.file.pieces ≤ reader.file.next → reader.around.items ≡ after.around.items ++ outer ∷ [] →
+    after.source ≡ reader.source → after.kept ≡ reader.kept → after.file ≡ outer.file →
+    LeadsTo world behind reader whole → StepsTo world behind after (here_of reader.file) (λ state. back_in (here_of outer.file) outer.at state) whole
+came-back world behind reader after outer whole ends around_is source kept file left =
+    let frames : frames_of reader ≡ frames_of after ++ frame_of outer ∷ [] = ap (map frame_of) around_is ∙ map-append frame_of after.around.items (outer ∷ []) in
     record {
-      touched = left.touched;
-      opened = left.opened;
+      state = left.state;
+      shows = subst (λ (p : Path). Shows after.kept p (here_of reader.file) left.state) (sym source) (subst (λ (k : Kept). Shows k reader.source (here_of reader.file) left.state) (sym kept) left.shows);
       same =
-          sym (ap (λ (step : Step). outcome_behind world behind (frames_of after) (rest_of outer.file) step) (back-within (here_of outer.file) outer.at (state_of reader left.touched left.opened) output is short))
-          ∙ came world behind reader after outer whole ends around_is left;
+          ap (λ (f : OpenFile). told_behind world behind (frames_of after) (and_then (λ s. run_rest world (frames_of after) (rest_of f) s) (back_in (here_of outer.file) outer.at left.state))) file
+          ∙ sym (behind-frame world behind (frames_of after) (frame_of outer) (Go left.state))
+          ∙ sym (ap (λ (fs : List Frame). told_behind world behind fs (Go left.state)) frames)
+          ∙ sym (ap (λ (step : Step). told_behind world behind (frames_of reader) step) (none-left world (frames_of reader) left.state))
+          ∙ sym (ap (λ (rest : List Piece). told_behind world behind (frames_of reader) (run_rest world (frames_of reader) rest left.state)) (drop_all reader.file.next reader.file.pieces ends))
+          ∙ left.same;
     }
-
-pub no-room : (world : World) (behind : After) (reader after : Reader) (outer : Left) (whole : Outcome) → length reader.file.pieces ≤ reader.file.next → reader.around.items ≡ after.around.items ++ outer ∷ [] → text_limit < length (after_event reader.layout (back (presumed_name outer.file.visit.place) (pos (outer.at + 1)) outer.at)).text → LeadsTo world behind reader whole → outcome.Diag (diagnostic_text (record { place = spelled reader.source; at = 0; complaint = TextLimit })) ≡ whole
-no-room world behind reader after outer whole ends around_is long left =
-    let state : State = state_of reader left.touched left.opened in
-    let output : Laid = after_event reader.layout (back (presumed_name outer.file.visit.place) (pos (outer.at + 1)) outer.at) in
-    stopped world behind (frames_of after) (rest_of outer.file) (diagnostic_text (record { place = spelled reader.source; at = 0; complaint = TextLimit })) (complain_of_job TextLimit (record state { here = here_of outer.file; output = output })) refl
-    ∙ sym (ap (λ (step : Step). outcome_behind world behind (frames_of after) (rest_of outer.file) step) (back-past (here_of outer.file) outer.at state long))
-    ∙ came world behind reader after outer whole ends around_is left
-
-pub returned : (world : World) (behind : After) (reader after : Reader) (outer : Left) (output : Laid) (whole : Outcome) (ended : Option Text) → length reader.file.pieces ≤ reader.file.next → reader.around.items ≡ after.around.items ++ outer ∷ [] → Marked reader.source (after_event reader.layout (back (presumed_name outer.file.visit.place) (pos (outer.at + 1)) outer.at)) output ended → LeadsTo world behind reader whole → GoesOn world behind (record after { source = reader.source; layout = output; left = reader.left; file = outer.file }) whole ended
-returned world behind reader after outer output whole None ends around_is marked left =
-    came-back world behind reader after outer output whole ends around_is marked.0 marked.1 left
-returned world behind reader after outer output whole (Some words) ends around_is marked left =
-    ap (λ (w : Text). outcome.Diag w) marked.1 ∙ no-room world behind reader after outer whole ends around_is marked.0 left
-
-pub advanced : (source : Path) (full : Laid) (before : ℕ) (after : Reader) (ended : Option Text) → work_ahead after < before → Marked source full after.layout ended → Advances before after ended
-advanced source full before after None less marked = (marked.1, less)
-advanced source full before after (Some words) less marked = tt
 
 -- ---- all files ----
 
-pub said : (world : World) (behind : After) (reader : Reader) (whole : Outcome) (ended : Option Text) (words : Text) → ended ≡ Some words → GoesOn world behind reader whole ended → outcome.Diag words ≡ whole
-said world behind reader whole ended words is goes = subst (λ (e : Option Text). GoesOn world behind reader whole e) is goes
+alone-behind : (world : World) (behind : After) (reader : Reader) (state : State) → length reader.file.pieces ≤ reader.file.next → reader.around.items ≡ [] →
+    told_behind world behind (frames_of reader) (run_rest world (frames_of reader) (rest_of reader.file) state) ≡ told_of (behind state)
+alone-behind world behind reader state ends alone =
+    ap (λ (rest : List Piece). told_behind world behind (frames_of reader) (run_rest world (frames_of reader) rest state)) (drop_all reader.file.next reader.file.pieces ends)
+    ∙ ap (λ (step : Step). told_behind world behind (frames_of reader) step) (none-left world (frames_of reader) state)
+    ∙ ap (λ (items : List Left). told_behind world behind (map frame_of items) (Go state)) alone
+    ∙ at-end world behind (Go state)
 
-pub went-on : (world : World) (behind : After) (reader : Reader) (whole : Outcome) (ended : Option Text) → ended ≡ None → GoesOn world behind reader whole ended → LeadsTo world behind reader whole
-went-on world behind reader whole ended is goes = subst (λ (e : Option Text). GoesOn world behind reader whole e) is goes
-
--- where nothing is left to read of the files, what comes behind them is next
-all-behind : (world : World) (behind : After) (reader : Reader) (step : Step) → length reader.file.pieces ≤ reader.file.next → reader.around.items ≡ [] → outcome_behind world behind (frames_of reader) (rest_of reader.file) step ≡ (prepared (and_then behind step)).outcome
-all-behind world behind reader step ends alone =
-    ap (λ (rest : List Piece). outcome_behind world behind (frames_of reader) rest step) (drop_all reader.file.next reader.file.pieces ends)
-    ∙ ap (λ (items : List Left). outcome_behind world behind (map frame_of items) [] step) alone
-    ∙ at-end world behind step
-
-pub all-read : (world : World) (behind : After) (reader : Reader) (whole : Outcome) → length reader.file.pieces ≤ reader.file.next → reader.around.items ≡ [] → LeadsTo world behind reader whole → ComesTo behind reader whole
-all-read world behind reader whole ends alone left =
-    record {
-      touched = left.touched;
-      opened = left.opened;
-      same = sym (all-behind world behind reader (Go (state_of reader left.touched left.opened)) ends alone) ∙ left.same;
-    }
-
-pub ended-with : (behind : After) (reader : Reader) (whole : Outcome) (ended : Option Text) (words : Text) → ended ≡ Some words → ReadsTo behind reader whole ended → outcome.Diag words ≡ whole
-ended-with behind reader whole ended words is reads = subst (λ (e : Option Text). ReadsTo behind reader whole e) is reads
-
-pub read-on : (behind : After) (reader : Reader) (whole : Outcome) (ended : Option Text) → ended ≡ None → ReadsTo behind reader whole ended → ComesTo behind reader whole
-read-on behind reader whole ended is reads = subst (λ (e : Option Text). ReadsTo behind reader whole e) is reads
-
-pub nothing-left : (reader : Reader) (ended : Option Text) → ended ≡ None → EndsRead reader ended → AllRead reader
-nothing-left reader ended is ends = subst (λ (e : Option Text). EndsRead reader e) is ends
+pub all-read : (world : World) (behind : After) (reader : Reader) (whole : Told) → AllRead reader → LeadsTo world behind reader whole → ComesTo behind reader whole
+all-read world behind reader whole read left = record {
+  state = left.state;
+  shows = left.shows;
+  same = sym (alone-behind world behind reader left.state read.ended read.alone) ∙ left.same;
+}
 
 -- ---- a file of the job's words ----
 
 -- what a name of the job's words does
-abbrev pub forced_step : World → Text → State → Step
-forced_step world name state = found world (enter_file world depth_limit) 0 false name state (world.find (forced_ask name))
+abbrev pub named_step : World → Text → Entering → State → Step
+named_step world name entering state = found_file world entering 0 false name state (world.find (forced_ask name))
 
 -- the files of a name and of the names behind it
-pub named-first : (world : World) (source : Hit) (name : Text) (names : List Text) (state : State) → (prepared (source_behind world source (name ∷ names) state)).outcome ≡ (prepared (and_then (λ after. source_behind world source names after) (forced_step world name state))).outcome
+named-first : (world : World) (source : Hit) (name : Text) (names : List Text) (state : State) →
+    told_of (source_behind world source (name ∷ names) state) ≡ told_of (and_then (λ after. source_behind world source names after) (named_step world name (enter_file world depth_limit) state))
 unfolding run_forced
 named-first world source name names state =
-    ap (λ (step : Step). (prepared step).outcome) (then-then (λ after. run_forced world (enter_file world depth_limit) names after) (λ after. open_source world source after) (forced_step world name state))
+    ap told_of (then-then (λ after. run_forced world (enter_file world depth_limit) names after) (λ after. open_source world source after) (named_step world name (enter_file world depth_limit) state))
 
-pub not-found : (world : World) (source : Hit) (name : Text) (names : List Text) (reader : Reader) (whole : Outcome) → world.find (forced_ask name) ≡ None → ComesTo (source_behind world source (name ∷ names)) reader whole → outcome.Diag (diagnostic_text (record { place = spelled reader.file.visit.place; at = 0; complaint = NotFound false name })) ≡ whole
-not-found world source name names reader whole none comes =
-    let state : State = state_of reader comes.touched comes.opened in
-    sym (ap (λ (hit : Option Hit). (prepared (and_then (λ after. source_behind world source names after) (found world (enter_file world depth_limit) 0 false name state hit))).outcome) none)
-    ∙ sym (named-first world source name names state)
-    ∙ comes.same
-
-pub found-named : (world : World) (source : Hit) (name : Text) (names : List Text) (reader : Reader) (hit : Hit) (whole : Outcome) → AllRead reader → world.find (forced_ask name) ≡ Some hit → ComesTo (source_behind world source (name ∷ names)) reader whole → EntersTo world (source_behind world source names) reader 0 hit whole
-found-named world source name names reader hit whole read is comes =
-    let state : State = state_of reader comes.touched comes.opened in
-    let step : Step = enter_file world depth_limit 0 hit (touch hit.1 state) in
+pub named-brings : (world : World) (source : Hit) (name : Text) (names : List Text) (reader : Reader) (new : Kept) (r : Result (Option Hit) Stop) → AllRead reader →
+    Includes reader.kept new reader.source (here_of reader.file) 0 (λ entering state. named_step world name entering state) r →
+    Brings (ComesTo (source_behind world source (name ∷ names)) reader) (record reader { kept = new }) (λ found whole. NamedTo world source names (record reader { kept = new }) found whole) r
+named-brings world source name names reader new (Ok None) read includes = λ whole comes.
+    let one = includes (enter_file world depth_limit) comes.state comes.shows in
     record {
-      touched = comes.touched ++ hit.1 ∷ [];
-      opened = comes.opened;
+      state = one.0;
+      shows = one.1.1;
+      same = sym (ap (λ (step : Step). told_of (and_then (λ after. source_behind world source names after) step)) one.1.0) ∙ sym (named-first world source name names comes.state) ∙ comes.same;
+    }
+named-brings world source name names reader new (Ok (Some hit)) read includes = λ whole comes.
+    let one = includes (enter_file world depth_limit) comes.state comes.shows in
+    let behind : After = source_behind world source names in
+    record {
+      state = one.0;
+      shows = one.1.1;
       same =
-          ap (λ (n : ℕ). outcome_behind world (source_behind world source names) (frames_of reader) (rest_of reader.file) (entering_at world n 0 hit (touch hit.1 state))) (ap (λ (items : List Left). length (map frame_of items)) read.alone)
-          ∙ all-behind world (source_behind world source names) reader step read.ended read.alone
-          ∙ sym (ap (λ (found_hit : Option Hit). (prepared (and_then (λ after. source_behind world source names after) (found world (enter_file world depth_limit) 0 false name state found_hit))).outcome) is)
-          ∙ sym (named-first world source name names state)
+          ap (λ (items : List Left). told_behind world behind (map frame_of items) (and_then (λ s. run_rest world (map frame_of items) (rest_of reader.file) s) (entering_at world (length (map frame_of items)) 0 hit one.0))) read.alone
+          ∙ at-end world behind (and_then (λ s. run_rest world [] (rest_of reader.file) s) (entering_at world 0 0 hit one.0))
+          ∙ ap (λ (rest : List Piece). told_of (and_then behind (and_then (λ s. run_rest world [] rest s) (entering_at world 0 0 hit one.0)))) (drop_all reader.file.next reader.file.pieces read.ended)
+          ∙ ap (λ (step : Step). told_of (and_then behind step)) (then-nothing world (entering_at world 0 0 hit one.0))
+          ∙ sym (ap (λ (step : Step). told_of (and_then behind step)) one.1.0)
+          ∙ sym (named-first world source name names comes.state)
           ∙ comes.same;
     }
+  where
+    then-nothing : (world : World) (step : Step) → and_then (λ s. run_rest world [] [] s) step ≡ step
+    then-nothing world (Go state) = none-left world [] state
+    then-nothing world (Stopped d state) = refl
+named-brings world source name names reader new (Err (stop.Ended words)) read includes = λ whole comes.
+    stopped-at-once words new.opened (and_then (λ after. source_behind world source names after) (named_step world name (enter_file world depth_limit) comes.state))
+    (stops-on (λ after. source_behind world source names after) words new.opened (named_step world name (enter_file world depth_limit) comes.state) (includes (enter_file world depth_limit) comes.state comes.shows))
+    ∙ sym (named-first world source name names comes.state) ∙ comes.same
+named-brings world source name names reader new (Err stop.Fault) read includes = tt
+named-brings world source name names reader new (Err stop.Memory) read includes = tt
 
 -- the next name of the job's words
-pub next-name : (world : World) (source : Hit) (forced : List Text) (i : ℕ) (item name : Text) (reader : Reader) (whole : Outcome) → i < length forced → item ≡ get_or forced i item → name ≡ item → ComesTo (source_behind world source (drop i forced)) reader whole → ComesTo (source_behind world source (name ∷ drop (i + 1) forced)) reader whole
+pub next-name : (world : World) (source : Hit) (forced : List Text) (i : ℕ) (item name : Text) (reader : Reader) (whole : Told) → i < length forced → item ≡ get_or forced i item → name ≡ item →
+    ComesTo (source_behind world source (drop i forced)) reader whole → ComesTo (source_behind world source (name ∷ drop (i + 1) forced)) reader whole
 next-name world source forced i item name reader whole below at same comes =
-    let names : drop i forced ≡ name ∷ drop (i + 1) forced =
-    drop_more forced i item below ∙ ap (λ (n : Text). n ∷ drop (i + 1) forced) (sym (same ∙ at)) in
+    let names : drop i forced ≡ name ∷ drop (i + 1) forced = drop_more forced i item below ∙ ap (λ (n : Text). n ∷ drop (i + 1) forced) (sym (same ∙ at)) in
     record {
-      touched = comes.touched;
-      opened = comes.opened;
-      same = sym (ap (λ (ns : List Text). (prepared (source_behind world source ns (state_of reader comes.touched comes.opened))).outcome) names) ∙ comes.same;
+      state = comes.state;
+      shows = comes.shows;
+      same = sym (ap (λ (ns : List Text). told_of (source_behind world source ns comes.state)) names) ∙ comes.same;
     }
 
 -- ---- the source ----
 
--- what opening the source is known to lead to
-abbrev pub SourceLeads : World → Reader → Laid → ℕ → Hit → Opened → Type 0
-SourceLeads world reader output left source opened =
-    (entering : Entering) (state : State) → state.source ≡ reader.source → state.output ≡ reader.layout → state.left ≡ reader.left → Opens world entering (inside source (record state { output = output; left = left })) opened (open_file world entering [] source state)
-
--- where no file of the job's words is left, the source is opened
-source-next : (world : World) (source : Hit) (reader : Reader) (whole : Outcome) → (comes : ComesTo (source_behind world source []) reader whole) → (prepared (open_file world (enter_file world depth_limit) [] source (state_of reader comes.touched comes.opened))).outcome ≡ whole
+source-next : (world : World) (source : Hit) (state : State) → told_of (source_behind world source [] state) ≡ told_of (open_file world (enter_file world depth_limit) [] source state)
 unfolding run_forced
-source-next world source reader whole comes = comes.same
+source-next world source state = refl
 
-stopped-at-once : (words : Text) (step : Step) → StopsWith words step → outcome.Diag words ≡ (prepared step).outcome
-stopped-at-once words (Go state) stops = absurd stops
-stopped-at-once words (Stop diagnostic state) stops = ap (λ (w : Text). outcome.Diag w) stops
-
-pub source-refused : (world : World) (source : Hit) (reader : Reader) (output : Laid) (units : ℕ) (whole : Outcome) (opened : Opened) (words : Text) → opened ≡ Refused words → SourceLeads world reader output units source opened → ComesTo (source_behind world source []) reader whole → outcome.Diag words ≡ whole
-source-refused world source reader output units whole opened words is leads comes =
-    let refused = subst (λ (o : Opened). SourceLeads world reader output units source o) is leads in
-    let state : State = state_of reader comes.touched comes.opened in
-    stopped-at-once words (open_file world (enter_file world depth_limit) [] source state) (refused (enter_file world depth_limit) state refl refl refl)
-    ∙ source-next world source reader whole comes
-
-pub in-source : (world : World) (source : Hit) (reader after : Reader) (output : Laid) (units : ℕ) (whole : Outcome) (opened : Opened) (pieces : List Piece) → AllRead reader → opened ≡ Pieces pieces → SourceLeads world reader output units source opened → after.file ≡ opened_file source pieces → ComesTo (source_behind world source []) reader whole → LeadsTo world Go (record after { source = reader.source; layout = output; left = units; around = reader.around }) whole
-in-source world source reader after output units whole opened pieces read is leads file_is comes =
-    let goes = subst (λ (o : Opened). SourceLeads world reader output units source o) is leads in
-    let state : State = state_of reader comes.touched comes.opened in
-    let stood : State = inside source (record state { output = output; left = units }) in
+pub source-brings : (world : World) (source : Hit) (reader : Reader) (new : Kept) (r : Result (List Piece) Stop) → AllRead reader →
+    Opens reader.kept new reader.source world source (λ entering state. open_file world entering [] source state) r →
+    Brings (ComesTo (source_behind world source []) reader) (record reader { kept = new }) (λ pieces whole. LeadsTo world (λ state. Go state) (record reader { kept = new; file = opened_file source pieces }) whole) r
+source-brings world source reader new (Ok pieces) read opens = λ whole comes.
+    let one = opens (enter_file world depth_limit) (here_of reader.file) comes.state comes.shows in
     record {
-      touched = stood.touched;
-      opened = stood.opened;
+      state = one.0;
+      shows = one.1.1;
       same =
-          ap (λ (file : OpenFile). outcome_behind world Go (frames_of reader) (rest_of file) (Go (record stood { here = here_of file }))) file_is
-          ∙ ap (λ (items : List Left). outcome_behind world Go (map frame_of items) pieces (Go stood)) read.alone
-          ∙ at-start world Go pieces stood
-          ∙ ap (λ (step : Step). (prepared step).outcome) (then-go (run_pieces world (enter_file world depth_limit) pieces stood))
-          ∙ sym (ap (λ (step : Step). (prepared step).outcome) (goes (enter_file world depth_limit) state refl refl refl))
-          ∙ source-next world source reader whole comes;
+          ap (λ (items : List Left). told_behind world (λ state. Go state) (map frame_of items) (run_rest world (map frame_of items) pieces one.0)) read.alone
+          ∙ at-end world (λ state. Go state) (run_rest world [] pieces one.0)
+          ∙ ap told_of (then-go (run_rest world [] pieces one.0))
+          ∙ sym (ap told_of one.1.0)
+          ∙ sym (source-next world source comes.state)
+          ∙ comes.same;
     }
+source-brings world source reader new (Err (stop.Ended words)) read opens = λ whole comes.
+    stopped-at-once words new.opened (open_file world (enter_file world depth_limit) [] source comes.state) (opens (enter_file world depth_limit) (here_of reader.file) comes.state comes.shows)
+    ∙ sym (source-next world source comes.state) ∙ comes.same
+source-brings world source reader new (Err stop.Fault) read opens = tt
+source-brings world source reader new (Err stop.Memory) read opens = tt
 
-pub begins : (world : World) (source : Hit) (reader : Reader) (output : Laid) (units : ℕ) (whole : Outcome) (opened : Opened) → AllRead reader → SourceLeads world reader output units source opened → ComesTo (source_behind world source []) reader whole → BeginsTo world source (record reader { layout = output; left = units }) whole opened
-begins world source reader output units whole (Pieces pieces) read leads comes =
-    in-source world source reader (record reader { file = opened_file source pieces }) output units whole (Pieces pieces) pieces read refl leads refl comes
-begins world source reader output units whole (Refused words) read leads comes =
-    source-refused world source reader output units whole (Refused words) words refl leads comes
+-- ---- the work ahead ----
 
--- what opening the source leads to, where it was opened, and where it was not
-pub begun-in : (world : World) (source : Hit) (reader : Reader) (whole : Outcome) (opened : Opened) (pieces : List Piece) → opened ≡ Pieces pieces → BeginsTo world source reader whole opened → LeadsTo world (λ state. Go state) (record reader { file = opened_file source pieces }) whole
-begun-in world source reader whole opened pieces is leads =
-    subst (λ (o : Opened). BeginsTo world source reader whole o) is leads
+-- with no more work left, at a later piece
+pub less-here : (before after : Reader) → after.kept.work.left ≤ before.kept.work.left → after.around ≡ before.around → after.file.pieces ≡ before.file.pieces → before.file.next < after.file.next → before.file.next < length before.file.pieces →
+    work_ahead after < work_ahead before
+less-here before after spent around pieces later below =
+    let shorter : suc (length (drop after.file.next before.file.pieces)) ≤ length (drop before.file.next before.file.pieces) =
+    omega (arith, length-drop before.file.next before.file.pieces, length-drop after.file.next before.file.pieces, later, below) in
+    rw (around, pieces) (omega (arith, spent, shorter))
 
-pub not-begun : (world : World) (source : Hit) (reader : Reader) (whole : Outcome) (opened : Opened) (words : Text) → opened ≡ Refused words → BeginsTo world source reader whole opened → outcome.Diag words ≡ whole
-not-begun world source reader whole opened words is leads =
-    subst (λ (o : Opened). BeginsTo world source reader whole o) is leads
+-- in a file that was entered
+pub less-inside : (before reader after : Reader) (at : ℕ) (inner : Hit) (pieces : List Piece) → length pieces + 1 + (reader.kept.work.left + reader.kept.work.left) ≤ before.kept.work.left + before.kept.work.left →
+    reader.file ≡ before.file → reader.around ≡ before.around → GoesInto reader (opened_file inner pieces) at after → work_ahead after < suc (work_ahead before)
+less-inside before reader after at inner pieces paid same_file same_around goes =
+    let weight : Left → ℕ = λ left. length (rest_of left.file) + 1 in
+    let pushed = sum_by_push weight reader.around.items (record { file = reader.file; at = at }) in
+    rw (goes.kept, goes.file_is, goes.around, pushed, same_file, same_around) (omega (arith, paid))

@@ -1,24 +1,27 @@
--- The files that are read, as the code keeps them: what is left to read of each, and the outcome that this leads to. No
--- public contract rests on it.
-use Rattle.std.specs.Prelude.{◌≡◌, ◌≤◌, ◌<◌, ◌+◌, ◌++◌, ℕ, List, [], ◌∷◌, map, length, drop, sum_by, Option, None, Some}
+-- The files that are read, as the code keeps them: what is left to read of each, and what this leads to. No public contract
+-- rests on it.
+use Rattle.std.specs.Prelude.{◌≡◌, ◌≤◌, ◌+◌, ◌++◌, ℕ, pos, List, [], ◌∷◌, map, length, drop, sum_by, Option, Some, None, Result, Ok, Err}
 use Rattle.directive_scan.specs.declared.Piece.{Piece}
-use Rattle.cpp_output.specs.Layout.{text_limit}
-use Rattle.cpp_output.specs.Laid.{Laid}
 use Rattle.tree_model.specs.Paths.{Text, Path}
-use Rattle.tree_model.specs.declared.walk.Located.{Located}
+use Rattle.tree_model.specs.Shown.{presumed_name}
 use Rattle.search_path.specs.Search.{Hit}
-use Rattle.daemon_cpp.specs.declared.outcome.Outcome.{Outcome}
+use Rattle.job_words.specs.declared.MacroWord.{MacroWord}
 use Rattle.daemon_cpp.specs.declared.outcome.Outcome.TheVariants as outcome
-use Rattle.daemon_cpp.specs.declared.opening.Opened.{Opened}
-use Rattle.daemon_cpp.specs.declared.opening.Opened.TheVariants.{Pieces, Refused}
+use Rattle.daemon_cpp.specs.declared.kept.Kept.{Kept}
+use Rattle.daemon_cpp.specs.declared.stop.Stop.{Stop}
+use Rattle.daemon_cpp.specs.declared.stop.Stop.TheVariants as stop
+use Rattle.daemon_cpp.specs.declared.pieces.Move.{Move}
+use Rattle.daemon_cpp.specs.declared.pieces.Move.TheVariants.{Onward, Enter, Renumber}
+use Rattle.daemon_cpp.specs.declared.cpp.Told.{Told}
 use Rattle.daemon_cpp.specs.declared.cpp.OpenFile.{OpenFile}
 use Rattle.daemon_cpp.specs.declared.cpp.Left.{Left}
 use Rattle.daemon_cpp.specs.declared.cpp.Reader.{Reader}
-use Rattle.daemon_cpp.specs.Prep.{World, Here, State, Step, Go, and_then, limited, first_state, enter_file, depth_limit, run_forced, open_source, prepared}
-use Rattle.daemon_cpp.specs.Reading.{Frame, run_pieces, entering_at, resumed}
+use Rattle.daemon_cpp.specs.Prep.{World, Here, State, Step, Go, and_then, limited, first_state, enter_file, depth_limit, run_forced, open_source, prepared, line_set}
+use Rattle.daemon_cpp.specs.Reading.{Frame, run_flat, reading, entering_at, resumed}
+use Rattle.daemon_cpp.specs.Showing.{Shows, StopsWith}
 
 abbrev pub here_of : OpenFile → Here
-here_of file = record { place = file.visit.place; found = file.visit.found; real = file.real }
+here_of file = record { place = file.visit.place; found = file.visit.found; real = file.real; name = file.numbers.name; shift = file.numbers.shift }
 
 -- the pieces of a file that are left to read
 abbrev pub rest_of : OpenFile → List Piece
@@ -31,111 +34,129 @@ frame_of left = record { here = here_of left.file; at = left.at; rest = rest_of 
 abbrev pub frames_of : Reader → List Frame
 frames_of reader = map frame_of reader.around.items
 
--- the state, with the searches and the files opened that the code doesn't keep
-abbrev pub state_of : Reader → List Located → List Path → State
-state_of reader touched opened = record {
-  source = reader.source;
-  output = reader.layout;
-  left = reader.left;
-  touched = touched;
-  opened = opened;
-  here = here_of reader.file;
-}
+-- what is kept of a reader shows a state
+abbrev pub IsShown : Reader → State → Type 0
+IsShown reader state = Shows reader.kept reader.source (here_of reader.file) state
+
+-- what is told of a step: its outcome, and the places of the files opened
+abbrev pub told_of : Step → Told
+told_of step = record { outcome = (prepared step).outcome; opened = (prepared step).opened }
+
+-- a diagnostic with this text, and these files opened
+abbrev pub ended_told : Text → List Path → Told
+ended_told words opened = record { outcome = outcome.Diag words; opened = opened }
 
 -- what comes behind the files that are read
 abbrev pub After : Type 0
 After = State → Step
 
--- the outcome when a step in a file is followed by more pieces of it, then by the rest of the files around it, and then by this
-abbrev pub outcome_behind : World → After → List Frame → List Piece → Step → Outcome
-outcome_behind world behind frames rest step =
-    (prepared (and_then behind (resumed world 0 frames (and_then (λ after. run_pieces world (entering_at world (length frames)) rest after) step)))).outcome
+-- what is told where a step in the file that is read is followed by the rest of the files around it, and then by this
+abbrev pub told_behind : World → After → List Frame → Step → Told
+told_behind world behind frames step = told_of (and_then behind (resumed world 0 frames step))
 
--- what is left to read, and what comes behind it, lead to an outcome
-pub record LeadsTo (world : World) (behind : After) (reader : Reader) (whole : Outcome) : Type 0 where
-  pub touched : List Located
-  pub opened : List Path
-  pub same : outcome_behind world behind (frames_of reader) (rest_of reader.file) (Go (state_of reader touched opened)) ≡ whole
+-- the rest of the file that is read
+abbrev pub run_rest : World → List Frame → List Piece → State → Step
+run_rest world frames rest state = run_flat world (entering_at world (length frames)) reading rest state
 
--- a file that is entered from an include on a line, what is left to read, and what comes behind it, lead to an outcome
-pub record EntersTo (world : World) (behind : After) (reader : Reader) (at : ℕ) (inner : Hit) (whole : Outcome) : Type 0 where
-  pub touched : List Located
-  pub opened : List Path
-  pub same : outcome_behind world behind (frames_of reader) (rest_of reader.file) (entering_at world (length (frames_of reader)) at inner (state_of reader touched opened)) ≡ whole
+-- what is left to read, and what comes behind it, lead to this
+pub record LeadsTo (world : World) (behind : After) (reader : Reader) (whole : Told) : Type 0 where
+  pub state : State
+  pub shows : IsShown reader state
+  pub same : told_behind world behind (frames_of reader) (run_rest world (frames_of reader) (rest_of reader.file) state) ≡ whole
 
--- what comes behind the files that were read leads to an outcome
-pub record ComesTo (behind : After) (reader : Reader) (whole : Outcome) : Type 0 where
-  pub touched : List Located
-  pub opened : List Path
-  pub same : (prepared (behind (state_of reader touched opened))).outcome ≡ whole
+-- a step from a state in some file, what is left to read, and what comes behind it, lead to this
+pub record StepsTo (world : World) (behind : After) (reader : Reader) (from : Here) (step : State → Step) (whole : Told) : Type 0 where
+  pub state : State
+  pub shows : Shows reader.kept reader.source from state
+  pub same : told_behind world behind (frames_of reader) (and_then (λ after. run_rest world (frames_of reader) (rest_of reader.file) after) (step state)) ≡ whole
+
+-- a file that is entered from an include on a line of the one that is read
+abbrev pub EntersTo : World → After → Reader → ℕ → Hit → Told → Type 0
+EntersTo world behind reader at inner whole =
+    StepsTo world behind reader (here_of reader.file) (λ state. entering_at world (length (frames_of reader)) at inner state) whole
+
+-- what comes behind the files that were read leads to this
+pub record ComesTo (behind : After) (reader : Reader) (whole : Told) : Type 0 where
+  pub state : State
+  pub shows : IsShown reader state
+  pub same : told_of (behind state) ≡ whole
 
 -- a file that was found, of whose pieces none is read
 abbrev pub opened_file : Hit → List Piece → OpenFile
-opened_file hit pieces = record { visit = hit.0; real = hit.1.real; pieces = pieces; next = 0 }
+opened_file hit pieces = record {
+  visit = hit.0;
+  real = hit.1.real;
+  numbers = record { name = presumed_name hit.0.place; shift = pos 0 };
+  pieces = pieces;
+  next = 0;
+}
 
 -- one reader has gone into a file from where another stands, at an include on a line
 pub record GoesInto (reader : Reader) (file : OpenFile) (at : ℕ) (after : Reader) : Type 0 where
   pub source : after.source ≡ reader.source
-  pub layout : after.layout ≡ reader.layout
-  pub left : after.left ≡ reader.left
+  pub kept : after.kept ≡ reader.kept
   pub file_is : after.file ≡ file
   pub around : after.around.items ≡ reader.around.items ++ record { file = reader.file; at = at } ∷ []
 
--- what opening a file that is entered from an include on a line leads to: an outcome, once it is gone into, or a diagnostic
-abbrev pub OpensTo : World → After → Reader → ℕ → Hit → Outcome → Opened → Type 0
-OpensTo world behind reader at inner whole (Pieces pieces) =
-    (after : Reader) → GoesInto reader (opened_file inner pieces) at after → LeadsTo world behind after whole
-OpensTo world behind reader at inner whole (Refused words) = outcome.Diag words ≡ whole
+-- what a step of the code brings: what was led to before is led to behind it, or it is a diagnostic
+abbrev pub Brings : {A : Type 0} → (Told → Type 0) → Reader → (A → Told → Type 0) → Result A Stop → Type 0
+Brings before reader after (Ok x) = (whole : Told) → before whole → after x whole
+Brings before reader after (Err (stop.Ended words)) = (whole : Told) → before whole → ended_told words reader.kept.opened ≡ whole
+Brings before reader after (Err stop.Fault) = Unit {0}
+Brings before reader after (Err stop.Memory) = Unit {0}
 
--- what opening the source leads to: an outcome, once it is the file that is read, or a diagnostic
-abbrev pub BeginsTo : World → Hit → Reader → Outcome → Opened → Type 0
-BeginsTo world source reader whole (Pieces pieces) =
-    LeadsTo world (λ state. Go state) (record reader { file = opened_file source pieces }) whole
-BeginsTo world source reader whole (Refused words) = outcome.Diag words ≡ whole
+-- what is told where reading ended so
+abbrev pub IsEnd : {A : Type 0} → Reader → Told → Result A Stop → Type 0
+IsEnd reader whole (Ok x) = ComesTo Go reader whole
+IsEnd reader whole (Err (stop.Ended words)) = ended_told words reader.kept.opened ≡ whole
+IsEnd reader whole (Err stop.Fault) = Unit {0}
+IsEnd reader whole (Err stop.Memory) = Unit {0}
 
--- what a step of the code leads to: an outcome as before, or its diagnostic
-abbrev pub GoesOn : World → After → Reader → Outcome → Option Text → Type 0
-GoesOn world behind reader whole None = LeadsTo world behind reader whole
-GoesOn world behind reader whole (Some words) = outcome.Diag words ≡ whole
+-- a step between two files, which are shown before and behind it
+abbrev pub Turns : {A : Type 0} → Kept → Kept → Path → Here → Here → (State → Step) → Result A Stop → Type 0
+Turns old new main from to step (Ok x) = (state : State) → Shows old main from state → (after : State) × ((step state ≡ Go after) × Shows new main to after)
+Turns old new main from to step (Err (stop.Ended words)) = (state : State) → Shows old main from state → StopsWith words new.opened (step state)
+Turns old new main from to step (Err stop.Fault) = Unit {0}
+Turns old new main from to step (Err stop.Memory) = Unit {0}
 
--- what reading some files to their end leads to: what comes behind them, or a diagnostic
-abbrev pub ReadsTo : After → Reader → Outcome → Option Text → Type 0
-ReadsTo behind reader whole None = ComesTo behind reader whole
-ReadsTo behind reader whole (Some words) = outcome.Diag words ≡ whole
-
--- nothing is left to read: neither of the file nor of files around it, and the text is within its limit
+-- nothing is left to read, neither of the file nor of files around it
 pub record AllRead (reader : Reader) : Type 0 where
   pub alone : reader.around.items ≡ []
   pub ended : length reader.file.pieces ≤ reader.file.next
-  pub within : length reader.layout.text ≤ text_limit
-
-abbrev pub EndsRead : Reader → Option Text → Type 0
-EndsRead reader None = AllRead reader
-EndsRead reader (Some words) = Unit {0}
 
 -- the units of work left, twice, the pieces left of the file that is read, and those of each file around it with one for
 -- coming back to it
 abbrev pub work_ahead : Reader → ℕ
 work_ahead reader =
-    reader.left + reader.left + length (rest_of reader.file) + sum_by (λ (left : Left). length (rest_of left.file) + 1) reader.around.items
-
--- a step of the code that ends nothing keeps the limit of the text, and leaves less work ahead than so much
-abbrev pub Advances : ℕ → Reader → Option Text → Type 0
-Advances before after None = (length after.layout.text ≤ text_limit) × (work_ahead after < before)
-Advances before after (Some words) = Unit {0}
+    reader.kept.work.left + reader.kept.work.left + length (rest_of reader.file) + sum_by (λ (left : Left). length (rest_of left.file) + 1) reader.around.items
 
 -- what comes behind some of the files of the job's words: the others, and then the source
 abbrev pub source_behind : World → Hit → List Text → After
 source_behind world source names state =
     and_then (λ after. open_source world source after) (run_forced world (enter_file world depth_limit) names state)
 
--- the outcome of a job from its first file on, behind the source's marker
-abbrev pub begun_outcome : World → Hit → List Text → Laid → Outcome
-begun_outcome world source names output =
-    (prepared (source_behind world source names (record (first_state source) { output = output }))).outcome
+-- what is told of a job whose source was found, which has these macros and includes these files in front
+abbrev pub source_told : World → List MacroWord → Hit → List Text → Told
+source_told world macros source names =
+    told_of (and_then (λ state. open_source world source state)
+    (and_then (λ state. run_forced world (enter_file world depth_limit) names state) (limited (first_state macros source))))
 
--- the outcome of a job whose source was found
-abbrev pub source_outcome : World → Hit → List Text → Outcome
-source_outcome world source names =
-    (prepared (and_then (λ state. open_source world source state)
-    (and_then (λ state. run_forced world (enter_file world depth_limit) names state) (limited (first_state source))))).outcome
+-- behind a piece of the file that is read, with this kept
+abbrev pub behind_piece : Reader → Kept → Reader
+behind_piece reader kept = record reader { kept = kept; file = record reader.file { next = reader.file.next + 1 } }
+
+-- what a piece leads to, of what is left to read
+abbrev pub Follows : World → After → Reader → Move → Told → Type 0
+Follows world behind reader Onward whole = LeadsTo world behind reader whole
+Follows world behind reader (Enter at inner) whole = EntersTo world behind reader at inner whole
+Follows world behind reader (Renumber at numbers) whole = StepsTo world behind reader (here_of reader.file) (λ state. line_set at numbers state) whole
+
+-- what a file of the job's words leads to: the names behind it, or its file, and then these
+abbrev pub NamedTo : World → Hit → List Text → Reader → Option Hit → Told → Type 0
+NamedTo world source names reader None whole = ComesTo (source_behind world source names) reader whole
+NamedTo world source names reader (Some hit) whole = EntersTo world (source_behind world source names) reader 0 hit whole
+
+-- what opening a file leads to, once it is gone into
+abbrev pub InsideTo : World → After → Reader → ℕ → Hit → List Piece → Told → Type 0
+InsideTo world behind reader at inner pieces whole =
+    (after : Reader) → GoesInto reader (opened_file inner pieces) at after → LeadsTo world behind after whole

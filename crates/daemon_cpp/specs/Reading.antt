@@ -1,26 +1,92 @@
 -- What is left to do where files are read: of the file that is read, and of those that were left at an include. The code
--- keeps these as a stack.
-use Rattle.std.specs.Prelude.{◌≡◌, ◌≤◌, ◌+◌, ℕ, suc, ◌-◌, Bool, true, false, List, [], ◌∷◌, ◌++◌, Option, None, Some, length, cond, nat_le}
+-- keeps these as a stack. No public contract rests on it.
+use Rattle.std.specs.Prelude.{ℕ, zero, suc, ◌-◌, Bool, true, false, List, [], ◌∷◌, Option, None, Some, length, cond, nat_le}
 use Rattle.std.specs.List.{flat_map}
 use Rattle.pp_tokens.specs.declared.Token.{Token}
+use Rattle.pp_tokens.specs.Lines.{LexedFile}
 use Rattle.directive_scan.specs.declared.Piece.{Piece}
-use Rattle.cpp_output.specs.Layout.{Event, enter, text_limit}
-use Rattle.cpp_output.specs.Laid.{Laid}
-use Rattle.tree_model.specs.Paths.{Text, Path}
-use Rattle.search_path.specs.Search.{Hit}
-use Rattle.daemon_cpp.specs.Diagnostics.{diagnostic_text}
-use Rattle.daemon_cpp.specs.declared.pieces.Move.{Move}
-use Rattle.daemon_cpp.specs.declared.pieces.Move.TheVariants.{Onward, Enter, Ended}
-use Rattle.daemon_cpp.specs.declared.opening.Opened.{Opened}
-use Rattle.daemon_cpp.specs.declared.opening.Opened.TheVariants.{Pieces, Refused}
-use Rattle.daemon_cpp.specs.Prep.{World, Here, State, Step, Go, Stop, and_then, touch, here_at, Entering, piece_step, enter_file, back_in, depth_limit}
+use Rattle.directive_scan.specs.declared.Malformed.{Malformed}
+use Rattle.directive_scan.specs.declared.Malformed.TheVariants as malformed
+use Rattle.directive_scan.specs.Groups.{Role, single, opening, elif_line, else_line, endif_line, role_of}
+use Rattle.cpp_output.specs.Layout.{Event, enter}
+use Rattle.tree_model.specs.Paths.{Path, spelled}
 use Rattle.tree_model.specs.Shown.{presumed_name}
+use Rattle.daemon_cpp.specs.Diagnostics.{Diagnostic, WithoutIf, AfterElse, Unended}
+use Rattle.daemon_cpp.specs.Prep.{World, Here, State, Step, Go, and_then, with_value, Entering, piece_step, piece_test, run_file, paid, opening_cost, enter_file, back_in, depth_limit}
 
--- pieces one after another
-unfoldable pub run_pieces : World → Entering → List Piece → State → Step
-run_pieces world entering [] state = Go state
-run_pieces world entering (piece ∷ rest) state =
-    and_then (λ after. run_pieces world entering rest after) (piece_step world entering piece state)
+-- How the pieces of a file are read: one after another; or none up to the next line of the present conditional, of which no group was
+-- read so far, from within so many conditionals; or none up to its end, behind the group that was read. Conditionals around it need
+-- no place here: a group of each is read.
+pub data Stage : Type 0 where
+  reading : Stage
+  seeking : ℕ → Stage
+  passing : ℕ → Stage
+
+-- the stage behind a line of a conditional, by its test
+abbrev pub stage_of : Bool → Stage
+stage_of true = reading
+stage_of false = seeking 0
+
+module _ (world : World) (entering : Entering) where
+  -- a piece at a stage, by what it is to the nesting, and what follows
+  abbrev pub staged : (Stage → State → Step) → Piece → State → Stage → Role → Step
+  staged next p state reading single = and_then (λ after. next reading after) (piece_step world entering p state)
+  staged next p state reading opening = with_value (λ holds after. next (stage_of holds) after) (piece_test world p state)
+  staged next p state reading elif_line = next (passing 0) state
+  staged next p state reading else_line = next (passing 0) state
+  staged next p state reading endif_line = next reading state
+  staged next p state (seeking n) single = next (seeking n) state
+  staged next p state (seeking n) opening = next (seeking (suc n)) state
+  staged next p state (seeking zero) elif_line = with_value (λ holds after. next (stage_of holds) after) (piece_test world p state)
+  staged next p state (seeking zero) else_line = with_value (λ holds after. next (stage_of holds) after) (piece_test world p state)
+  staged next p state (seeking zero) endif_line = next reading state
+  staged next p state (seeking (suc n)) elif_line = next (seeking (suc n)) state
+  staged next p state (seeking (suc n)) else_line = next (seeking (suc n)) state
+  staged next p state (seeking (suc n)) endif_line = next (seeking n) state
+  staged next p state (passing n) single = next (passing n) state
+  staged next p state (passing n) opening = next (passing (suc n)) state
+  staged next p state (passing n) elif_line = next (passing n) state
+  staged next p state (passing n) else_line = next (passing n) state
+  staged next p state (passing zero) endif_line = next reading state
+  staged next p state (passing (suc n)) endif_line = next (passing n) state
+
+  -- pieces from a stage on
+  unfoldable pub run_flat : Stage → List Piece → State → Step
+  run_flat stage [] state = Go state
+  run_flat stage (p ∷ ps) state = staged (λ next after. run_flat next ps after) p state stage (role_of p)
+
+-- from the next line of the present conditional on, or its end, from within so many conditionals
+abbrev pub skip_piece : (ℕ → List Piece) → List Piece → ℕ → Role → List Piece
+skip_piece next here n single = next n
+skip_piece next here n opening = next (suc n)
+skip_piece next here zero elif_line = here
+skip_piece next here zero else_line = here
+skip_piece next here zero endif_line = here
+skip_piece next here (suc n) elif_line = next (suc n)
+skip_piece next here (suc n) else_line = next (suc n)
+skip_piece next here (suc n) endif_line = next n
+
+unfoldable pub skipped : ℕ → List Piece → List Piece
+skipped n [] = []
+skipped n (p ∷ ps) = skip_piece (λ m. skipped m ps) (p ∷ ps) n (role_of p)
+
+-- how many conditionals stand around the next piece, behind one of this role; none where it is the next line of the present one
+abbrev pub depth_behind : Role → ℕ → Option ℕ
+depth_behind single n = Some n
+depth_behind opening n = Some (suc n)
+depth_behind elif_line zero = None
+depth_behind else_line zero = None
+depth_behind endif_line zero = None
+depth_behind elif_line (suc n) = Some (suc n)
+depth_behind else_line (suc n) = Some (suc n)
+depth_behind endif_line (suc n) = Some n
+
+abbrev pub is_endif : Role → Bool
+is_endif single = false
+is_endif opening = false
+is_endif elif_line = false
+is_endif else_line = false
+is_endif endif_line = true
 
 -- a file that was left at an include on a line, with its pieces behind that
 pub record Frame : Type 0 where
@@ -36,40 +102,13 @@ entering_at world level = enter_file world (depth_limit - level)
 unfoldable pub resumed : World → ℕ → List Frame → Step → Step
 resumed world level [] step = step
 resumed world level (frame ∷ inner) step =
-    and_then (λ after. run_pieces world (entering_at world level) frame.rest after)
+    and_then (λ after. run_flat world (entering_at world level) reading frame.rest after)
     (and_then (λ after. back_in frame.here frame.at after) (resumed world (suc level) inner step))
-
--- ---- what the code's functions answer ----
-
--- a step that ended with a diagnostic of this text
-abbrev pub StopsWith : Text → Step → Type 0
-StopsWith words (Go state) = ⊥
-StopsWith words (Stop diagnostic state) = words ≡ diagnostic_text diagnostic
-
--- what a piece leads to: the next piece, the file of an include on a line, or an end
-abbrev pub Leads : Entering → State → Move → Step → Type 0
-Leads entering state Onward step = step ≡ Go state
-Leads entering state (Enter at hit) step = step ≡ entering at hit (touch hit.1 state)
-Leads entering state (Ended words) step = StopsWith words step
-
--- the state in a file that was opened
-abbrev pub inside : Hit → State → State
-inside hit state = record state { here = here_at hit; opened = state.opened ++ hit.0.place ∷ [] }
 
 -- the events in front of a file: an included one's marker
 abbrev pub front_events : Bool → Path → List Event
 front_events true place = enter (presumed_name place) ∷ []
 front_events false place = []
-
--- what opening a file leads to: its pieces, in the state inside it, or an end
-abbrev pub Opens : World → Entering → State → Opened → Step → Type 0
-Opens world entering state (Pieces pieces) step = step ≡ run_pieces world entering pieces state
-Opens world entering state (Refused words) step = StopsWith words step
-
--- the output is within its limit, where a file goes on
-abbrev pub KeepsLimit : Laid → Opened → Type 0
-KeepsLimit output (Pieces pieces) = length output.text ≤ text_limit
-KeepsLimit output (Refused words) = Unit {0}
 
 -- how many tokens some lines have
 abbrev pub token_count : List (List Token) → ℕ
@@ -79,12 +118,12 @@ token_count lines = length (flat_map (λ line. line) lines)
 abbrev pub work_after : ℕ → ℕ → Option ℕ
 work_after cost left = cond (nat_le cost left) (Some (left - cost)) None
 
--- a file that goes on has so many pieces at most
-abbrev pub HasAtMost : ℕ → Opened → Type 0
-HasAtMost count (Pieces pieces) = length pieces ≤ count
-HasAtMost count (Refused words) = Unit {0}
+-- a file that is opened, by its lexed form: its work is paid
+abbrev pub run_body : World → Entering → List Event → LexedFile → State → Step
+run_body world entering events file state = paid world entering (opening_cost world entering file) (run_file world entering events file file.unended) state
 
--- the pieces of a file that was opened are fewer than twice the work that was paid for it
-abbrev pub Shortens : ℕ → ℕ → Opened → Type 0
-Shortens before after (Pieces pieces) = length pieces + 1 + (after + after) ≤ before + before
-Shortens before after (Refused words) = Unit {0}
+-- what is wrong with the conditionals of a file at a place
+abbrev pub malformed_told : Path → Malformed → Diagnostic
+malformed_told place (malformed.WithoutIf name at) = record { place = spelled place; at = at; complaint = WithoutIf name }
+malformed_told place (malformed.AfterElse name at) = record { place = spelled place; at = at; complaint = AfterElse name }
+malformed_told place (malformed.Unended at) = record { place = spelled place; at = at; complaint = Unended }

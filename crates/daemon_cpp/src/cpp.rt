@@ -1,31 +1,45 @@
 // Preprocessing a job.
-ghost use Rattle.std.specs.Prelude.{◌≡◌, ◌<◌, ◌≤◌, ◌+◌, ◌++◌, suc, pos, List, [], ◌∷◌, length, IfOk, IfSome, OnOk, IsErrOf};
+ghost use Rattle.std.specs.Prelude.{◌≡◌, ◌<◌, ◌≤◌, ◌+◌, ◌++◌, suc, pos, List, [], ◌∷◌, length, drop, get_or, IfOk, IfSome, OnOk, IsErrOf};
 ghost use Rattle.std.specs.Option.{ForSome};
 ghost use Rattle.base_types.specs.Causes.{HasCause};
-ghost use Rattle.cpp_output.specs.Layout.{text_limit, back};
-ghost use Rattle.cpp_output.specs.Laid.{begun, after_event, finished};
+ghost use Rattle.cpp_output.specs.Layout.{text_limit};
+ghost use Rattle.cpp_output.specs.Laid.{begun, finished};
 ghost use Rattle.tree_model.specs.Paths.{Text, spelled};
+ghost use Rattle.tree_model.specs.Shown.{presumed_name};
 ghost use Rattle.search_path.specs.SetupOf.{absolute};
 ghost use Rattle.search_path.specs.Search.{Hit};
 ghost use Rattle.daemon_cpp.specs.Diagnostics.{NoSource, TextLimit, diagnostic_text};
 ghost use Rattle.daemon_cpp.specs.Problems.{complaint_of};
 ghost use Rattle.daemon_cpp.specs.declared.outcome.Outcome.{Outcome};
-ghost use Rattle.daemon_cpp.specs.Prep.{World, Go, world_of, outcome_of_text, outcome_over, OutcomeFits};
-ghost use Rattle.tree_model.specs.Shown.{presumed_name};
-ghost use Rattle.daemon_cpp.specs.Reading.{KeepsLimit, Shortens};
-ghost use Rattle.daemon_cpp.specs.Moving.{Marked};
-ghost use Rattle.daemon_cpp.specs.Files.{opened_file, GoesInto, OpensTo, BeginsTo, After, LeadsTo, EntersTo, ComesTo, GoesOn, ReadsTo, AllRead, EndsRead, work_ahead, Advances, source_behind, begun_outcome, source_outcome};
+ghost use Rattle.daemon_cpp.specs.Prep.{World, Here, Entering, State, Go, world_of, outcome_of_text, outcome_over, OutcomeFits, back_in, line_set, presumed_line};
+ghost use Rattle.directive_scan.specs.declared.Piece.{Piece};
+ghost use Rattle.daemon_cpp.specs.declared.cpp.Told.{Told};
+ghost use Rattle.directive_scan.specs.Groups.{role_of, single, opening};
+ghost use Rattle.directive_scan.specs.Spots.{role_told};
+ghost use Rattle.daemon_cpp.specs.Reading.{run_flat, reading};
+ghost use Rattle.daemon_cpp.specs.Showing.{Seeks, IsBetween, here_seen};
+ghost use Rattle.daemon_cpp.specs.Files.{After, LeadsTo, EntersTo, ComesTo, Brings, IsEnd, Turns, here_of, told_of, ended_told, opened_file, GoesInto, AllRead, work_ahead, source_behind, source_told};
 
+use crate::condition::test_line;
 use crate::diagnostic::{Diagnostic, Problem};
-use crate::opening::{Opened, open_file, refused};
-use crate::pieces::{Move, Places, run_piece};
+use crate::header::forced;
+use crate::kept::{Kept, Places, first_table};
+use crate::line::NewLine;
+use crate::numbering::Numbering;
+use crate::once::OnceMarks;
+use crate::opening::open_file;
+use crate::pieces::{Move, run_piece};
+use crate::section::{pass, seek};
+use crate::stop::{Stop, refused};
 use crate::tree::{absolute_text, find_file};
 use crate::{CppError, Outcome};
-use base_types::Bytes;
+use base_types::{Bytes, List};
 use cpp_output::{LayError, Layout};
-use directive_scan::Pieces;
-use job_words::Job;
-use search_path::{Setup, Visit, forced_ask, source_ask};
+use directive_scan::{BranchName, Nesting, Pieces};
+use job_words::{Job, MacroWord};
+use macro_defs::MacroTable;
+use macro_expand::Work;
+use search_path::{Setup, Visit, source_ask};
 use std::alloc::{AllocError, Global};
 use std::mem::replace;
 use tree_model::{CanonPath, Located, Tree, shown};
@@ -34,12 +48,12 @@ use tree_model::{CanonPath, Located, Tree, shown};
 const DEPTH_LIMIT: usize = 200;
 
 // The work that a job may take, in units.
-const WORK_LIMIT: u32 = 20_000_000;
+const WORK_LIMIT: u64 = 20_000_000;
 
 /// Preprocesses a job over a tree: translation phases 1 to 4 (ISO C 5.1.1.2) of the files that its words name, of its
 /// source, found by the working directory and the source's name, and of the files that these include (6.10.2). Time is
-/// linear in the bytes of the files read, each counted as often as it is included. Includes take no more of the
-/// program's stack, however deep.
+/// linear in the bytes of the files read, each counted as often as it is included, and in the work of macro expansion. Includes
+/// and conditionals take no more of the program's stack, however deep.
 ///
 /// `Fault` comes where the tree failed, `Memory` where no memory was found; all else is an `Outcome`.
 pub fn preprocess<T: Tree>(alloc: Global, tree: &mut T, job: &Job) -> Result<Outcome, CppError>
@@ -49,9 +63,30 @@ pub fn preprocess<T: Tree>(alloc: Global, tree: &mut T, job: &Job) -> Result<Out
     ensures cause { HasCause CppError.Fault (T.faults tree.old) (T.faults tree.new) result }
 {
     let ask = source_ask(alloc, job.source())?;
-    match find_file(alloc, tree, job.setup(), ask)? {
-        Some(source) => preprocess_source(alloc, tree, job, &source),
-        None => Ok(no_source(alloc, job)?),
+    match find_file(alloc, tree, job.setup(), ask) {
+        Ok(Some(source)) => {
+            let told = preprocess_source(alloc, tree, job, &source)?;
+            Ok(told.outcome)
+        }
+        Ok(None) => Ok(no_source(alloc, job)?),
+        Err(stop) => Err(cause_of(stop)),
+    }
+}
+
+/// What is told of a job: its outcome, and the places of the files opened, in order and with repeats.
+#[derive(Drop)]
+pub struct Told {
+    pub outcome: Outcome,
+    pub opened: List<CanonPath>,
+}
+
+// Why a search gave nothing.
+fn cause_of(stop: Stop) -> CppError
+    ensures { result ≡ CppError.Fault → stop ≡ Stop.Fault }
+{
+    match stop {
+        Stop::Fault => CppError::Fault,
+        _ => CppError::Memory,
     }
 }
 
@@ -90,15 +125,18 @@ fn preprocess_source<T: Tree>(
     tree: &mut T,
     job: &Job,
     source: &(Visit, Located),
-) -> Result<Outcome, CppError>
+) -> Result<Told, CppError>
     ensures same { T.told tree.new ≡ T.told tree.old }
-    ensures outcome { ForSome (T.told tree.old) (λ told. IfOk result (λ outcome. outcome ≡ source_outcome (world_of told job.now.setup) source.now job.now.forced)) }
-    ensures fits { IfOk result OutcomeFits }
+    ensures told { ForSome (T.told tree.old) (λ told. IfOk result (λ all. all ≡ source_told (world_of told job.now.setup) job.now.macros source.now job.now.forced)) }
+    ensures fits { IfOk result (λ all. OutcomeFits all.outcome) }
     ensures cause { HasCause CppError.Fault (T.faults tree.old) (T.faults tree.new) result }
 {
     match begin_output(alloc, &source.0.place) {
         Ok(layout) => read_files(alloc, tree, job, source, layout),
-        Err(error) => past_limit(alloc, error, &source.0.place),
+        Err(error) => Ok(Told {
+            outcome: past_limit(alloc, error, &source.0.place)?,
+            opened: List::new(alloc),
+        }),
     }
 }
 
@@ -118,16 +156,17 @@ fn read_files<T: Tree>(
     job: &Job,
     source: &(Visit, Located),
     layout: Layout,
-) -> Result<Outcome, CppError>
-    requires { length layout.text ≤ text_limit }
+) -> Result<Told, CppError>
+    requires begun { layout ≡ begun (presumed_name source.now.0.place) }
+    requires within { length layout.text ≤ text_limit }
     ensures same { T.told tree.new ≡ T.told tree.old }
-    ensures outcome { ForSome (T.told tree.old) (λ told. IfOk result (λ outcome. outcome ≡ begun_outcome (world_of told job.now.setup) source.now job.now.forced layout)) }
-    ensures fits { IfOk result OutcomeFits }
+    ensures told { ForSome (T.told tree.old) (λ told. IfOk result (λ all. all ≡ source_told (world_of told job.now.setup) job.now.macros source.now job.now.forced)) }
+    ensures fits { IfOk result (λ all. OutcomeFits all.outcome) }
     ensures cause { HasCause CppError.Fault (T.faults tree.old) (T.faults tree.new) result }
 {
-    let mut reader = Reader::before_source(alloc, source, layout)?;
-    let ended = reader.read_all(alloc, tree, job, source)?;
-    reader.outcome(alloc, ended)
+    let mut reader = Reader::before_source(alloc, job.macros(), source, layout)?;
+    let ended = reader.read_all(alloc, tree, job, source);
+    reader.told(alloc, ended)
 }
 
 fn finish(alloc: Global, layout: Layout, source: &CanonPath) -> Result<Outcome, CppError>
@@ -143,24 +182,28 @@ fn finish(alloc: Global, layout: Layout, source: &CanonPath) -> Result<Outcome, 
 
 // A file that was opened, with the number of the piece that comes next.
 #[derive(Drop)]
-struct OpenFile {
+pub struct OpenFile {
     visit: Visit,
     real: CanonPath,
+    numbers: Numbering,
     pieces: Pieces,
     next: usize,
 }
 
 impl OpenFile {
-    fn new(found: (Visit, Located), pieces: Pieces) -> OpenFile
-        ensures { result ≡ opened_file found pieces }
+    fn new(alloc: Global, found: (Visit, Located), pieces: Pieces) -> Result<OpenFile, AllocError>
+        ensures { IfOk result (λ file. file ≡ opened_file found pieces) }
     {
-        let (visit, Located { real, .. }) = found;
-        OpenFile {
+        let (visit, located) = found;
+        let numbers = first_numbers(alloc, &visit.place)?;
+        let Located { real, .. } = located;
+        Ok(OpenFile {
             visit,
             real,
+            numbers,
             pieces,
             next: 0,
-        }
+        })
     }
 
     // The same of a copy of what was found.
@@ -175,15 +218,23 @@ impl OpenFile {
         Ok(OpenFile {
             visit: visit.copy(alloc)?,
             real: located.real.copy(alloc)?,
+            numbers: first_numbers(alloc, &visit.place)?,
             pieces,
             next: 0,
         })
     }
 }
 
+// A file under its own name.
+fn first_numbers(alloc: Global, place: &CanonPath) -> Result<Numbering, AllocError>
+    ensures { IfOk result (λ numbers. numbers ≡ record { name = presumed_name place.now; shift = pos 0 }) }
+{
+    Ok(Numbering::first(Bytes::of(shown(alloc, place.bytes())?)))
+}
+
 // A file that was left at an include on a line.
 #[derive(Drop)]
-struct Left {
+pub struct Left {
     file: OpenFile,
     at: u32,
 }
@@ -195,43 +246,58 @@ fn put_aside(around: &mut Vec<Left>, left: Left) -> Result<(), AllocError>
     Ok(())
 }
 
-// Marks in the output that the file at a place goes on behind an include on a line; the diagnostic comes where the
-// limit is passed, at the source as a whole.
+// Marks in the output that a file goes on behind an include on a line.
 fn mark_return(
     alloc: Global,
-    layout: &mut Layout,
+    kept: &mut Kept,
     source: &CanonPath,
-    place: &CanonPath,
+    file: &OpenFile,
     at: u32,
-) -> Result<Option<Diagnostic>, CppError>
-    ensures marked { IfOk result (Marked source.now (after_event layout.old (back (presumed_name place.now) (pos (at + 1)) at)) layout.new) }
-    ensures no_fault { IsErrOf result CppError.Fault → ⊥ }
+) -> Result<(), Stop>
+    ensures turns { (from : Here) → Turns kept.old kept.new source.now from (here_of file.now) (λ state. back_in (here_of file.now) at state) result }
+    ensures work { kept.new.work ≡ kept.old.work }
+    ensures no_fault { IsErrOf result Stop.Fault → ⊥ }
 {
-    let name = shown(alloc, place.bytes())?;
-    match layout.back(&name, line_behind(at), at) {
-        Ok(()) => Ok(None),
-        Err(LayError::Full) => {
-            let source = source.bytes();
-            Ok(Some(Diagnostic::new(alloc, source, 0, Problem::TextLimit)?))
-        }
-        Err(LayError::Memory) => Err(CppError::Memory),
+    let presumed = file.numbers.presumed();
+    let shown = file.numbers.line_behind(at);
+    match kept.layout.back(presumed.name.as_slice(), shown, at) {
+        Ok(()) => Ok(()),
+        Err(LayError::Full) => Err(refused(alloc, source, 0, Problem::TextLimit)),
+        Err(LayError::Memory) => Err(Stop::Memory),
     }
 }
 
-// The presumed line behind a line.
-fn line_behind(at: u32) -> i64
-    ensures { result ≡ pos (at + 1) }
+// The file goes on with other numbers behind a `#line`.
+fn renumber(
+    alloc: Global,
+    kept: &mut Kept,
+    source: &CanonPath,
+    file: &mut OpenFile,
+    at: u32,
+    new: NewLine,
+) -> Result<(), Stop>
+    requires { new.number ≤ 2147483647 }
+    ensures turns { Turns kept.old kept.new source.now (here_of file.old) (here_of file.new) (λ state. line_set at new state) result }
+    ensures rest { (file.new.pieces ≡ file.old.pieces) × (file.new.next ≡ file.old.next) }
+    ensures work { kept.new.work ≡ kept.old.work }
+    ensures no_fault { IsErrOf result Stop.Fault → ⊥ }
 {
-    i64::from(at) + 1
+    file.numbers.renumber(at, new);
+    let presumed = file.numbers.presumed();
+    let shown = file.numbers.line_behind(at);
+    match kept.layout.mark(presumed.name.as_slice(), shown, at) {
+        Ok(()) => Ok(()),
+        Err(LayError::Full) => Err(refused(alloc, source, 0, Problem::TextLimit)),
+        Err(LayError::Memory) => Err(Stop::Memory),
+    }
 }
 
-// Reads the files of a job: the source's place, the output so far, the work left, the file that is read, and the files
-// around it, which were left at an include, the source first.
+// Reads the files of a job: the source's place, what is kept, the file that is read, and the files around it, which were
+// left at an include, the source first.
 #[derive(Drop)]
-struct Reader {
+pub struct Reader {
     source: CanonPath,
-    layout: Layout,
-    left: u32,
+    kept: Kept,
     file: OpenFile,
     around: Vec<Left>,
 }
@@ -240,44 +306,68 @@ impl Reader {
     // A reader before its source is opened: in the source, of which nothing is left to read.
     fn before_source(
         alloc: Global,
+        macros: &[MacroWord],
         source: &(Visit, Located),
         layout: Layout,
     ) -> Result<Reader, AllocError>
-        requires { length layout.text ≤ text_limit }
+        requires begun { layout ≡ begun (presumed_name source.now.0.place) }
+        requires within { length layout.text ≤ text_limit }
         ensures read { IfOk result AllRead }
-        ensures leads { IfOk result (λ reader. (world : World) (forced : List Text) → ComesTo (source_behind world source.now forced) reader (begun_outcome world source.now forced layout)) }
+        ensures comes { IfOk result (λ reader. (world : World) (forced : List Text) → ComesTo (source_behind world source.now forced) reader (source_told world macros.now source.now forced)) }
     {
         let place = source.0.place.copy(alloc)?;
         let file = OpenFile::copy_of(alloc, source, Pieces::empty(alloc))?;
-        Ok(Reader {
-            source: place,
-            layout,
-            left: WORK_LIMIT,
-            file,
-            around: Vec::new(alloc),
-        })
+        let macros = first_table(alloc, macros)?;
+        Ok(Reader::alone(alloc, place, layout, macros, file))
     }
 
-    // Reads the files that the job's words name, and then the source, up to the first diagnostic.
+    // A reader of one file, before any work.
+    fn alone(
+        alloc: Global,
+        source: CanonPath,
+        layout: Layout,
+        macros: MacroTable,
+        file: OpenFile,
+    ) -> Reader
+        ensures source { result.source ≡ source }
+        ensures layout { result.kept.layout ≡ layout }
+        ensures macros { result.kept.macros ≡ macros }
+        ensures work { result.kept.work.left ≡ 20000000 }
+        ensures once { result.kept.once ≡ [] }
+        ensures opened { result.kept.opened ≡ [] }
+        ensures file { result.file ≡ file }
+        ensures around { result.around.items ≡ [] }
+    {
+        Reader {
+            source,
+            kept: Kept {
+                layout,
+                macros,
+                work: Work { left: WORK_LIMIT },
+                once: OnceMarks::new(alloc),
+                opened: List::new(alloc),
+            },
+            file,
+            around: Vec::new(alloc),
+        }
+    }
+
+    // Reads the files that the job's words name, and then the source.
     fn read_all<T: Tree>(
         &mut self,
         alloc: Global,
         tree: &mut T,
         job: &Job,
         source: &(Visit, Located),
-    ) -> Result<Option<Diagnostic>, CppError>
+    ) -> Result<(), Stop>
         requires { AllRead self.old }
         ensures same { T.told tree.new ≡ T.told tree.old }
-        ensures leads { ForSome (T.told tree.old) (λ told. IfOk result (λ ended. (whole : Outcome) → ComesTo (source_behind (world_of told job.now.setup) source.now job.now.forced) self.old whole → ReadsTo Go self.new whole ended)) }
-        ensures read { IfOk result (EndsRead self.new) }
-        ensures cause { HasCause CppError.Fault (T.faults tree.old) (T.faults tree.new) result }
+        ensures brings { ForSome (T.told tree.old) (λ told. Brings (ComesTo (source_behind (world_of told job.now.setup) source.now job.now.forced) self.old) self.new (λ done. ComesTo Go self.new) result) }
+        ensures cause { HasCause Stop.Fault (T.faults tree.old) (T.faults tree.new) result }
     {
-        match self.open_source(alloc, tree, job, source)? {
-            Opened::Refused(diagnostic) => Ok(Some(diagnostic)),
-            Opened::Pieces(pieces) => {
-                self.file = OpenFile::copy_of(alloc, source, pieces)?;
-                self.read(alloc, tree, job.setup())
-            }
+        match self.open_source(alloc, tree, job, source) {
+            Ok(()) => self.read(alloc, tree, job.setup()),
+            Err(stop) => Err(stop),
         }
     }
 
@@ -288,47 +378,63 @@ impl Reader {
         tree: &mut T,
         job: &Job,
         source: &(Visit, Located),
-    ) -> Result<Opened, CppError>
+    ) -> Result<(), Stop>
         requires { AllRead self.old }
         ensures same { T.told tree.new ≡ T.told tree.old }
-        ensures leads { ForSome (T.told tree.old) (λ told. IfOk result (λ opened. (whole : Outcome) → ComesTo (source_behind (world_of told job.now.setup) source.now job.now.forced) self.old whole → BeginsTo (world_of told job.now.setup) source.now self.new whole opened)) }
-        ensures within { IfOk result (KeepsLimit self.new.layout) }
-        ensures cause { HasCause CppError.Fault (T.faults tree.old) (T.faults tree.new) result }
+        ensures brings { ForSome (T.told tree.old) (λ told. Brings (ComesTo (source_behind (world_of told job.now.setup) source.now job.now.forced) self.old) self.new (λ done. LeadsTo (world_of told job.now.setup) Go self.new) result) }
+        ensures cause { HasCause Stop.Fault (T.faults tree.old) (T.faults tree.new) result }
     {
-        if let Some(diagnostic) = self.read_forced(alloc, tree, job)? {
-            return Ok(Opened::Refused(diagnostic));
+        match self.read_forced(alloc, tree, job) {
+            Ok(()) => self.enter_source(alloc, tree, job.setup(), source),
+            Err(stop) => Err(stop),
         }
-        open_file(
-            alloc,
-            tree,
-            &mut self.layout,
-            &mut self.left,
-            job.setup(),
-            &self.source,
-            source,
-            false,
-        )
     }
 
-    // Reads the files that the job's words name, up to the first diagnostic.
-    fn read_forced<T: Tree>(
+    // Opens the source, and goes on in it.
+    fn enter_source<T: Tree>(
         &mut self,
         alloc: Global,
         tree: &mut T,
-        job: &Job,
-    ) -> Result<Option<Diagnostic>, CppError>
+        setup: &Setup,
+        source: &(Visit, Located),
+    ) -> Result<(), Stop>
         requires { AllRead self.old }
         ensures same { T.told tree.new ≡ T.told tree.old }
-        ensures leads { ForSome (T.told tree.old) (λ told. IfOk result (λ ended. (source : Hit) (whole : Outcome) → ComesTo (source_behind (world_of told job.now.setup) source job.now.forced) self.old whole → ReadsTo (source_behind (world_of told job.now.setup) source []) self.new whole ended)) }
-        ensures read { IfOk result (EndsRead self.new) }
-        ensures cause { HasCause CppError.Fault (T.faults tree.old) (T.faults tree.new) result }
+        ensures brings { ForSome (T.told tree.old) (λ told. Brings (ComesTo (source_behind (world_of told setup.now) source.now []) self.old) self.new (λ done. LeadsTo (world_of told setup.now) Go self.new) result) }
+        ensures cause { HasCause Stop.Fault (T.faults tree.old) (T.faults tree.new) result }
+    {
+        match open_file(
+            alloc,
+            tree,
+            &mut self.kept,
+            setup,
+            &self.source,
+            source,
+            false,
+        ) {
+            Ok(pieces) => {
+                self.file = OpenFile::copy_of(alloc, source, pieces)?;
+                Ok(())
+            }
+            Err(stop) => Err(stop),
+        }
+    }
+
+    // Reads the files that the job's words name.
+    fn read_forced<T: Tree>(&mut self, alloc: Global, tree: &mut T, job: &Job) -> Result<(), Stop>
+        requires { AllRead self.old }
+        ensures same { T.told tree.new ≡ T.told tree.old }
+        ensures brings { ForSome (T.told tree.old) (λ told. (source : Hit) → Brings (ComesTo (source_behind (world_of told job.now.setup) source job.now.forced) self.old) self.new (λ done. ComesTo (source_behind (world_of told job.now.setup) source []) self.new) result) }
+        ensures read { OnOk result (AllRead self.new) }
+        ensures cause { HasCause Stop.Fault (T.faults tree.old) (T.faults tree.new) result }
     {
         for name in job.forced() {
-            if let Some(diagnostic) = self.read_named(alloc, tree, job.setup(), name.as_slice())? {
-                return Ok(Some(diagnostic));
+            match self.read_named(alloc, tree, job.setup(), name.as_slice()) {
+                Ok(()) => {}
+                Err(stop) => return Err(stop),
             }
         }
-        Ok(None)
+        Ok(())
     }
 
     // Reads the file of a name of the job's words, as by an include on line 0 of the source.
@@ -338,21 +444,24 @@ impl Reader {
         tree: &mut T,
         setup: &Setup,
         name: &[u8],
-    ) -> Result<Option<Diagnostic>, CppError>
+    ) -> Result<(), Stop>
         requires { AllRead self.old }
         ensures same { T.told tree.new ≡ T.told tree.old }
-        ensures leads { ForSome (T.told tree.old) (λ told. IfOk result (λ ended. (source : Hit) (names : List Text) (whole : Outcome) → ComesTo (source_behind (world_of told setup.now) source (name.now ∷ names)) self.old whole → ReadsTo (source_behind (world_of told setup.now) source names) self.new whole ended)) }
-        ensures read { IfOk result (EndsRead self.new) }
-        ensures cause { HasCause CppError.Fault (T.faults tree.old) (T.faults tree.new) result }
+        ensures brings { ForSome (T.told tree.old) (λ told. (source : Hit) (names : List Text) → Brings (ComesTo (source_behind (world_of told setup.now) source (name.now ∷ names)) self.old) self.new (λ done. ComesTo (source_behind (world_of told setup.now) source names) self.new) result) }
+        ensures read { OnOk result (AllRead self.new) }
+        ensures cause { HasCause Stop.Fault (T.faults tree.old) (T.faults tree.new) result }
     {
-        let ask = forced_ask(alloc, name)?;
-        match find_file(alloc, tree, setup, ask)? {
-            Some(file) => self.read_found(alloc, tree, setup, file),
-            None => {
-                let place = self.file.visit.place.bytes();
-                let problem = Problem::NotFound(false, name);
-                Ok(Some(Diagnostic::new(alloc, place, 0, problem)?))
-            }
+        let places = Places {
+            setup,
+            source: &self.source,
+            visit: &self.file.visit,
+            real: &self.file.real,
+            presumed: self.file.numbers.presumed(),
+        };
+        match forced(alloc, tree, &mut self.kept, places, name) {
+            Ok(Some(file)) => self.read_found(alloc, tree, setup, file),
+            Ok(None) => Ok(()),
+            Err(stop) => Err(stop),
         }
     }
 
@@ -363,43 +472,38 @@ impl Reader {
         tree: &mut T,
         setup: &Setup,
         file: (Visit, Located),
-    ) -> Result<Option<Diagnostic>, CppError>
-        requires { length self.old.layout.text ≤ text_limit }
+    ) -> Result<(), Stop>
         ensures same { T.told tree.new ≡ T.told tree.old }
-        ensures leads { ForSome (T.told tree.old) (λ told. IfOk result (λ ended. (behind : After) (whole : Outcome) → EntersTo (world_of told setup.now) behind self.old 0 file whole → ReadsTo behind self.new whole ended)) }
-        ensures read { IfOk result (EndsRead self.new) }
-        ensures cause { HasCause CppError.Fault (T.faults tree.old) (T.faults tree.new) result }
+        ensures brings { ForSome (T.told tree.old) (λ told. (behind : After) → Brings (EntersTo (world_of told setup.now) behind self.old 0 file) self.new (λ done. ComesTo behind self.new) result) }
+        ensures read { OnOk result (AllRead self.new) }
+        ensures cause { HasCause Stop.Fault (T.faults tree.old) (T.faults tree.new) result }
     {
-        if let Some(diagnostic) = self.enter(alloc, tree, setup, 0, file)? {
-            return Ok(Some(diagnostic));
+        match self.enter(alloc, tree, setup, 0, file) {
+            Ok(()) => self.read(alloc, tree, setup),
+            Err(stop) => Err(stop),
         }
-        self.read(alloc, tree, setup)
     }
 
-    // Reads the file and those around it, up to their ends or the first diagnostic.
-    fn read<T: Tree>(
-        &mut self,
-        alloc: Global,
-        tree: &mut T,
-        setup: &Setup,
-    ) -> Result<Option<Diagnostic>, CppError>
-        requires { length self.old.layout.text ≤ text_limit }
+    // Reads the file and those around it, up to their ends.
+    fn read<T: Tree>(&mut self, alloc: Global, tree: &mut T, setup: &Setup) -> Result<(), Stop>
         ensures same { T.told tree.new ≡ T.told tree.old }
-        ensures leads { ForSome (T.told tree.old) (λ told. IfOk result (λ ended. (behind : After) (whole : Outcome) → LeadsTo (world_of told setup.now) behind self.old whole → ReadsTo behind self.new whole ended)) }
-        ensures read { IfOk result (EndsRead self.new) }
-        ensures cause { HasCause CppError.Fault (T.faults tree.old) (T.faults tree.new) result }
+        ensures brings { ForSome (T.told tree.old) (λ told. (behind : After) → Brings (LeadsTo (world_of told setup.now) behind self.old) self.new (λ done. ComesTo behind self.new) result) }
+        ensures read { OnOk result (AllRead self.new) }
+        ensures cause { HasCause Stop.Fault (T.faults tree.old) (T.faults tree.new) result }
     {
         'files: loop {
             if self.file.next < self.file.pieces.len() {
-                if let Some(diagnostic) = self.next_piece(alloc, tree, setup)? {
-                    return Ok(Some(diagnostic));
+                match self.next_piece(alloc, tree, setup) {
+                    Ok(()) => {}
+                    Err(stop) => return Err(stop),
                 }
             } else if !self.around.is_empty() {
-                if let Some(diagnostic) = self.come_back(alloc)? {
-                    return Ok(Some(diagnostic));
+                match self.come_back(alloc) {
+                    Ok(()) => {}
+                    Err(stop) => return Err(stop),
                 }
             } else {
-                return Ok(None);
+                return Ok(());
             }
         }
     }
@@ -410,27 +514,102 @@ impl Reader {
         alloc: Global,
         tree: &mut T,
         setup: &Setup,
-    ) -> Result<Option<Diagnostic>, CppError>
-        requires within { length self.old.layout.text ≤ text_limit }
-        requires goes_on { self.old.file.next < length self.old.file.pieces }
+    ) -> Result<(), Stop>
+        requires { self.old.file.next < length self.old.file.pieces }
         ensures same { T.told tree.new ≡ T.told tree.old }
-        ensures leads { ForSome (T.told tree.old) (λ told. IfOk result (λ ended. (behind : After) (whole : Outcome) → LeadsTo (world_of told setup.now) behind self.old whole → GoesOn (world_of told setup.now) behind self.new whole ended)) }
-        ensures advances { IfOk result (Advances (work_ahead self.old) self.new) }
-        ensures cause { HasCause CppError.Fault (T.faults tree.old) (T.faults tree.new) result }
+        ensures brings { ForSome (T.told tree.old) (λ told. (behind : After) → Brings (LeadsTo (world_of told setup.now) behind self.old) self.new (λ done. LeadsTo (world_of told setup.now) behind self.new) result) }
+        ensures advances { OnOk result (work_ahead self.new < work_ahead self.old) }
+        ensures cause { HasCause Stop.Fault (T.faults tree.old) (T.faults tree.new) result }
     {
-        let piece = self.file.pieces.piece(self.file.next);
+        match self.file.pieces.nesting(self.file.next) {
+            Nesting::Single => self.read_piece(alloc, tree, setup),
+            Nesting::Opening => self.open_section(alloc, tree, setup),
+            Nesting::Branch(name) => {
+                self.leave_group(name);
+                Ok(())
+            }
+        }
+    }
+
+    // Reads a piece that stands by itself.
+    fn read_piece<T: Tree>(
+        &mut self,
+        alloc: Global,
+        tree: &mut T,
+        setup: &Setup,
+    ) -> Result<(), Stop>
+        requires below { self.old.file.next < length self.old.file.pieces }
+        requires role { (p : Piece) → role_of (get_or self.old.file.pieces self.old.file.next p) ≡ single }
+        ensures same { T.told tree.new ≡ T.told tree.old }
+        ensures brings { ForSome (T.told tree.old) (λ told. (behind : After) → Brings (LeadsTo (world_of told setup.now) behind self.old) self.new (λ done. LeadsTo (world_of told setup.now) behind self.new) result) }
+        ensures advances { OnOk result (work_ahead self.new < work_ahead self.old) }
+        ensures cause { HasCause Stop.Fault (T.faults tree.old) (T.faults tree.new) result }
+    {
         let places = Places {
             setup,
             source: &self.source,
-            here: &self.file.visit,
+            visit: &self.file.visit,
+            real: &self.file.real,
+            presumed: self.file.numbers.presumed(),
         };
-        let led = run_piece(alloc, tree, &mut self.layout, places, piece)?;
+        let piece = self.file.pieces.piece(self.file.next);
+        let moved = run_piece(alloc, tree, &mut self.kept, places, piece);
         self.file.next += 1;
-        match led {
-            Move::Onward => Ok(None),
-            Move::Ended(diagnostic) => Ok(Some(diagnostic)),
-            Move::Enter { at, file } => self.enter(alloc, tree, setup, at, file),
+        match moved {
+            Ok(Move::Onward) => Ok(()),
+            Ok(Move::Enter { at, file }) => self.enter(alloc, tree, setup, at, file),
+            Ok(Move::Renumber { at, new }) => {
+                renumber(alloc, &mut self.kept, &self.source, &mut self.file, at, new)
+            }
+            Err(stop) => Err(stop),
         }
+    }
+
+    // Reads the line that opens a conditional, and on to the group of it that is read.
+    fn open_section<T: Tree>(
+        &mut self,
+        alloc: Global,
+        tree: &mut T,
+        setup: &Setup,
+    ) -> Result<(), Stop>
+        requires below { self.old.file.next < length self.old.file.pieces }
+        requires role { (p : Piece) → role_of (get_or self.old.file.pieces self.old.file.next p) ≡ opening }
+        ensures same { T.told tree.new ≡ T.told tree.old }
+        ensures brings { ForSome (T.told tree.old) (λ told. (behind : After) → Brings (LeadsTo (world_of told setup.now) behind self.old) self.new (λ done. LeadsTo (world_of told setup.now) behind self.new) result) }
+        ensures advances { OnOk result (work_ahead self.new < work_ahead self.old) }
+        ensures cause { HasCause Stop.Fault (T.faults tree.old) (T.faults tree.new) result }
+    {
+        let places = Places {
+            setup,
+            source: &self.source,
+            visit: &self.file.visit,
+            real: &self.file.real,
+            presumed: self.file.numbers.presumed(),
+        };
+        match read_opening(
+            alloc,
+            tree,
+            &mut self.kept,
+            places,
+            &self.file.pieces,
+            self.file.next,
+        ) {
+            Ok(next) => {
+                self.file.next = next;
+                Ok(())
+            }
+            Err(stop) => Err(stop),
+        }
+    }
+
+    // A line that ends a group that was read: the conditional's other groups are passed over.
+    fn leave_group(&mut self, name: BranchName)
+        requires below { self.old.file.next < length self.old.file.pieces }
+        requires role { (p : Piece) → role_of (get_or self.old.file.pieces self.old.file.next p) ≡ role_told (Nesting.Branch name) }
+        ensures leads { (world : World) (behind : After) (whole : Told) → LeadsTo world behind self.old whole → LeadsTo world behind self.new whole }
+        ensures advances { work_ahead self.new < work_ahead self.old }
+    {
+        self.file.next = behind_group(&self.file.pieces, self.file.next, name);
     }
 
     // Enters a file from an include on a line.
@@ -441,53 +620,30 @@ impl Reader {
         setup: &Setup,
         at: u32,
         inner: (Visit, Located),
-    ) -> Result<Option<Diagnostic>, CppError>
-        requires { length self.old.layout.text ≤ text_limit }
+    ) -> Result<(), Stop>
         ensures same { T.told tree.new ≡ T.told tree.old }
-        ensures leads { ForSome (T.told tree.old) (λ told. IfOk result (λ ended. (behind : After) (whole : Outcome) → EntersTo (world_of told setup.now) behind self.old at inner whole → GoesOn (world_of told setup.now) behind self.new whole ended)) }
-        ensures advances { IfOk result (Advances (suc (work_ahead self.old)) self.new) }
-        ensures cause { HasCause CppError.Fault (T.faults tree.old) (T.faults tree.new) result }
-    {
-        match self.open_included(alloc, tree, setup, at, &inner)? {
-            Opened::Refused(diagnostic) => Ok(Some(diagnostic)),
-            Opened::Pieces(pieces) => {
-                self.go_into(OpenFile::new(inner, pieces), at)?;
-                Ok(None)
-            }
-        }
-    }
-
-    // Opens the file of an include on a line, where no more levels are open than there may be.
-    fn open_included<T: Tree>(
-        &mut self,
-        alloc: Global,
-        tree: &mut T,
-        setup: &Setup,
-        at: u32,
-        inner: &(Visit, Located),
-    ) -> Result<Opened, CppError>
-        requires { length self.old.layout.text ≤ text_limit }
-        ensures same { T.told tree.new ≡ T.told tree.old }
-        ensures leads { ForSome (T.told tree.old) (λ told. IfOk result (λ opened. (behind : After) (whole : Outcome) → EntersTo (world_of told setup.now) behind self.old at inner.now whole → OpensTo (world_of told setup.now) behind self.new at inner.now whole opened)) }
-        ensures within { IfOk result (KeepsLimit self.new.layout) }
-        ensures shortens { IfOk result (Shortens self.old.left self.new.left) }
-        ensures file { self.new.file ≡ self.old.file }
-        ensures around { self.new.around ≡ self.old.around }
-        ensures cause { HasCause CppError.Fault (T.faults tree.old) (T.faults tree.new) result }
+        ensures brings { ForSome (T.told tree.old) (λ told. (behind : After) → Brings (EntersTo (world_of told setup.now) behind self.old at inner) self.new (λ done. LeadsTo (world_of told setup.now) behind self.new) result) }
+        ensures advances { OnOk result (work_ahead self.new < suc (work_ahead self.old)) }
+        ensures cause { HasCause Stop.Fault (T.faults tree.old) (T.faults tree.new) result }
     {
         if self.around.as_slice().len() >= DEPTH_LIMIT {
-            return refused(alloc, &self.file.visit.place, at, Problem::TooNested);
+            return Err(refused(alloc, &self.file.visit.place, at, Problem::TooNested));
         }
-        open_file(
+        match open_file(
             alloc,
             tree,
-            &mut self.layout,
-            &mut self.left,
+            &mut self.kept,
             setup,
             &self.source,
-            inner,
+            &inner,
             true,
-        )
+        ) {
+            Ok(pieces) => {
+                self.go_into(OpenFile::new(alloc, inner, pieces)?, at)?;
+                Ok(())
+            }
+            Err(stop) => Err(stop),
+        }
     }
 
     // Goes into a file, and puts the one that was read aside, at an include on a line.
@@ -499,31 +655,74 @@ impl Reader {
     }
 
     // Comes back, at the end of a file, to the one that was left last.
-    fn come_back(&mut self, alloc: Global) -> Result<Option<Diagnostic>, CppError>
+    fn come_back(&mut self, alloc: Global) -> Result<(), Stop>
         requires ended { length self.old.file.pieces ≤ self.old.file.next }
         requires around { 0 < length self.old.around.items }
-        ensures leads { IfOk result (λ ended. (world : World) (behind : After) (whole : Outcome) → LeadsTo world behind self.old whole → GoesOn world behind self.new whole ended) }
-        ensures advances { IfOk result (Advances (work_ahead self.old) self.new) }
-        ensures no_fault { IsErrOf result CppError.Fault → ⊥ }
+        ensures brings { (world : World) (behind : After) → Brings (LeadsTo world behind self.old) self.new (λ done. LeadsTo world behind self.new) result }
+        ensures advances { OnOk result (work_ahead self.new < work_ahead self.old) }
+        ensures no_fault { IsErrOf result Stop.Fault → ⊥ }
     {
         let Some(outer) = self.around.pop() else {
             unreachable!()
         };
         self.file = outer.file;
-        let place = &self.file.visit.place;
-        mark_return(alloc, &mut self.layout, &self.source, place, outer.at)
+        mark_return(alloc, &mut self.kept, &self.source, &self.file, outer.at)
     }
 
-    // What reading the files gives: the text, or the diagnostic that ended it.
-    fn outcome(self, alloc: Global, ended: Option<Diagnostic>) -> Result<Outcome, CppError>
-        ensures outcome { IfOk result (λ outcome. (whole : Outcome) → ReadsTo Go self whole ended → outcome ≡ whole) }
-        ensures fits { IfOk result OutcomeFits }
-        ensures no_fault { IsErrOf result CppError.Fault → ⊥ }
+    // What is told of the job once its files are read, or were left at a diagnostic.
+    fn told(self, alloc: Global, ended: Result<(), Stop>) -> Result<Told, CppError>
+        ensures told { IfOk result (λ all. (whole : Told) → IsEnd self whole ended → all ≡ whole) }
+        ensures fits { IfOk result (λ all. OutcomeFits all.outcome) }
+        ensures fault { IsErrOf result CppError.Fault → IsErrOf ended Stop.Fault }
     {
-        if let Some(diagnostic) = ended {
-            return Ok(Outcome::Diag(diagnostic.into_bytes()));
-        }
-        let Reader { source, layout, .. } = self;
-        finish(alloc, layout, &source)
+        let Reader { source, kept, .. } = self;
+        let Kept { layout, opened, .. } = kept;
+        let outcome = match ended {
+            Ok(()) => finish(alloc, layout, &source)?,
+            Err(Stop::Ended(diagnostic)) => Outcome::Diag(diagnostic.into_bytes()),
+            Err(stop) => return Err(cause_of(stop)),
+        };
+        Ok(Told { outcome, opened })
+    }
+}
+
+// The piece from which on a file is read behind the line that opens a conditional.
+fn read_opening<T: Tree>(
+    alloc: Global,
+    tree: &mut T,
+    kept: &mut Kept,
+    places: Places<'_>,
+    pieces: &Pieces,
+    line: usize,
+) -> Result<usize, Stop>
+    requires below { line < length pieces.now }
+    requires role { (p : Piece) → role_of (get_or pieces.now line p) ≡ opening }
+    ensures same { T.told tree.new ≡ T.told tree.old }
+    ensures seeks { ForSome (T.told tree.old) (λ told. Seeks kept.old kept.new places.entry.source.now (here_seen places.entry) (world_of told places.entry.setup.now) pieces.now
+        (λ entering state. run_flat (world_of told places.entry.setup.now) entering reading (drop line pieces.now) state) result) }
+    ensures later { IfOk result (IsBetween (line + 1) (length pieces.now)) }
+    ensures spends { kept.new.work.left ≤ kept.old.work.left }
+    ensures cause { HasCause Stop.Fault (T.faults tree.old) (T.faults tree.new) result }
+{
+    match test_line(alloc, tree, kept, places, pieces.piece(line)) {
+        Ok(true) => Ok(line + 1),
+        Ok(false) => seek(alloc, tree, kept, places, pieces, line + 1),
+        Err(stop) => Err(stop),
+    }
+}
+
+// The piece from which on a file is read behind a line that ends a group that was read.
+fn behind_group(pieces: &Pieces, line: usize, name: BranchName) -> usize
+    requires below { line < length pieces.now }
+    requires role { (p : Piece) → role_of (get_or pieces.now line p) ≡ role_told (Nesting.Branch name) }
+    ensures leads { (world : World) (entering : Entering) (state : State) → run_flat world entering reading (drop line pieces.now) state ≡ run_flat world entering reading (drop result pieces.now) state }
+    ensures later { IsBetween (line + 1) (length pieces.now) result }
+{
+    let inside = line < pieces.len();
+    prove!(inside);
+    match name {
+        BranchName::Endif => line + 1,
+        BranchName::Elif => pass(pieces, line + 1),
+        BranchName::Else => pass(pieces, line + 1),
     }
 }

@@ -2,7 +2,7 @@
 ghost use Rattle.std.specs.Prelude.{◌≡◌, ◌≤◌, ◌++◌, ◌∷◌, [], length, codes, IfOk, OnOk};
 ghost use Rattle.std.specs.List.{flat_map};
 ghost use Rattle.std.specs.Fmt.{decimal};
-ghost use Rattle.daemon_cpp.specs.Diagnostics.{NotFound, ErrorLine, branch_name, error_token, diagnostic_text, words_of};
+ghost use Rattle.daemon_cpp.specs.Diagnostics.{NotFound, ErrorLine, BadPaste, quoted, branch_name, error_token, diagnostic_text, words_of};
 ghost use Rattle.daemon_cpp.specs.Problems.{complaint_of};
 
 use base_types::Bytes;
@@ -27,11 +27,28 @@ pub enum Problem<'a> {
     // A header by its name, in angles or else in quotes.
     NotFound(bool, &'a [u8]),
     TooNested,
+    NoHeaderName,
     ErrorLine(&'a [Token]),
     UnknownDirective,
+    BadName,
+    BadParameters,
+    PasteAtEnd,
+    LoneHash,
+    BadLine,
+    NoIdentifier,
+    BadProbe,
+    BadExpression,
+    ZeroDivisor,
+    NotInteger,
+    TooWide,
+    TooDeep,
+    // The name of a macro, and two spellings.
+    WrongCount(&'a [u8]),
+    UnendedCall(&'a [u8]),
+    BadPaste(&'a [u8], &'a [u8]),
+    DeepArguments,
     WorkLimit,
     TextLimit,
-    NotBuilt,
 }
 
 // The text of a diagnostic, of 1 to 65,536 bytes.
@@ -97,11 +114,27 @@ fn add_words(alloc: Global, text: &mut Vec<u8>, problem: Problem<'_>) -> Result<
         Problem::Unended => text.extend_from_slice(b"unterminated conditional"),
         Problem::NotFound(angle, name) => add_not_found(alloc, text, angle, name),
         Problem::TooNested => text.extend_from_slice(b"includes nested more than 200 deep"),
+        Problem::NoHeaderName => text.extend_from_slice(b"no header name"),
         Problem::ErrorLine(tokens) => add_error_line(alloc, text, tokens),
         Problem::UnknownDirective => text.extend_from_slice(b"unknown directive"),
+        Problem::BadName => text.extend_from_slice(b"bad macro name"),
+        Problem::BadParameters => text.extend_from_slice(b"bad macro parameters"),
+        Problem::PasteAtEnd => text.extend_from_slice(b"'##' at an end of a replacement"),
+        Problem::LoneHash => text.extend_from_slice(b"'#' without a parameter"),
+        Problem::BadLine => text.extend_from_slice(b"bad #line"),
+        Problem::NoIdentifier => text.extend_from_slice(b"no identifier"),
+        Problem::BadProbe => text.extend_from_slice(b"bad __has_include"),
+        Problem::BadExpression => text.extend_from_slice(b"bad expression"),
+        Problem::ZeroDivisor => text.extend_from_slice(b"division by zero"),
+        Problem::NotInteger => text.extend_from_slice(b"not an integer constant"),
+        Problem::TooWide => text.extend_from_slice(b"integer constant too wide"),
+        Problem::TooDeep => text.extend_from_slice(b"expression nested too deep"),
+        Problem::WrongCount(name) => { add_of(alloc, text, b"wrong number of arguments to ", name) }
+        Problem::UnendedCall(name) => add_of(alloc, text, b"unterminated call of ", name),
+        Problem::BadPaste(left, right) => add_paste(alloc, text, left, right),
+        Problem::DeepArguments => text.extend_from_slice(b"arguments nested too deep"),
         Problem::WorkLimit => text.extend_from_slice(b"work limit"),
         Problem::TextLimit => text.extend_from_slice(b"text limit"),
-        Problem::NotBuilt => text.extend_from_slice(b"not built"),
     }
 }
 
@@ -169,4 +202,25 @@ fn add_between(text: &mut Vec<u8>, first: u8, name: &[u8], last: u8) -> Result<(
     text.push(first)?;
     text.extend_from_slice(name)?;
     Ok(text.push(last)?)
+}
+
+// Adds words, and a spelling between quotes.
+fn add_of(
+    alloc: Global,
+    text: &mut Vec<u8>,
+    words: &[u8],
+    spelling: &[u8],
+) -> Result<(), AllocError>
+    ensures { OnOk result (text.new.items ≡ text.old.items ++ (words.now ++ quoted spelling.now)) }
+{
+    let spelling = shown(alloc, spelling)?;
+    text.extend_from_slice(words)?;
+    add_between(text, b'\'', &spelling, b'\'')
+}
+
+fn add_paste(alloc: Global, text: &mut Vec<u8>, left: &[u8], right: &[u8]) -> Result<(), AllocError>
+    ensures { OnOk result (text.new.items ≡ text.old.items ++ words_of (BadPaste left.now right.now)) }
+{
+    add_of(alloc, text, b"bad paste of ", left)?;
+    add_of(alloc, text, b" and ", right)
 }

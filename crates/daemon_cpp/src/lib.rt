@@ -1,13 +1,23 @@
-//! Preprocessing a job over any tree of files (translation phases 1 to 4 of ISO C, 5.1.1.2 and 6.10).
+//! Preprocessing a job over a tree of files.
 #![tactic(auto)]
 
+mod condition;
 mod cpp;
+mod define;
+mod defined;
 mod diagnostic;
+mod header;
+mod kept;
+mod line;
+mod numbering;
+mod once;
 mod opening;
 mod outcome;
 mod pieces;
+mod section;
+mod stop;
+mod text;
 mod tree;
 
 pub use cpp::preprocess;
 pub use outcome::{CppError, Outcome};
-pub use pieces::reserved_line;

@@ -1,88 +1,97 @@
 // Opening a file.
-ghost use Rattle.std.specs.Prelude.{◌≡◌, ◌≤◌, ◌+◌, ℕ, suc, length, IfOk, IsErrOf, Some};
+ghost use Rattle.std.specs.Prelude.{◌≡◌, ◌≤◌, ◌+◌, ◌++◌, ◌∷◌, [], suc, length, IfOk, OnOk, IsErrOf};
 ghost use Rattle.std.specs.Option.{ForSome};
 ghost use Rattle.base_types.specs.Causes.{HasCause};
-ghost use Rattle.cpp_output.specs.Layout.{text_limit};
-ghost use Rattle.directive_scan.specs.Groups.{malformed_by, outline, role_of};
-ghost use Rattle.tree_model.specs.Paths.{spelled};
-ghost use Rattle.daemon_cpp.specs.Diagnostics.{diagnostic_text};
-ghost use Rattle.daemon_cpp.specs.Problems.{complaint_of};
-ghost use Rattle.daemon_cpp.specs.Prep.{World, State, Entering, world_of, and_then, say, malformed_step, run_outline, run_file, open_file};
-ghost use Rattle.daemon_cpp.specs.Reading.{Opens, inside, front_events, run_pieces, token_count, work_after, Shortens, KeepsLimit, HasAtMost};
+ghost use Rattle.directive_scan.specs.Groups.{outline, role_of};
+ghost use Rattle.pp_tokens.specs.Lines.{lexed};
+ghost use Rattle.daemon_cpp.specs.Prep.{World, Here, world_of, and_then, say, run_outline, run_file, open_file};
+ghost use Rattle.daemon_cpp.specs.Reading.{front_events, token_count, work_after, run_body, malformed_told, run_flat, reading};
+ghost use Rattle.daemon_cpp.specs.Showing.{Opens, Begins, Goes, Refuses};
 
-use crate::CppError;
-use crate::diagnostic::{Diagnostic, Problem};
+use crate::diagnostic::Problem;
+use crate::kept::Kept;
+use crate::stop::{Stop, refused};
 use crate::tree::read_body;
-use cpp_output::{LayError, Layout};
+use cpp_output::LayError;
 use directive_scan::{Malformed, Pieces, nesting_told, one_outline};
 use pp_tokens::{Lexed, lex};
 use search_path::{Setup, Visit};
-use std::alloc::Global;
+use std::alloc::{AllocError, Global};
 use tree_model::{CanonPath, Located, Tree, shown};
 
-// What opening a file leads to.
-#[derive(Drop)]
-pub enum Opened {
-    // Its pieces.
-    Pieces(Pieces),
-    // The first diagnostic.
-    Refused(Diagnostic),
-}
-
-// Opens a file: its work is paid, its comments and conditionals are ended, and an included one has its marker.
+/// Opens a file: its work is paid, its comments and conditionals are ended, and an included one has its marker.
 pub fn open_file<T: Tree>(
     alloc: Global,
     tree: &mut T,
-    layout: &mut Layout,
-    left: &mut u32,
+    kept: &mut Kept,
     setup: &Setup,
     source: &CanonPath,
     file: &(Visit, Located),
     included: bool,
-) -> Result<Opened, CppError>
-    requires { length layout.old.text ≤ text_limit }
+) -> Result<Pieces, Stop>
     ensures same { T.told tree.new ≡ T.told tree.old }
-    ensures opens { ForSome (T.told tree.old) (λ told. IfOk result (λ opened. (entering : Entering) (state : State) → state.source ≡ source.now → state.output ≡ layout.old → state.left ≡ left.old → Opens (world_of told setup.now) entering (inside file.now (record state { output = layout.new; left = left.new })) opened (open_file (world_of told setup.now) entering (front_events included file.now.0.place) file.now state))) }
-    ensures within { IfOk result (KeepsLimit layout.new) }
-    ensures shortens { IfOk result (Shortens left.old left.new) }
-    ensures cause { HasCause CppError.Fault (T.faults tree.old) (T.faults tree.new) result }
+    ensures opens { ForSome (T.told tree.old) (λ told. Opens kept.old kept.new source.now (world_of told setup.now) file.now
+        (λ entering state. open_file (world_of told setup.now) entering (front_events included file.now.0.place) file.now state) result) }
+    ensures shortens { IfOk result (λ pieces. length pieces + 1 + (kept.new.work.left + kept.new.work.left) ≤ kept.old.work.left + kept.old.work.left) }
+    ensures cause { HasCause Stop.Fault (T.faults tree.old) (T.faults tree.new) result }
 {
     let (visit, located) = file;
-    let Some(body) = read_body(alloc, tree, &located.real)? else {
-        return refused(alloc, &visit.place, 0, Problem::TooLarge);
-    };
-    let lexed = lex(alloc, body.as_slice(), setup.trigraphs())?;
-    let Some(rest) = pay(&lexed, *left) else {
-        return refused(alloc, source, 0, Problem::WorkLimit);
-    };
-    *left = rest;
-    open_lexed(alloc, layout, source, &visit.place, included, lexed)
+    note_opened(alloc, kept, &visit.place)?;
+    match read_body(alloc, tree, &located.real) {
+        Ok(Some(body)) => {
+            let place = &visit.place;
+            open_body(alloc, kept, setup, source, place, included, body.as_slice())
+        }
+        Ok(None) => Err(refused(alloc, &visit.place, 0, Problem::TooLarge)),
+        Err(stop) => Err(stop),
+    }
 }
 
-// A diagnostic at a line of the file at a place.
-pub fn refused(
-    alloc: Global,
-    place: &CanonPath,
-    line: u32,
-    problem: Problem<'_>,
-) -> Result<Opened, CppError>
-    ensures words { IfOk result (λ opened. opened ≡ Opened.Refused (diagnostic_text (record { place = spelled place.now; at = line; complaint = complaint_of problem.entry }))) }
-    ensures no_fault { IsErrOf result CppError.Fault → ⊥ }
+// Notes that the file at a place was opened.
+fn note_opened(alloc: Global, kept: &mut Kept, place: &CanonPath) -> Result<(), AllocError>
+    ensures { OnOk result (kept.new ≡ record kept.old { opened = kept.old.opened ++ place.now ∷ [] }) }
 {
-    Ok(Opened::Refused(Diagnostic::new(alloc, place.bytes(), line, problem)?))
+    kept.opened.push(place.copy(alloc)?)?;
+    Ok(())
+}
+
+// The bytes of a file that was noted.
+fn open_body(
+    alloc: Global,
+    kept: &mut Kept,
+    setup: &Setup,
+    source: &CanonPath,
+    place: &CanonPath,
+    included: bool,
+    body: &[u8],
+) -> Result<Pieces, Stop>
+    requires { length body.now ≤ 16777216 }
+    ensures begins { (world : World) (file : Here) → file.place ≡ place.now → Begins kept.old kept.new source.now file world
+        (λ entering state. run_body world entering (front_events included place.now) (lexed setup.now.trigraphs body.now) state) result }
+    ensures shortens { IfOk result (λ pieces. length pieces + 1 + (kept.new.work.left + kept.new.work.left) ≤ kept.old.work.left + kept.old.work.left) }
+    ensures no_fault { IsErrOf result Stop.Fault → ⊥ }
+{
+    let lexed = lex(alloc, body, setup.trigraphs())?;
+    match pay(&lexed, kept.work.left) {
+        Some(left) => {
+            kept.work.left = left;
+            open_lexed(alloc, kept, source, place, included, lexed)
+        }
+        None => Err(refused(alloc, source, 0, Problem::WorkLimit)),
+    }
 }
 
 // The work left when a unit is paid, and one for each token; None where it isn't enough.
-fn pay(file: &Lexed, left: u32) -> Option<u32>
+fn pay(file: &Lexed, left: u64) -> Option<u64>
     ensures { result ≡ work_after (suc (token_count file.now.lines)) left }
 {
     let mut rest = left.checked_sub(1)?;
     for line in 0..file.line_count() {
-        let count = file.token_count(line);
-        if count > rest as usize {
+        let count = file.token_count(line) as u64;
+        if count > rest {
             return None;
         }
-        rest -= count as u32;
+        rest -= count;
     }
     Some(rest)
 }
@@ -90,53 +99,51 @@ fn pay(file: &Lexed, left: u32) -> Option<u32>
 // A file whose work is paid.
 fn open_lexed(
     alloc: Global,
-    layout: &mut Layout,
+    kept: &mut Kept,
     source: &CanonPath,
     place: &CanonPath,
     included: bool,
     lexed: Lexed,
-) -> Result<Opened, CppError>
-    requires { length layout.old.text ≤ text_limit }
-    ensures opens { IfOk result (λ opened. (world : World) (entering : Entering) (state : State) → state.source ≡ source.now → state.here.place ≡ place.now → state.output ≡ layout.old → Opens world entering (record state { output = layout.new }) opened (run_file world entering (front_events included place.now) lexed lexed.unended state)) }
-    ensures within { IfOk result (KeepsLimit layout.new) }
-    ensures few { IfOk result (HasAtMost (suc (token_count lexed.lines + token_count lexed.lines))) }
-    ensures no_fault { IsErrOf result CppError.Fault → ⊥ }
+) -> Result<Pieces, Stop>
+    ensures begins { (world : World) (file : Here) → file.place ≡ place.now → Begins kept.old kept.new source.now file world
+        (λ entering state. run_file world entering (front_events included place.now) lexed lexed.unended state) result }
+    ensures few { IfOk result (λ pieces. length pieces ≤ suc (token_count lexed.lines + token_count lexed.lines)) }
+    ensures work { kept.new.work ≡ kept.old.work }
+    ensures no_fault { IsErrOf result Stop.Fault → ⊥ }
 {
     if let Some(line) = lexed.open_comment() {
-        return refused(alloc, place, line, Problem::OpenComment);
+        return Err(refused(alloc, place, line, Problem::OpenComment));
     }
     let pieces = Pieces::of(alloc, lexed)?;
-    open_pieces(alloc, layout, source, place, included, pieces)
+    open_pieces(alloc, kept, source, place, included, pieces)
 }
 
 // A file whose comments are ended.
 fn open_pieces(
     alloc: Global,
-    layout: &mut Layout,
+    kept: &mut Kept,
     source: &CanonPath,
     place: &CanonPath,
     included: bool,
     pieces: Pieces,
-) -> Result<Opened, CppError>
-    requires { length layout.old.text ≤ text_limit }
-    ensures opens { IfOk result (λ opened. (world : World) (entering : Entering) (state : State) → state.source ≡ source.now → state.here.place ≡ place.now → state.output ≡ layout.old → Opens world entering (record state { output = layout.new }) opened (run_outline world entering (front_events included place.now) (outline role_of pieces) state)) }
-    ensures within { IfOk result (KeepsLimit layout.new) }
-    ensures few { IfOk result (HasAtMost (length pieces)) }
-    ensures no_fault { IsErrOf result CppError.Fault → ⊥ }
+) -> Result<Pieces, Stop>
+    ensures begins { (world : World) (file : Here) → file.place ≡ place.now → Begins kept.old kept.new source.now file world
+        (λ entering state. run_outline world entering (front_events included place.now) (outline role_of pieces) state) result }
+    ensures pieces { IfOk result (λ opened. opened ≡ pieces) }
+    ensures work { kept.new.work ≡ kept.old.work }
+    ensures no_fault { IsErrOf result Stop.Fault → ⊥ }
 {
     nesting_told();
     one_outline();
-    if let Some(what) = pieces.malformed(alloc)? {
-        return refuse_malformed(alloc, place, what);
+    match pieces.malformed(alloc)? {
+        Some(what) => Err(malformed(alloc, place, what)),
+        None => announced(alloc, kept, source, place, included, pieces),
     }
-    announce(alloc, layout, source, place, included, pieces)
 }
 
 // What is wrong with a file's conditionals, as a diagnostic.
-fn refuse_malformed(alloc: Global, place: &CanonPath, what: Malformed) -> Result<Opened, CppError>
-    ensures opens { IfOk result (λ opened. (world : World) (entering : Entering) (state after : State) → state.here.place ≡ place.now → Opens world entering after opened (malformed_step world entering (Some what) state)) }
-    ensures none { (n : ℕ) → IfOk result (HasAtMost n) }
-    ensures no_fault { IsErrOf result CppError.Fault → ⊥ }
+fn malformed(alloc: Global, place: &CanonPath, what: Malformed) -> Stop
+    ensures { Refuses (malformed_told place.now what) result }
 {
     match what {
         Malformed::WithoutIf { name, at } => refused(alloc, place, at, Problem::WithoutIf(name)),
@@ -145,28 +152,46 @@ fn refuse_malformed(alloc: Global, place: &CanonPath, what: Malformed) -> Result
     }
 }
 
-// A file that is well formed: an included one has its marker in front.
-fn announce(
+// A file that is well formed, behind its marker where it is included.
+fn announced(
     alloc: Global,
-    layout: &mut Layout,
+    kept: &mut Kept,
     source: &CanonPath,
     place: &CanonPath,
     included: bool,
     pieces: Pieces,
-) -> Result<Opened, CppError>
-    requires { length layout.old.text ≤ text_limit }
-    ensures opens { IfOk result (λ opened. (world : World) (entering : Entering) (state : State) → state.source ≡ source.now → state.output ≡ layout.old → Opens world entering (record state { output = layout.new }) opened (and_then (λ after. run_pieces world entering pieces after) (say (front_events included place.now) state))) }
-    ensures within { IfOk result (KeepsLimit layout.new) }
-    ensures few { IfOk result (HasAtMost (length pieces)) }
-    ensures no_fault { IsErrOf result CppError.Fault → ⊥ }
+) -> Result<Pieces, Stop>
+    ensures begins { (world : World) (file : Here) → Begins kept.old kept.new source.now file world
+        (λ entering state. and_then (λ after. run_flat world entering reading pieces after) (say (front_events included place.now) state)) result }
+    ensures pieces { IfOk result (λ opened. opened ≡ pieces) }
+    ensures work { kept.new.work ≡ kept.old.work }
+    ensures no_fault { IsErrOf result Stop.Fault → ⊥ }
+{
+    match mark_front(alloc, kept, source, place, included) {
+        Ok(()) => Ok(pieces),
+        Err(stop) => Err(stop),
+    }
+}
+
+// The marker of an included file.
+fn mark_front(
+    alloc: Global,
+    kept: &mut Kept,
+    source: &CanonPath,
+    place: &CanonPath,
+    included: bool,
+) -> Result<(), Stop>
+    ensures goes { (file : Here) → Goes kept.old kept.new source.now file (λ state. say (front_events included place.now) state) result }
+    ensures work { kept.new.work ≡ kept.old.work }
+    ensures no_fault { IsErrOf result Stop.Fault → ⊥ }
 {
     if !included {
-        return Ok(Opened::Pieces(pieces));
+        return Ok(());
     }
     let name = shown(alloc, place.bytes())?;
-    match layout.enter(&name) {
-        Ok(()) => Ok(Opened::Pieces(pieces)),
-        Err(LayError::Full) => refused(alloc, source, 0, Problem::TextLimit),
-        Err(LayError::Memory) => Err(CppError::Memory),
+    match kept.layout.enter(&name) {
+        Ok(()) => Ok(()),
+        Err(LayError::Full) => Err(refused(alloc, source, 0, Problem::TextLimit)),
+        Err(LayError::Memory) => Err(Stop::Memory),
     }
 }

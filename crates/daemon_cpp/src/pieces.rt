@@ -1,64 +1,62 @@
-// The pieces of a file.
-ghost use Rattle.std.specs.Prelude.{◌≡◌, ◌≤◌, length, Some, IfOk, IsErrOf};
+// The pieces of a file that stand by themselves.
+ghost use Rattle.std.specs.Prelude.{◌≡◌, ◌≤◌, [], ◌∷◌, ◌++◌, IfOk, IsErrOf};
 ghost use Rattle.std.specs.Option.{ForSome};
 ghost use Rattle.base_types.specs.Causes.{HasCause};
-ghost use Rattle.cpp_output.specs.Layout.{text_limit};
-ghost use Rattle.pp_tokens.specs.Tokens.{rest_of};
-ghost use Rattle.tree_model.specs.Paths.{spelled};
 ghost use Rattle.directive_scan.specs.Spots.{directive_seen, piece_seen};
-ghost use Rattle.directive_scan.specs.declared.Target.TheVariants.{Plain};
-ghost use Rattle.daemon_cpp.specs.Diagnostics.{diagnostic_text};
-ghost use Rattle.daemon_cpp.specs.Problems.{complaint_of};
-ghost use Rattle.daemon_cpp.specs.Prep.{State, Entering, world_of, visit_of, piece_step, text_step, directive_step, include, reserved_line};
-ghost use Rattle.daemon_cpp.specs.Reading.{Leads};
-ghost use Rattle.daemon_cpp.specs.Moving.{LaidOut, StaysWithin};
+ghost use Rattle.cpp_output.specs.Layout.{pragma};
+ghost use Rattle.daemon_cpp.specs.Prep.{Go, world_of, say, line_step, include, directive_step, piece_step};
+ghost use Rattle.daemon_cpp.specs.Showing.{Moves, IsNumbered, here_seen, onward};
 
-use crate::CppError;
-use crate::diagnostic::{Diagnostic, Problem};
-use crate::tree::find_file;
-use cpp_output::{LayError, Layout};
-use directive_scan::{Directive, DirectiveRef, HeaderName, PieceRef, Target};
-use pp_tokens::Tokens;
-use search_path::{Setup, Visit, header_ask};
+use crate::define::{define, undefine};
+use crate::diagnostic::Problem;
+use crate::header::include;
+use crate::kept::{Kept, Places};
+use crate::line::{NewLine, read_line};
+use crate::stop::{Stop, refused};
+use crate::text::run_text;
+use cpp_output::LayError;
+use directive_scan::{Directive, DirectiveRef, PieceRef, Target};
+use pp_tokens::Token;
+use search_path::Visit;
 use std::alloc::Global;
-use tree_model::{CanonPath, Located, Tree};
+use tree_model::{Located, Tree};
 
-// What a piece leads to.
+/// What a piece leads to: the next piece, the file of an include on a line, or other numbers behind a `#line`.
 #[derive(Drop)]
 pub enum Move {
-    // The next piece.
     Onward,
-    // The file of an include on a line.
     Enter { at: u32, file: (Visit, Located) },
-    // The first diagnostic.
-    Ended(Diagnostic),
+    Renumber { at: u32, new: NewLine },
 }
 
-// What the job's words say of searches, its source by its place, and the file that is read.
-#[derive(Clone, Copy)]
-pub struct Places<'a> {
-    pub setup: &'a Setup,
-    pub source: &'a CanonPath,
-    pub here: &'a Visit,
-}
-
-// Reads a piece of the file that is read: text and pragmas go into the output, and includes are searched.
+/// Reads a piece that stands by itself: text and pragmas go into the output, definitions into the table, and includes are searched.
 pub fn run_piece<T: Tree>(
     alloc: Global,
     tree: &mut T,
-    layout: &mut Layout,
+    kept: &mut Kept,
     places: Places<'_>,
     piece: PieceRef<'_>,
-) -> Result<Move, CppError>
-    requires { length layout.old.text ≤ text_limit }
+) -> Result<Move, Stop>
     ensures same { T.told tree.new ≡ T.told tree.old }
-    ensures leads { ForSome (T.told tree.old) (λ told. IfOk result (λ move. (entering : Entering) (state : State) → state.source ≡ places.entry.source.now → visit_of state.here ≡ places.entry.here.now → state.output ≡ layout.old → Leads entering (record state { output = layout.new }) move (piece_step (world_of told places.entry.setup.now) entering (piece_seen piece.entry) state))) }
-    ensures within { IfOk result (StaysWithin layout.new) }
-    ensures cause { HasCause CppError.Fault (T.faults tree.old) (T.faults tree.new) result }
+    ensures moves { ForSome (T.told tree.old) (λ told. Moves kept.old kept.new places.entry.source.now (here_seen places.entry)
+        (λ entering state. piece_step (world_of told places.entry.setup.now) entering (piece_seen piece.entry) state) result) }
+    ensures narrow { IfOk result IsNumbered }
+    ensures spends { kept.new.work.left ≤ kept.old.work.left }
+    ensures cause { HasCause Stop.Fault (T.faults tree.old) (T.faults tree.new) result }
 {
     match piece {
-        PieceRef::Run(tokens) => run_text(alloc, layout, places, tokens),
-        PieceRef::Line { at, what } => run_line(alloc, tree, layout, places, at, what),
+        PieceRef::Run(tokens) => onward(run_text(alloc, kept, places, tokens)),
+        PieceRef::Line { at, what } => run_line(alloc, tree, kept, places, at, what),
+    }
+}
+
+// The next piece is read where nothing stopped.
+fn onward(done: Result<(), Stop>) -> Result<Move, Stop>
+    ensures { result ≡ onward done }
+{
+    match done {
+        Ok(()) => Ok(Move::Onward),
+        Err(stop) => Err(stop),
     }
 }
 
@@ -66,108 +64,57 @@ pub fn run_piece<T: Tree>(
 fn run_line<T: Tree>(
     alloc: Global,
     tree: &mut T,
-    layout: &mut Layout,
+    kept: &mut Kept,
     places: Places<'_>,
     at: u32,
     line: DirectiveRef<'_>,
-) -> Result<Move, CppError>
-    requires { length layout.old.text ≤ text_limit }
+) -> Result<Move, Stop>
     ensures same { T.told tree.new ≡ T.told tree.old }
-    ensures leads { ForSome (T.told tree.old) (λ told. IfOk result (λ move. (entering : Entering) (state : State) → state.source ≡ places.entry.source.now → visit_of state.here ≡ places.entry.here.now → state.output ≡ layout.old → Leads entering (record state { output = layout.new }) move (directive_step (world_of told places.entry.setup.now) entering at (directive_seen line.entry) state))) }
-    ensures within { IfOk result (StaysWithin layout.new) }
-    ensures cause { HasCause CppError.Fault (T.faults tree.old) (T.faults tree.new) result }
+    ensures moves { ForSome (T.told tree.old) (λ told. Moves kept.old kept.new places.entry.source.now (here_seen places.entry)
+        (λ entering state. directive_step (world_of told places.entry.setup.now) entering at (directive_seen line.entry) state) result) }
+    ensures narrow { IfOk result IsNumbered }
+    ensures spends { kept.new.work.left ≤ kept.old.work.left }
+    ensures cause { HasCause Stop.Fault (T.faults tree.old) (T.faults tree.new) result }
 {
     let what = line.read(alloc)?;
-    run_directive(alloc, tree, layout, places, at, &what)
-}
-
-// Tokens of text: each goes from the file straight into the output.
-fn run_text(
-    alloc: Global,
-    layout: &mut Layout,
-    places: Places<'_>,
-    tokens: Tokens<'_>,
-) -> Result<Move, CppError>
-    requires { length layout.old.text ≤ text_limit }
-    ensures leads { IfOk result (λ move. (entering : Entering) (state : State) → state.source ≡ places.entry.source.now → visit_of state.here ≡ places.entry.here.now → state.output ≡ layout.old → Leads entering (record state { output = layout.new }) move (text_step (rest_of tokens.entry) (reserved_line (rest_of tokens.entry)) state)) }
-    ensures within { IfOk result (StaysWithin layout.new) }
-    ensures no_fault { IsErrOf result CppError.Fault → ⊥ }
-{
-    match reserved_line(tokens) {
-        Some(line) => ended(alloc, &places.here.place, line, Problem::NotBuilt),
-        None => {
-            let laid = layout.stretch(tokens);
-            laid_out(alloc, places.source, laid)
-        }
-    }
-}
-
-/// The line of the first identifier that begins with two underscores.
-pub fn reserved_line(tokens: Tokens<'_>) -> Option<u32>
-    ensures { result ≡ reserved_line (rest_of tokens.entry) }
-{
-    for token in tokens {
-        if token.is_reserved() {
-            return Some(token.line);
-        }
-    }
-    None
-}
-
-// A diagnostic at a line of the file at a place.
-fn ended(
-    alloc: Global,
-    place: &CanonPath,
-    line: u32,
-    problem: Problem<'_>,
-) -> Result<Move, CppError>
-    ensures words { IfOk result (λ move. move ≡ Move.Ended (diagnostic_text (record { place = spelled place.now; at = line; complaint = complaint_of problem.entry }))) }
-    ensures no_fault { IsErrOf result CppError.Fault → ⊥ }
-{
-    Ok(Move::Ended(Diagnostic::new(alloc, place.bytes(), line, problem)?))
-}
-
-// What became of the output: it goes on, or the limit was passed.
-fn laid_out(alloc: Global, source: &CanonPath, laid: Result<(), LayError>) -> Result<Move, CppError>
-    ensures laid { IfOk result (LaidOut source.now laid) }
-    ensures no_fault { IsErrOf result CppError.Fault → ⊥ }
-{
-    match laid {
-        Ok(()) => Ok(Move::Onward),
-        Err(LayError::Full) => ended(alloc, source, 0, Problem::TextLimit),
-        Err(LayError::Memory) => Err(CppError::Memory),
-    }
+    run_directive(alloc, tree, kept, places, at, &what)
 }
 
 // A directive on a line.
 fn run_directive<T: Tree>(
     alloc: Global,
     tree: &mut T,
-    layout: &mut Layout,
+    kept: &mut Kept,
     places: Places<'_>,
     at: u32,
     what: &Directive,
-) -> Result<Move, CppError>
-    requires { length layout.old.text ≤ text_limit }
+) -> Result<Move, Stop>
     ensures same { T.told tree.new ≡ T.told tree.old }
-    ensures leads { ForSome (T.told tree.old) (λ told. IfOk result (λ move. (entering : Entering) (state : State) → state.source ≡ places.entry.source.now → visit_of state.here ≡ places.entry.here.now → state.output ≡ layout.old → Leads entering (record state { output = layout.new }) move (directive_step (world_of told places.entry.setup.now) entering at what.now state))) }
-    ensures within { IfOk result (StaysWithin layout.new) }
-    ensures cause { HasCause CppError.Fault (T.faults tree.old) (T.faults tree.new) result }
+    ensures moves { ForSome (T.told tree.old) (λ told. Moves kept.old kept.new places.entry.source.now (here_seen places.entry)
+        (λ entering state. directive_step (world_of told places.entry.setup.now) entering at what.now state) result) }
+    ensures narrow { IfOk result IsNumbered }
+    ensures spends { kept.new.work.left ≤ kept.old.work.left }
+    ensures cause { HasCause Stop.Fault (T.faults tree.old) (T.faults tree.new) result }
 {
     match what {
-        Directive::Include(target) => run_include(alloc, tree, places, false, at, target),
-        Directive::Next(target) => run_include(alloc, tree, places, true, at, target),
+        Directive::Include(target) => run_include(alloc, tree, kept, places, false, at, target),
+        Directive::Next(target) => run_include(alloc, tree, kept, places, true, at, target),
+        Directive::Define(tokens) => onward(define(alloc, kept, places, at, tokens.as_slice())),
+        Directive::Undef(tokens) => onward(undefine(alloc, kept, places, at, tokens.as_slice())),
+        Directive::Line(tokens) => renumber(alloc, kept, places, at, tokens.as_slice()),
         Directive::Error(tokens) => {
             let problem = Problem::ErrorLine(tokens.as_slice());
-            ended(alloc, &places.here.place, at, problem)
+            Err(refused(alloc, &places.visit.place, at, problem))
         }
-        Directive::Pragma(tokens) => {
-            let laid = layout.pragma(at, tokens.as_slice());
-            laid_out(alloc, places.source, laid)
+        Directive::Once => mark_once(alloc, kept, places),
+        Directive::Pragma(tokens) => lay_pragma(alloc, kept, places, at, tokens.as_slice()),
+        Directive::Unknown => {
+            let place = &places.visit.place;
+            Err(refused(alloc, place, at, Problem::UnknownDirective))
         }
         Directive::Warning | Directive::Null => Ok(Move::Onward),
-        Directive::Unknown => ended(alloc, &places.here.place, at, Problem::UnknownDirective),
-        _ => ended(alloc, &places.here.place, at, Problem::NotBuilt),
+        Directive::If(_) | Directive::Ifdef(_) | Directive::Ifndef(_) => Ok(Move::Onward),
+        Directive::Elif(_) | Directive::Else | Directive::Endif => Ok(Move::Onward),
     }
 }
 
@@ -175,41 +122,73 @@ fn run_directive<T: Tree>(
 fn run_include<T: Tree>(
     alloc: Global,
     tree: &mut T,
+    kept: &mut Kept,
     places: Places<'_>,
     next: bool,
     at: u32,
     target: &Target,
-) -> Result<Move, CppError>
+) -> Result<Move, Stop>
     ensures same { T.told tree.new ≡ T.told tree.old }
-    ensures leads { ForSome (T.told tree.old) (λ told. IfOk result (λ move. (entering : Entering) (state : State) → visit_of state.here ≡ places.entry.here.now → Leads entering state move (include (world_of told places.entry.setup.now) entering next at target.now state))) }
-    ensures cause { HasCause CppError.Fault (T.faults tree.old) (T.faults tree.new) result }
+    ensures moves { ForSome (T.told tree.old) (λ told. Moves kept.old kept.new places.entry.source.now (here_seen places.entry)
+        (λ entering state. include (world_of told places.entry.setup.now) entering next at target.now state) result) }
+    ensures narrow { IfOk result IsNumbered }
+    ensures spends { kept.new.work.left ≤ kept.old.work.left }
+    ensures cause { HasCause Stop.Fault (T.faults tree.old) (T.faults tree.new) result }
 {
-    match target {
-        Target::Plain(header) => find_header(alloc, tree, places, next, at, header),
-        Target::Computed(_) => ended(alloc, &places.here.place, at, Problem::NotBuilt),
+    match include(alloc, tree, kept, places, next, at, target) {
+        Ok(Some(file)) => Ok(Move::Enter { at, file }),
+        Ok(None) => Ok(Move::Onward),
+        Err(stop) => Err(stop),
     }
 }
 
-// The file of a header's name.
-fn find_header<T: Tree>(
+// A line directive (6.10.4).
+fn renumber(
     alloc: Global,
-    tree: &mut T,
+    kept: &mut Kept,
     places: Places<'_>,
-    next: bool,
     at: u32,
-    header: &HeaderName,
-) -> Result<Move, CppError>
-    ensures same { T.told tree.new ≡ T.told tree.old }
-    ensures leads { ForSome (T.told tree.old) (λ told. IfOk result (λ move. (entering : Entering) (state : State) → visit_of state.here ≡ places.entry.here.now → Leads entering state move (include (world_of told places.entry.setup.now) entering next at (Plain header.now) state))) }
-    ensures cause { HasCause CppError.Fault (T.faults tree.old) (T.faults tree.new) result }
+    tokens: &[Token],
+) -> Result<Move, Stop>
+    ensures moves { Moves kept.old kept.new places.entry.source.now (here_seen places.entry) (λ entering state. line_step at tokens.now state) result }
+    ensures narrow { IfOk result IsNumbered }
+    ensures spends { kept.new.work.left ≤ kept.old.work.left }
+    ensures no_fault { IsErrOf result Stop.Fault → ⊥ }
 {
-    let name = header.name.as_slice();
-    let ask = header_ask(alloc, places.here, next, header.angle, name)?;
-    match find_file(alloc, tree, places.setup, ask)? {
-        Some(file) => Ok(Move::Enter { at, file }),
-        None => {
-            let problem = Problem::NotFound(header.angle, name);
-            ended(alloc, &places.here.place, at, problem)
-        }
+    match read_line(alloc, kept, places, at, tokens) {
+        Ok(new) => Ok(Move::Renumber { at, new }),
+        Err(stop) => Err(stop),
+    }
+}
+
+// The file that is read is read once, by its path behind all links.
+fn mark_once(alloc: Global, kept: &mut Kept, places: Places<'_>) -> Result<Move, Stop>
+    ensures moves { Moves kept.old kept.new places.entry.source.now (here_seen places.entry)
+        (λ entering state. Go (record state { once = state.once ++ state.here.real ∷ [] })) result }
+    ensures narrow { IfOk result IsNumbered }
+    ensures spends { kept.new.work.left ≤ kept.old.work.left }
+    ensures no_fault { IsErrOf result Stop.Fault → ⊥ }
+{
+    kept.once.mark(alloc, places.real)?;
+    Ok(Move::Onward)
+}
+
+// A pragma goes into the output (6.10.6).
+fn lay_pragma(
+    alloc: Global,
+    kept: &mut Kept,
+    places: Places<'_>,
+    at: u32,
+    tokens: &[Token],
+) -> Result<Move, Stop>
+    ensures moves { Moves kept.old kept.new places.entry.source.now (here_seen places.entry) (λ entering state. say (pragma at tokens.now ∷ []) state) result }
+    ensures narrow { IfOk result IsNumbered }
+    ensures spends { kept.new.work.left ≤ kept.old.work.left }
+    ensures no_fault { IsErrOf result Stop.Fault → ⊥ }
+{
+    match kept.layout.pragma(at, tokens) {
+        Ok(()) => Ok(Move::Onward),
+        Err(LayError::Full) => Err(refused(alloc, places.source, 0, Problem::TextLimit)),
+        Err(LayError::Memory) => Err(Stop::Memory),
     }
 }

@@ -1,9 +1,19 @@
-use Rattle.daemon_cpp.specs.Prep.{world_of}
-use Rattle.daemon_cpp.proofs.Leading.{plain-leads}
+use Rattle.std.proofs.Common.{Ok, Option, subst}
+use Rattle.search_path.specs.Search.{Hit}
+use Rattle.daemon_cpp.specs.Prep.{world_of, include}
+use Rattle.daemon_cpp.specs.Showing.{Includes, here_seen}
 use Rattle.daemon_cpp.proofs.pieces.run_include.Goals as goal
 
-pub returns-in-Plain-clause-leads : goal.returns-in-Plain-clause-leads
-returns-in-Plain-clause-leads g c =
+pub returns-in-Ok-Some-clause-moves : goal.returns-in-Ok-Some-clause-moves
+returns-in-Ok-Some-clause-moves g c =
     λ told is.
-    plain-leads (world_of told c.args.places.setup.now) c.args.places.here.now c.args.next c.args.at c.in-Plain.header c.args.target.now c.find_header.result
-    c.in-Plain.is (c.find_header.ensures.leads told is)
+    subst (λ (o : Option Hit). Includes c.args.kept.now c.include.new.kept c.args.places.source.now (here_seen c.args.places) c.args.at
+    (λ entering state. include (world_of told c.args.places.setup.now) entering c.args.next c.args.at c.args.target.now state) (Ok o)) c.in-Ok-Some.field-0-is
+    (c.in-Ok-Some.ensures.includes told is)
+
+pub returns-in-Ok-None-clause-moves : goal.returns-in-Ok-None-clause-moves
+returns-in-Ok-None-clause-moves g c =
+    λ told is.
+    subst (λ (o : Option Hit). Includes c.args.kept.now c.include.new.kept c.args.places.source.now (here_seen c.args.places) c.args.at
+    (λ entering state. include (world_of told c.args.places.setup.now) entering c.args.next c.args.at c.args.target.now state) (Ok o)) c.in-Ok-None.field-0-is
+    (c.in-Ok-None.ensures.includes told is)

@@ -1,22 +1,14 @@
-use Rattle.std.proofs.Common.{pos, ◌+◌}
-use Rattle.std.proofs.lemmas.Result.{IfOk-weaker}
-use Rattle.cpp_output.specs.Layout.{back}
-use Rattle.cpp_output.specs.Laid.{after_event}
-use Rattle.daemon_cpp.specs.declared.outcome.Outcome.{Outcome}
+use Rattle.std.proofs.Common.{refl}
 use Rattle.daemon_cpp.specs.declared.cpp.Reader.{Reader}
-use Rattle.daemon_cpp.specs.Prep.{World}
-use Rattle.tree_model.specs.Shown.{presumed_name}
-use Rattle.daemon_cpp.specs.Moving.{Marked}
-use Rattle.daemon_cpp.specs.Files.{After, LeadsTo, GoesOn}
-use Rattle.daemon_cpp.proofs.Readers.{returned}
+use Rattle.daemon_cpp.specs.Prep.{back_in}
+use Rattle.daemon_cpp.specs.Files.{here_of, LeadsTo, StepsTo}
+use Rattle.daemon_cpp.proofs.Readers.{came-back, turns-brings, brings-before}
 use Rattle.daemon_cpp.proofs.cpp.Reader.come_back.Goals as goal
 
-pub returns-clause-leads : goal.returns-clause-leads
-returns-clause-leads c =
-    let after : Reader = record c.args.self.now { layout = c.mark_return.new.layout; file = c.in-Some.outer.file; around = c.pop.new.self } in
-    IfOk-weaker c.mark_return.result
-    (Marked c.args.self.now.source (after_event c.args.self.now.layout (back (presumed_name c.in-Some.outer.file.visit.place) (pos (c.in-Some.outer.at + 1)) c.in-Some.outer.at)) c.mark_return.new.layout)
-    (λ ended. (world : World) (behind : After) (whole : Outcome) → LeadsTo world behind c.args.self.now whole → GoesOn world behind after whole ended)
-    (λ ended marked world behind whole left.
-    returned world behind c.args.self.now after c.in-Some.outer c.mark_return.new.layout whole ended c.requires.ended c.in-Some.ensures.items marked left)
-    c.mark_return.ensures.marked
+pub returns-clause-brings : goal.returns-clause-brings
+returns-clause-brings c = λ world behind.
+    let mid : Reader = record c.args.self.now { file = c.in-Some.outer.file; around = c.pop.new.self } in
+    let after : Reader = record mid { kept = c.mark_return.new.kept } in
+    brings-before (LeadsTo world behind c.args.self.now) (StepsTo world behind mid (here_of c.args.self.now.file) (λ state. back_in (here_of c.in-Some.outer.file) c.in-Some.outer.at state)) after (λ done. LeadsTo world behind after) c.mark_return.result
+    (λ whole left. came-back world behind c.args.self.now mid c.in-Some.outer whole c.requires.ended c.in-Some.ensures.items refl refl refl left)
+    (turns-brings world behind mid after (here_of c.args.self.now.file) (λ state. back_in (here_of c.in-Some.outer.file) c.in-Some.outer.at state) c.mark_return.result refl refl refl (c.mark_return.ensures.turns (here_of c.args.self.now.file)))

@@ -1,29 +1,34 @@
-use Rattle.std.proofs.Common.{subst}
-use Rattle.daemon_cpp.specs.declared.opening.Opened.{Opened}
-use Rattle.daemon_cpp.specs.Reading.{KeepsLimit}
+use Rattle.std.proofs.Common.{◌<◌, ◌≤◌, List, length, Result, ap, subst, arith}
+use Rattle.directive_scan.specs.declared.Piece.{Piece}
+use Rattle.daemon_cpp.specs.declared.stop.Stop.{Stop}
+use Rattle.daemon_cpp.specs.declared.cpp.Reader.{Reader}
+use Rattle.daemon_cpp.specs.declared.cpp.OpenFile.{OpenFile}
 use Rattle.daemon_cpp.specs.Prep.{world_of}
-use Rattle.daemon_cpp.specs.Files.{GoesInto, opened_file}
-use Rattle.daemon_cpp.proofs.Readers.{kept-out, went-in, less-ahead}
+use Rattle.daemon_cpp.specs.Files.{LeadsTo, EntersTo, Brings, GoesInto, InsideTo}
+use Rattle.daemon_cpp.proofs.Readers.{too-deep, opens-brings, brings-stop}
 use Rattle.daemon_cpp.proofs.cpp.Reader.enter.Goals as goal
 
-pub returns-in-Refused-clause-leads : goal.returns-in-Refused-clause-leads
-returns-in-Refused-clause-leads g c =
-    λ told is behind whole left.
-    kept-out (world_of told c.args.setup.now) behind c.open_included.new.self c.args.at c.args.inner whole c.in_ok-diagnostic.field-0 c.in-Refused.diagnostic c.in-Refused.is
-    (c.in_ok-diagnostic.ensures.leads told is behind whole left)
+pub returns-then-as_slice-ge-DEPTH_LIMIT-clause-brings : goal.returns-then-as_slice-ge-DEPTH_LIMIT-clause-brings
+returns-then-as_slice-ge-DEPTH_LIMIT-clause-brings g c = λ told is behind.
+    let same = ap length c.as_slice.ensures.value in
+    let deep : 200 ≤ length c.args.self.now.around.items = omega (arith, same, c.if-as_slice-ge-DEPTH_LIMIT.true) in
+    too-deep {A = Unit {0}} (world_of told c.args.setup.now) behind c.args.self.now c.args.at c.args.inner (λ done. LeadsTo (world_of told c.args.setup.now) behind c.args.self.now) c.refused.result deep c.refused.ensures
 
-pub returns-in_ok-go_into-in-Pieces-clause-leads :
-    goal.returns-in_ok-go_into-in-Pieces-clause-leads
-returns-in_ok-go_into-in-Pieces-clause-leads g c =
-    λ told is behind whole left.
-    let goes : GoesInto c.open_included.new.self (opened_file c.args.inner c.in-Pieces.pieces) c.args.at c.go_into.new.self = rw (← c.new.ensures) c.in_ok-go_into-in-Pieces.ensures in
-    went-in (world_of told c.args.setup.now) behind c.open_included.new.self c.go_into.new.self c.args.at c.args.inner whole c.in_ok-diagnostic.field-0 c.in-Pieces.pieces c.in-Pieces.is
-    (c.in_ok-diagnostic.ensures.leads told is behind whole left) goes
+pub returns-in_ok-go_into-in-Ok-clause-brings : goal.returns-in_ok-go_into-in-Ok-clause-brings
+returns-in_ok-go_into-in-Ok-clause-brings g c = λ told is behind whole enters_to.
+    let same = ap length c.as_slice.ensures.value in
+    let shallow : length c.args.self.now.around.items < 200 = omega (arith, same, c.if-as_slice-ge-DEPTH_LIMIT.false) in
+    let mid : Reader = record c.args.self.now { kept = c.open_file.new.kept } in
+    let opened = subst (λ (r : Result (List Piece) Stop). Brings (EntersTo (world_of told c.args.setup.now) behind c.args.self.now c.args.at c.args.inner) mid (λ pieces w. InsideTo (world_of told c.args.setup.now) behind mid c.args.at c.args.inner pieces w) r) c.in-Ok.is
+    (opens-brings (world_of told c.args.setup.now) behind c.args.self.now c.open_file.new.kept c.args.at c.args.inner c.open_file.result shallow (c.open_file.ensures.opens told is)) in
+    opened whole enters_to c.go_into.new.self
+    (subst (λ (f : OpenFile). GoesInto mid f c.args.at c.go_into.new.self) c.in_ok-new-in-Ok.ensures c.in_ok-go_into-in-Ok.ensures)
 
-pub returns-in_ok-go_into-in-Pieces-clause-advances :
-    goal.returns-in_ok-go_into-in-Pieces-clause-advances
-returns-in_ok-go_into-in-Pieces-clause-advances g c = (
-  rw c.in_ok-go_into-in-Pieces.ensures.layout (subst (λ (opened : Opened). KeepsLimit c.open_included.new.self.layout opened) c.in-Pieces.is c.in_ok-diagnostic.ensures.within),
-  let goes : GoesInto c.open_included.new.self (opened_file c.args.inner c.in-Pieces.pieces) c.args.at c.go_into.new.self = rw (← c.new.ensures) c.in_ok-go_into-in-Pieces.ensures in
-      less-ahead c.args.self.now c.open_included.new.self c.go_into.new.self c.args.at c.args.inner c.in_ok-diagnostic.field-0 c.in-Pieces.pieces c.in-Pieces.is c.in_ok-diagnostic.ensures.shortens c.in_ok-diagnostic.ensures.file c.in_ok-diagnostic.ensures.around goes,
-)
+pub returns-in-Err-clause-brings : goal.returns-in-Err-clause-brings
+returns-in-Err-clause-brings g c = λ told is behind.
+    let same = ap length c.as_slice.ensures.value in
+    let shallow : length c.args.self.now.around.items < 200 = omega (arith, same, c.if-as_slice-ge-DEPTH_LIMIT.false) in
+    let mid : Reader = record c.args.self.now { kept = c.open_file.new.kept } in
+    brings-stop {B = Unit {0}} (EntersTo (world_of told c.args.setup.now) behind c.args.self.now c.args.at c.args.inner) mid (λ pieces w. InsideTo (world_of told c.args.setup.now) behind mid c.args.at c.args.inner pieces w) (λ done. LeadsTo (world_of told c.args.setup.now) behind mid) c.in-Err.stop
+    (subst (λ (r : Result (List Piece) Stop). Brings (EntersTo (world_of told c.args.setup.now) behind c.args.self.now c.args.at c.args.inner) mid (λ pieces w. InsideTo (world_of told c.args.setup.now) behind mid c.args.at c.args.inner pieces w) r) c.in-Err.is
+    (opens-brings (world_of told c.args.setup.now) behind c.args.self.now c.open_file.new.kept c.args.at c.args.inner c.open_file.result shallow (c.open_file.ensures.opens told is)))

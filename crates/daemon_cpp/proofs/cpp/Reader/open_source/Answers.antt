@@ -1,29 +1,25 @@
-use Rattle.std.proofs.Common.{[], IfOk, ◌∙◌, subst}
-use Rattle.std.proofs.lemmas.Result.{IfOk-weaker}
+use Rattle.std.proofs.Common.{[], Result, ◌∙◌, subst}
+use Rattle.search_path.specs.Search.{Hit}
 use Rattle.search_path.specs.SetupOf.{SetupData}
-use Rattle.daemon_cpp.specs.declared.outcome.Outcome.{Outcome}
-use Rattle.daemon_cpp.specs.Prep.{world_of}
-use Rattle.daemon_cpp.specs.Files.{ComesTo, AllRead, BeginsTo, source_behind}
-use Rattle.daemon_cpp.proofs.Readers.{SourceLeads, ended-with, read-on, nothing-left, begins}
+use Rattle.daemon_cpp.specs.declared.stop.Stop.{Stop}
+use Rattle.daemon_cpp.specs.Prep.{World, Go, world_of}
+use Rattle.daemon_cpp.specs.Files.{LeadsTo, ComesTo, Brings, source_behind}
+use Rattle.daemon_cpp.proofs.Readers.{brings-then, brings-stop}
 use Rattle.daemon_cpp.proofs.cpp.Reader.open_source.Goals as goal
 
-pub returns-in-Some-clause-leads : goal.returns-in-Some-clause-leads
-returns-in-Some-clause-leads g c =
-    λ told is whole comes.
-    ended-with (source_behind (world_of told c.args.job.now.setup) c.args.source.now []) c.read_forced.new.self whole c.in_ok-diagnostic.field-0 c.in-Some.diagnostic c.in-Some.is
-    (c.in_ok-diagnostic.ensures.leads told is c.args.source.now whole comes)
+pub returns-in-Ok-clause-brings : goal.returns-in-Ok-clause-brings
+returns-in-Ok-clause-brings g c = λ told is.
+    let source : Hit = c.args.source.now in
+    let world : World = world_of told c.args.job.now.setup in
+    let forced = c.read_forced.ensures.brings told is source in
+    brings-then (ComesTo (source_behind world source c.args.job.now.forced) c.args.self.now) c.read_forced.new.self c.enter_source.new.self (λ done. ComesTo (source_behind world source []) c.read_forced.new.self) (λ done. LeadsTo world (λ state. Go state) c.enter_source.new.self) (tt {0}) c.enter_source.result
+    (subst (λ (r : Result (Unit {0}) Stop). Brings (ComesTo (source_behind world source c.args.job.now.forced) c.args.self.now) c.read_forced.new.self (λ done. ComesTo (source_behind world source []) c.read_forced.new.self) r) c.in-Ok.is forced)
+    (subst (λ (setup : SetupData). Brings (ComesTo (source_behind (world_of told setup) source []) c.read_forced.new.self) c.enter_source.new.self (λ done. LeadsTo (world_of told setup) (λ state. Go state) c.enter_source.new.self) c.enter_source.result) c.setup.ensures
+    (c.enter_source.ensures.brings told (c.in-Ok.ensures.same ∙ is)))
 
-pub returns-clause-leads : goal.returns-clause-leads
-returns-clause-leads g c =
-    λ told is.
-    let leads = subst (λ (setup : SetupData). IfOk c.open_file.result (SourceLeads (world_of told setup) c.read_forced.new.self c.open_file.new.layout c.open_file.new.left c.args.source.now)) c.setup.ensures
-    (c.open_file.ensures.opens told (c.in_ok-diagnostic.ensures.same ∙ is)) in
-    let read : AllRead c.read_forced.new.self = nothing-left c.read_forced.new.self c.in_ok-diagnostic.field-0 c.in_default.is c.in_ok-diagnostic.ensures.read in
-    IfOk-weaker c.open_file.result
-    (SourceLeads (world_of told c.args.job.now.setup) c.read_forced.new.self c.open_file.new.layout c.open_file.new.left c.args.source.now)
-    (λ opened. (whole : Outcome) → ComesTo (source_behind (world_of told c.args.job.now.setup) c.args.source.now c.args.job.now.forced) c.args.self.now whole → BeginsTo (world_of told c.args.job.now.setup) c.args.source.now (record c.read_forced.new.self { layout = c.open_file.new.layout; left = c.open_file.new.left }) whole opened)
-    (λ opened opens whole comes.
-    begins (world_of told c.args.job.now.setup) c.args.source.now c.read_forced.new.self c.open_file.new.layout c.open_file.new.left whole opened read opens
-    (read-on (source_behind (world_of told c.args.job.now.setup) c.args.source.now []) c.read_forced.new.self whole c.in_ok-diagnostic.field-0 c.in_default.is
-    (c.in_ok-diagnostic.ensures.leads told is c.args.source.now whole comes)))
-    leads
+pub returns-in-Err-clause-brings : goal.returns-in-Err-clause-brings
+returns-in-Err-clause-brings g c = λ told is.
+    let source : Hit = c.args.source.now in
+    let world : World = world_of told c.args.job.now.setup in
+    brings-stop {A = Unit {0}} {B = Unit {0}} (ComesTo (source_behind world source c.args.job.now.forced) c.args.self.now) c.read_forced.new.self (λ done. ComesTo (source_behind world source []) c.read_forced.new.self) (λ done. LeadsTo world (λ state. Go state) c.read_forced.new.self) c.in-Err.stop
+    (subst (λ (r : Result (Unit {0}) Stop). Brings (ComesTo (source_behind world source c.args.job.now.forced) c.args.self.now) c.read_forced.new.self (λ done. ComesTo (source_behind world source []) c.read_forced.new.self) r) c.in-Err.is (c.read_forced.ensures.brings told is source))

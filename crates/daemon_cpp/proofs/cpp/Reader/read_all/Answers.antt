@@ -1,29 +1,26 @@
-use Rattle.std.proofs.Common.{sym, ◌∙◌, subst}
-use Rattle.std.proofs.lemmas.Result.{IfOk-weaker}
+use Rattle.std.proofs.Common.{Result, ◌∙◌, subst}
+use Rattle.search_path.specs.Search.{Hit}
 use Rattle.search_path.specs.SetupOf.{SetupData}
-use Rattle.daemon_cpp.specs.declared.outcome.Outcome.{Outcome}
-use Rattle.daemon_cpp.specs.declared.cpp.OpenFile.{OpenFile}
-use Rattle.daemon_cpp.specs.Prep.{Go, world_of}
-use Rattle.daemon_cpp.specs.Files.{After, LeadsTo, ComesTo, ReadsTo, source_behind}
-use Rattle.daemon_cpp.proofs.Readers.{not-begun, begun-in}
+use Rattle.daemon_cpp.specs.declared.stop.Stop.{Stop}
+use Rattle.daemon_cpp.specs.Prep.{World, Go, world_of}
+use Rattle.daemon_cpp.specs.Files.{After, LeadsTo, ComesTo, Brings, source_behind}
+use Rattle.daemon_cpp.proofs.Readers.{brings-then, brings-stop}
 use Rattle.daemon_cpp.proofs.cpp.Reader.read_all.Goals as goal
 
-pub returns-in-Refused-clause-leads : goal.returns-in-Refused-clause-leads
-returns-in-Refused-clause-leads g c =
-    λ told is whole comes.
-    not-begun (world_of told c.args.job.now.setup) c.args.source.now c.open_source.new.self whole c.in_ok-diagnostic.field-0 c.in-Refused.diagnostic c.in-Refused.is
-    (c.in_ok-diagnostic.ensures.leads told is whole comes)
+pub returns-in-Ok-clause-brings : goal.returns-in-Ok-clause-brings
+returns-in-Ok-clause-brings g c = λ told is.
+    let source : Hit = c.args.source.now in
+    let world : World = world_of told c.args.job.now.setup in
+    let behind : After = source_behind world source c.args.job.now.forced in
+    brings-then (ComesTo behind c.args.self.now) c.open_source.new.self c.read.new.self (λ done. LeadsTo world (λ state. Go state) c.open_source.new.self) (λ done. ComesTo (λ state. Go state) c.read.new.self) (tt {0}) c.read.result
+    (subst (λ (r : Result (Unit {0}) Stop). Brings (ComesTo behind c.args.self.now) c.open_source.new.self (λ done. LeadsTo world (λ state. Go state) c.open_source.new.self) r) c.in-Ok.is (c.open_source.ensures.brings told is))
+    (subst (λ (setup : SetupData). Brings (LeadsTo (world_of told setup) (λ state. Go state) c.open_source.new.self) c.read.new.self (λ done. ComesTo (λ state. Go state) c.read.new.self) c.read.result) c.setup.ensures
+    (c.read.ensures.brings told (c.in-Ok.ensures.same ∙ is) (λ state. Go state)))
 
-pub returns-in_ok-self-in-Pieces-clause-leads : goal.returns-in_ok-self-in-Pieces-clause-leads
-returns-in_ok-self-in-Pieces-clause-leads g c =
-    λ told is.
-    IfOk-weaker c.read.result
-    (λ ended. (behind : After) (whole : Outcome) → LeadsTo (world_of told c.setup.result.now) behind (record c.open_source.new.self { file = c.in_ok-self-in-Pieces.field-0 }) whole → ReadsTo behind c.read.new.self whole ended)
-    (λ ended. (whole : Outcome) → ComesTo (source_behind (world_of told c.args.job.now.setup) c.args.source.now c.args.job.now.forced) c.args.self.now whole → ReadsTo (λ state. Go state) c.read.new.self whole ended)
-    (λ ended reads whole comes.
-    reads (λ state. Go state) whole
-    (subst (λ (setup : SetupData). LeadsTo (world_of told setup) (λ state. Go state) (record c.open_source.new.self { file = c.in_ok-self-in-Pieces.field-0 }) whole) (sym c.setup.ensures)
-    (subst (λ (file : OpenFile). LeadsTo (world_of told c.args.job.now.setup) (λ state. Go state) (record c.open_source.new.self { file = file }) whole) (sym c.in_ok-self-in-Pieces.ensures)
-    (begun-in (world_of told c.args.job.now.setup) c.args.source.now c.open_source.new.self whole c.in_ok-diagnostic.field-0 c.in-Pieces.pieces c.in-Pieces.is
-    (c.in_ok-diagnostic.ensures.leads told is whole comes)))))
-    (c.read.ensures.leads told (c.in_ok-diagnostic.ensures.same ∙ is))
+pub returns-in-Err-clause-brings : goal.returns-in-Err-clause-brings
+returns-in-Err-clause-brings g c = λ told is.
+    let source : Hit = c.args.source.now in
+    let world : World = world_of told c.args.job.now.setup in
+    let behind : After = source_behind world source c.args.job.now.forced in
+    brings-stop {A = Unit {0}} {B = Unit {0}} (ComesTo behind c.args.self.now) c.open_source.new.self (λ done. LeadsTo world (λ state. Go state) c.open_source.new.self) (λ done. ComesTo (λ state. Go state) c.open_source.new.self) c.in-Err.stop
+    (subst (λ (r : Result (Unit {0}) Stop). Brings (ComesTo behind c.args.self.now) c.open_source.new.self (λ done. LeadsTo world (λ state. Go state) c.open_source.new.self) r) c.in-Err.is (c.open_source.ensures.brings told is))

@@ -1,0 +1,151 @@
+-- Runs of text, expanded and laid out.
+use Rattle.std.proofs.Common.{◌≡◌, ℕ, ◌<◌, ◌≤◌, List, [], ◌∷◌, map, length, Some, None, Result, Ok, Err, refl, ap, sym, ◌∙◌, arith, length-append}
+use Rattle.std.proofs.lemmas.Bool.{le-leb}
+use Rattle.pp_tokens.specs.declared.token.Token.{Token}
+use Rattle.macro_expand.specs.Asking.{Failure}
+use Rattle.macro_defs.specs.Table.{Entries, lookup}
+use Rattle.macro_expand.specs.declared.answers.Presumed.{Presumed}
+use Rattle.macro_expand.specs.declared.outcome.Mode.{Mode}
+use Rattle.macro_expand.specs.declared.outcome.Mode.TheVariants as mode
+use Rattle.macro_expand.specs.declared.outcome.Work.{Work as WorkLeft}
+use Rattle.macro_expand.specs.declared.stream.Standing.TheVariants.{Going}
+use Rattle.macro_expand.specs.Expansion.{Expanded, Table, expanded_by}
+use Rattle.macro_expand.specs.Replacement.{Marked, unmarked}
+use Rattle.macro_expand.specs.Seen as seen
+use Rattle.macro_expand.specs.Seen.{marked_of, kept_plain, place_of}
+use Rattle.macro_expand.specs.Stream.{Given, Stream, given, given_before, to_come, GivesNext}
+use Rattle.cpp_output.specs.Layout.{Event, put, text_limit, written}
+use Rattle.cpp_output.specs.Laid.{Laid, after_event, after_events}
+use Rattle.tree_model.specs.Paths.{Path}
+use Rattle.daemon_cpp.specs.declared.kept.Kept.{Kept}
+use Rattle.daemon_cpp.specs.declared.kept.Places.{Places}
+use Rattle.daemon_cpp.specs.Prep as prep
+use Rattle.daemon_cpp.specs.Prep.{Here, State, Go, Gives, limited, tokens_of, expanded_in, line_expanded, expand_line, text_expanded, text_step}
+use Rattle.daemon_cpp.specs.Showing.{Shows, here_seen, Leads, Goes, laid_from, IsTooLong, IsOkay}
+
+-- ---- an output that grows ----
+
+grows-one : (o : Laid) (e : Event) → length o.text ≤ length (after_event o e).text
+unfolding after_event
+grows-one o e = omega (arith, length-append o.text (written o.at o.last e))
+
+pub grows : (o : Laid) (ts : List Token) → length o.text ≤ length (after_events o (map put ts)).text
+unfolding after_events
+grows o [] = omega arith
+grows o (t ∷ ts) = omega (arith, grows-one o (put t), grows (after_event o (put t)) ts)
+
+-- where the front doesn't fit, the whole doesn't
+pub too-long : (o : Laid) (r : Result Given Failure) → IsOkay r → text_limit < length o.text → IsTooLong (laid_from o r)
+too-long o (Ok g) okay long = omega (arith, long, grows o g.tokens)
+too-long o (Err f) okay long = absurd okay
+
+laid-before : (o : Laid) (t : Token) (r : Result Given Failure) → laid_from o (given_before (t ∷ []) r) ≡ laid_from (after_event o (put t)) r
+unfolding after_events
+laid-before o t (Ok g) = refl
+laid-before o t (Err f) = refl
+
+-- one token more that was laid out
+pub lays-turn : (o : Laid) (old new : Stream) (units left : ℕ) (t : Token) → GivesNext (Some t) old units new left →
+    laid_from o (to_come old units) ≡ laid_from (after_event o (put t)) (to_come new left)
+lays-turn o old new units left t gives = ap (laid_from o) gives ∙ laid-before o t (to_come new left)
+
+-- no token more
+pub lays-end : (o : Laid) (old new : Stream) (units left : ℕ) → GivesNext None old units new left → laid_from o (to_come old units) ≡ Ok (o, left)
+unfolding after_events
+lays-end o old new units left gives = ap (laid_from o) gives
+
+-- tokens with no hidden name are those of the text
+plain-unmarked : (ts : List Token) → map marked_of (map kept_plain ts) ≡ map unmarked ts
+plain-unmarked [] = refl
+plain-unmarked (t ∷ ts) = ap (λ (l : List Marked). unmarked t ∷ l) (plain-unmarked ts)
+
+before-none : (r : Result Given Failure) → given_before [] r ≡ r
+before-none (Ok g) = refl
+before-none (Err f) = refl
+
+-- before the first token, all are still to come
+pub lays-init : (o : Laid) (table : Entries) (here : Presumed) (mode : Mode) (units : ℕ) (ts : List Token) →
+    laid_from o (given (expanded_by (lookup table) (place_of here) mode 0 units (map unmarked ts)))
+    ≡ laid_from o (to_come (record { table = table; here = here; mode = mode; ready = []; pending = map kept_plain ts; standing = Going }) units)
+lays-init o table here mode units ts =
+    ap (λ (l : List Marked). laid_from o (given (expanded_by (lookup table) (place_of here) mode 0 units l))) (sym (plain-unmarked ts))
+    ∙ ap (laid_from o) (sym (before-none (given (expanded_by (lookup table) (place_of here) mode 0 units (map marked_of (map kept_plain ts))))))
+
+-- ---- what is shown of a state ----
+
+-- the expansion that a state asks for is that of what is kept
+pub shown-expansion : (kept : Kept) (main : Path) (places : Places) (state : State) (mode : Mode) (tokens : List Token) → Shows kept main (here_seen places) state →
+    expanded_in mode tokens state ≡ expanded_by (lookup kept.macros) (place_of places.presumed.now) mode 0 kept.work.left (map unmarked tokens)
+shown-expansion kept main places state mode tokens shows =
+    ap (λ (m : Table). expanded_by m (prep.place_of state.here) mode 0 state.left (map unmarked tokens)) shows.macros
+    ∙ ap (λ (h : Here). expanded_by (lookup kept.macros) (prep.place_of h) mode 0 state.left (map unmarked tokens)) shows.here
+    ∙ ap (λ (n : ℕ). expanded_by (lookup kept.macros) (place_of places.presumed.now) mode 0 n (map unmarked tokens)) shows.left
+
+-- ---- lines of directives ----
+
+line-gives : (at : ℕ) (r : Result Expanded Failure) (state : State) (ts : List Token) (left : ℕ) → seen.Gives r ts left →
+    line_expanded at r state ≡ Gives ts (record state { left = left })
+line-gives at (Ok e) state ts left gives =
+    ap (λ (n : ℕ). Gives (tokens_of e) (record state { left = n })) gives.1 ∙ ap (λ (us : List Token). Gives us (record state { left = left })) gives.0
+line-gives at (Err f) state ts left gives = absurd gives
+
+-- tokens that were expanded
+pub line-leads : (old : Kept) (work : WorkLeft) (places : Places) (at : ℕ) (mode : Mode) (tokens list : List Token) →
+    seen.Gives (expanded_by (lookup old.macros) (place_of places.presumed.now) mode 0 old.work.left (map unmarked tokens)) list work.left →
+    Leads old (record old { work = work }) places.source.now (here_seen places) (λ state. expand_line at mode tokens state) (Ok list)
+line-leads old work places at mode tokens list gives state shows = (
+  record state { left = work.left },
+  (
+    ap (λ (r : Result Expanded Failure). line_expanded at r state) (shown-expansion old places.source.now places state mode tokens shows)
+        ∙ line-gives at (expanded_by (lookup old.macros) (place_of places.presumed.now) mode 0 old.work.left (map unmarked tokens)) state list work.left gives,
+    record {
+      source = shows.source;
+      output = shows.output;
+      within = shows.within;
+      left = refl;
+      opened = shows.opened;
+      macros = shows.macros;
+      once = shows.once;
+      here = shows.here;
+    },
+  ),
+)
+
+-- ---- runs ----
+
+-- a run that was laid out
+run-laid : (r : Result Expanded Failure) (state : State) (output : Laid) (left : ℕ) → laid_from state.output (given r) ≡ Ok (output, left) →
+    length output.text ≤ text_limit → text_expanded r state ≡ Go (record state { output = output; left = left })
+run-laid (Err f) state output left same fits = absurd (cc)
+run-laid (Ok e) state output left same fits =
+    let pair : (after_events state.output (map put (tokens_of e)), e.units) ≡ (output, left) = cc in
+    ap (λ (l : Laid). limited (record state { output = l; left = e.units })) (ap (λ (p : Laid × ℕ). p.0) pair)
+    ∙ ap (λ (n : ℕ). limited (record state { output = output; left = n })) (ap (λ (p : Laid × ℕ). p.1) pair)
+    ∙ fitting (record state { output = output; left = left }) fits
+  where
+    fitting : (s : State) → length s.output.text ≤ text_limit → limited s ≡ Go s
+    fitting s h = rw (le-leb (length s.output.text) text_limit h) refl
+
+pub run-goes : (old : Kept) (layout : Laid) (work : WorkLeft) (places : Places) (tokens : List Token) →
+    laid_from old.layout (given (expanded_by (lookup old.macros) (place_of places.presumed.now) mode.Text 0 old.work.left (map unmarked tokens))) ≡ Ok (layout, work.left) →
+    (length old.layout.text ≤ text_limit → length layout.text ≤ text_limit) →
+    Goes old (record old { layout = layout; work = work }) places.source.now (here_seen places) {A = Unit {0}} (λ state. text_step tokens state) (Ok tt)
+run-goes old layout work places tokens laid within state shows = (
+  record state { output = layout; left = work.left },
+  (
+    ap (λ (r : Result Expanded Failure). text_expanded r state) (shown-expansion old places.source.now places state mode.Text tokens shows)
+        ∙ run-laid (expanded_by (lookup old.macros) (place_of places.presumed.now) mode.Text 0 old.work.left (map unmarked tokens)) state layout work.left
+        (ap (λ (o : Laid). laid_from o (given (expanded_by (lookup old.macros) (place_of places.presumed.now) mode.Text 0 old.work.left (map unmarked tokens)))) shows.output ∙ laid)
+        (within shows.within),
+    record {
+      source = shows.source;
+      output = refl;
+      within = within shows.within;
+      left = refl;
+      opened = shows.opened;
+      macros = shows.macros;
+      once = shows.once;
+      here = shows.here;
+    },
+  ),
+)

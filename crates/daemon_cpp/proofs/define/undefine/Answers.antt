@@ -1,0 +1,9 @@
+use Rattle.std.proofs.Common.{sym}
+use Rattle.daemon_cpp.specs.Showing.{here_seen}
+use Rattle.daemon_cpp.proofs.Defines.{undef-first}
+use Rattle.daemon_cpp.proofs.define.undefine.Goals as goal
+
+pub returns-clause-goes : goal.returns-clause-goes
+returns-clause-goes c =
+    undef-first c.args.kept.now c.undef.new.self c.args.places.source.now (here_seen c.args.places) c.args.at c.args.tokens.now c.name-item.result _ c.in-len1-up.len_at_least
+    c.name-item.is (sym c.if-not-names_macro.ensures) (rw c.as_slice.ensures at c.undef.ensures.sets)
