@@ -17,7 +17,7 @@ use Rattle.job_frames.specs.Request.{HasSpelling, request_bytes, most}
 use Rattle.pp_tokens.specs.Lines.{LexedFile}
 use Rattle.directive_scan.specs.declared.Piece.{Piece}
 use Rattle.directive_scan.specs.Directives.{pieces}
-use Rattle.closure_fixpoint.specs.Simple.{name_asked, asks, pieces_of, has_reserved, is_next_or_angle, is_simple, is_flat}
+use Rattle.closure_fixpoint.specs.Simple.{name_asked, asks, pieces_of, has_reserved, is_next_or_unquoted, is_simple, is_flat}
 use Rattle.closure_fixpoint.specs.declared.job_analysis.Refusal.{Refusal}
 use Rattle.closure_fixpoint.specs.declared.job_analysis.Refusal.TheVariants as refusal
 use Rattle.closure_fixpoint.specs.declared.job_analysis.Analysed.{Analysed}
@@ -32,7 +32,7 @@ simple_of body = cond (is_simple body) (Some (pieces_of body)) None
 
 -- the same, by the tokens of the file
 abbrev pub taken_pieces : LexedFile → Option (List Piece)
-taken_pieces file = cond (not (has_reserved file) && not (list_any is_next_or_angle (pieces file.lines))) (Some (pieces file.lines)) None
+taken_pieces file = cond (not (has_reserved file) && not (list_any is_next_or_unquoted (pieces file.lines))) (Some (pieces file.lines)) None
 
 -- pieces of which none asks for a name
 abbrev pub is_flat_file : Option (List Piece) → Bool

@@ -38,19 +38,20 @@ name_asked (Line at what) = name_in what
 abbrev pub asks : Piece → Bool
 asks piece = is_some (name_asked piece)
 
--- an include in angle form, or an include_next
-abbrev pub is_angle : Target → Bool
-is_angle (Plain header) = header.angle
-is_angle (Computed tokens) = false
+-- an include whose name isn't written in quotes
+abbrev pub is_unquoted : Target → Bool
+is_unquoted (Plain header) = header.angle
+is_unquoted (Computed tokens) = true
 
-abbrev pub is_next_or_angle_in : Directive → Bool
-is_next_or_angle_in (directive.Include target) = is_angle target
-is_next_or_angle_in (directive.Next target) = true
-is_next_or_angle_in _ = false
+-- such an include, or an include_next
+abbrev pub is_next_or_unquoted_in : Directive → Bool
+is_next_or_unquoted_in (directive.Include target) = is_unquoted target
+is_next_or_unquoted_in (directive.Next target) = true
+is_next_or_unquoted_in _ = false
 
-abbrev pub is_next_or_angle : Piece → Bool
-is_next_or_angle (Run tokens) = false
-is_next_or_angle (Line at what) = is_next_or_angle_in what
+abbrev pub is_next_or_unquoted : Piece → Bool
+is_next_or_unquoted (Run tokens) = false
+is_next_or_unquoted (Line at what) = is_next_or_unquoted_in what
 
 -- the pieces of a body, trigraphs left alone
 unfoldable pub pieces_of : Text → List Piece
@@ -66,12 +67,12 @@ abbrev pub has_reserved : LexedFile → Bool
 has_reserved file = list_any (λ line. list_any is_reserved line) file.lines
 
 -- a file that is taken so far: at most 65,536 bytes and 100 lines, plain, with no identifier that begins with two
--- underscores, and with no include in angle form and no include_next
+-- underscores, and with no include in angle form, no computed include and no include_next
 unfoldable pub is_simple : Text → Bool
 is_simple body =
     nat_le (length body) 65536
     && (nat_le (count_by (λ b. b == 10) body) 100
-    && (is_plain_body body && (not (has_reserved (lexed false body)) && not (list_any is_next_or_angle (pieces_of body)))))
+    && (is_plain_body body && (not (has_reserved (lexed false body)) && not (list_any is_next_or_unquoted (pieces_of body)))))
 
 -- an included file that is taken so far: simple, and without an include of its own
 unfoldable pub is_flat : Text → Bool

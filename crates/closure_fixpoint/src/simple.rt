@@ -2,7 +2,7 @@
 ghost use Rattle.std.specs.Prelude.{◌≡◌, ◌==◌, [], count_by, IfOk, unwrap_or, option_map};
 ghost use Rattle.std.specs.List.{list_any, slice_get};
 ghost use Rattle.pp_tokens.specs.Marks.{is_reserved};
-ghost use Rattle.closure_fixpoint.specs.Simple.{name_in_form, name_asked, asks, has_reserved, is_next_or_angle};
+ghost use Rattle.closure_fixpoint.specs.Simple.{name_in_form, name_asked, asks, has_reserved, is_next_or_unquoted};
 ghost use Rattle.closure_fixpoint.specs.Gathering as gathering;
 ghost use Rattle.closure_fixpoint.specs.Gathering.{simple_of, taken_pieces};
 
@@ -36,7 +36,7 @@ fn taken_pieces(alloc: Global, file: &Lexed) -> Result<Option<List<Piece>>, Allo
         return Ok(None);
     }
     let pieces = scan(alloc, file)?;
-    if has_next_or_angle(pieces.as_slice()) {
+    if has_next_or_unquoted(pieces.as_slice()) {
         return Ok(None);
     }
     Ok(Some(pieces))
@@ -73,21 +73,25 @@ fn is_reserved_in(file: &Lexed, line: usize) -> bool
     false
 }
 
-fn has_next_or_angle(pieces: &[Piece]) -> bool
-    ensures { result ≡ list_any is_next_or_angle pieces.now }
+fn has_next_or_unquoted(pieces: &[Piece]) -> bool
+    ensures { result ≡ list_any is_next_or_unquoted pieces.now }
 {
-    pieces.iter().any(|piece| is_next_or_angle(piece))
+    pieces.iter().any(|piece| is_next_or_unquoted(piece))
 }
 
-// Whether a piece is an include in angle form, or an include_next.
-fn is_next_or_angle(piece: &Piece) -> bool
-    ensures { result ≡ is_next_or_angle piece.now }
+// Whether a piece is an include whose name isn't written in quotes, or an include_next.
+fn is_next_or_unquoted(piece: &Piece) -> bool
+    ensures { result ≡ is_next_or_unquoted piece.now }
 {
     match piece {
         Piece::Line {
             what: Directive::Include(Target::Plain(header)),
             ..
         } => header.angle,
+        Piece::Line {
+            what: Directive::Include(Target::Computed(_)),
+            ..
+        } => true,
         Piece::Line {
             what: Directive::Next(_),
             ..

@@ -2,7 +2,7 @@
 use Rattle.std.proofs.Common.{◌≡◌, ◌∷◌, [], List, ℕ, Bool, true, false, ◌||◌, not, length, Option, Some, None, IsTrue, inl, inr, refl, sym, ap, subst, ◌∙◌, arith, suc}
 use Rattle.std.specs.Prelude.{◌==◌}
 use Rattle.std.proofs.lemmas.Bool.{eqb-true}
-use Rattle.std.specs.List.{list_any, filter_map}
+use Rattle.std.specs.List.{list_any}
 use Rattle.std.specs.Option.{option_map}
 use Rattle.base_types.specs.Members.{Member}
 use Rattle.tree_model.specs.Paths.{Text}
@@ -14,7 +14,8 @@ use Rattle.tree_model.specs.declared.walk.Located.{Located}
 use Rattle.search_path.specs.Search.{Hit, search}
 use Rattle.search_path.specs.Laws.{SearchesLocate, IsFoundInPart, IsFoundInNoPart}
 use Rattle.job_words.specs.declared.job.Job.{Job}
-use Rattle.daemon_cpp.specs.Prep.{World, State, Step, Go, Stop, world_of, limited, first_state, open_file, enter_file, run_forced, run_job, prepared, Prepared, and_then, prep, depth_limit}
+use Rattle.job_words.specs.declared.MacroWord.{MacroWord}
+use Rattle.daemon_cpp.specs.Prep.{World, Step, Go, Stop, world_of, limited, first_state, open_file, enter_file, run_forced, run_job, prepared, and_then, prep, depth_limit}
 use Rattle.search_path.specs.Asks.{header_ask, source_ask}
 use Rattle.closure_fixpoint.specs.declared.job_analysis.Refusal.TheVariants.{NoSource, Unbuilt}
 use Rattle.closure_fixpoint.specs.Simple.{names_asked, pieces_of, is_simple, is_flat}
@@ -22,14 +23,9 @@ use Rattle.closure_fixpoint.specs.Analysis.{AreEntriesOf, Holds, found_files, fo
 use Rattle.mirror_soundness.specs.Mirror.{MirrorIsEnough}
 use Rattle.mirror_soundness.proofs.MadeTree.{any_of_member, makes_tree_of, part_of_whole}
 use Rattle.mirror_soundness.proofs.SameSearches.{source_walked, target_walked, same_found, same_none, same_body}
-use Rattle.mirror_soundness.proofs.Deeds.{Asked, quoted, asked_in, in_front, behind, quoted_alone}
-use Rattle.mirror_soundness.proofs.SamePrep.{OutlineHolds, SameFile, Agrees, and_same, first_true, second_true, not_so, simple_quotes, opened_same, alike_where_agree}
-
--- what a member of a list gives is one of what the list gives
-pub given_by_member : {X Y : Type 0} (give : X → Option Y) (xs : List X) (x : X) (y : Y) → Member x xs → give x ≡ Some y → Member y (filter_map give xs)
-given_by_member give [] x y m e = elim m [ ]
-given_by_member give (other ∷ xs) x y (inl same) e = in_front (give other) y (filter_map give xs) (ap give same ∙ e)
-given_by_member give (other ∷ xs) x y (inr m) e = behind (give other) y (filter_map give xs) (given_by_member give xs x y m e)
+use Rattle.mirror_soundness.proofs.Members.{given_by_member}
+use Rattle.mirror_soundness.proofs.SimpleFiles.{first_true, second_true, not_so}
+use Rattle.mirror_soundness.proofs.Alike.{OutlineHolds, HasPlainParts, source_step, MayEnter, MayRead, simple_read, source_alike}
 
 -- a test that isn't failed by a list's member, where none fails it
 pub none_fails : (a b : Bool) → ((not a || b) ≡ true → ⊥) → (a ≡ true) × (b ≡ true → ⊥)
@@ -71,17 +67,14 @@ and_go : (step : Step) → and_then (λ state. Go state) step ≡ step
 and_go (Go state) = refl
 and_go (Stop diagnostic state) = refl
 
--- a source alone
-abbrev pub run_source : World → Hit → ℕ → Prepared
-run_source world source depth = prepared (and_then (λ state. open_file world (enter_file world depth) [] source state) (limited (first_state source)))
-
 -- a job that includes no file in front is its source alone
-pub unforced_run : (world : World) (job : Job) (source : Hit) → job.forced ≡ [] → run_job world job (Some source) ≡ run_source world source depth_limit
+pub unforced_run : (world : World) (job : Job) (source : Hit) → job.forced ≡ []
+    → run_job world job (Some source) ≡ prepared (source_step world job.macros source depth_limit)
 unfolding run_forced
 unforced_run world job source none =
     ap (λ (names : List Text). prepared (and_then (λ state. open_file world (enter_file world depth_limit) [] source state)
-    (and_then (λ state. run_forced world (enter_file world depth_limit) names state) (limited (first_state source))))) none
-    ∙ ap (λ (step : Step). prepared (and_then (λ state. open_file world (enter_file world depth_limit) [] source state) step)) (and_go (limited (first_state source)))
+    (and_then (λ state. run_forced world (enter_file world depth_limit) names state) (limited (first_state job.macros source))))) none
+    ∙ ap (λ (step : Step). prepared (and_then (λ state. open_file world (enter_file world depth_limit) [] source state) step)) (and_go (limited (first_state job.macros source)))
 
 -- A SOURCE
 
@@ -105,11 +98,13 @@ module _ (lists : ListsMakeTrees) (nodes : EntriesAreNodes) (found_in_part : IsF
   among_found : (target : Located) → Member target (targets_of tree job.setup source) → Member target (found_files tree job)
   among_found target m = subst (λ (o : Option Hit). Member target (found_from tree job.setup o)) (sym source_is) (inr m)
 
-  same_target : (name : Text) (target : Hit) → Member name (names_asked (body_found tree source.1)) → search tree job.setup (header_ask source.0 false false name) ≡ Some target → SameFile mirrored all target
+  same_target : (name : Text) (target : Hit) → Member name (names_asked (body_found tree source.1)) → search tree job.setup (header_ask source.0 false false name) ≡ Some target
+      → MayEnter mirrored all (found_files tree job) target
   same_target name target asked e =
       let m = target_found name target asked e in
       record {
-        body = same_body lists nodes found_in_part none_in_part tree job entries whole are makes sub target.1 (among_found target.1 m) (target_walked holds locates tree whole job source source_is name target e);
+        known = among_found target.1 m;
+        same = same_body lists nodes found_in_part none_in_part tree job entries whole are makes sub target.1 (among_found target.1 m) (target_walked holds locates tree whole job source source_is name target e);
         flat = built.flat target.1 m;
       }
 
@@ -119,17 +114,14 @@ module _ (lists : ListsMakeTrees) (nodes : EntriesAreNodes) (found_in_part : IsF
   same_search name asked (Some target) e =
       same_found lists nodes found_in_part none_in_part tree job entries whole are makes sub (header_ask source.0 false false name) target (among_found target.1 (target_found name target asked e)) e
 
-  quoted_agree : (name : Text) → Member name (names_asked (body_found tree source.1)) → Agrees mirrored all source.0 (quoted name)
-  quoted_agree name asked = record {
-    search = same_search name asked (search tree job.setup (header_ask source.0 false false name)) refl;
-    file = λ target e. same_target name target asked e;
-  }
-
   -- all that a simple source asks for are names in quotes
-  agree : (asked : Asked) → Member asked (filter_map asked_in (pieces_of (body_found tree source.1))) → Agrees mirrored all source.0 asked
-  agree asked m =
-      let alone = quoted_alone (pieces_of (body_found tree source.1)) (simple_quotes (body_found tree source.1) built.simple) asked m in
-      subst (λ (a : Asked). Agrees mirrored all source.0 a) (sym alone.0) (quoted_agree asked.name alone.1)
+  source_read : MayRead mirrored all (found_files tree job) source.0 (pieces_of (body_found tree source.1))
+  source_read =
+      simple_read mirrored all (found_files tree job) source.0 (body_found tree source.1) built.simple
+      (λ name asked. record {
+        same = same_search name asked (search tree job.setup (header_ask source.0 false false name)) refl;
+        file = λ target e. same_target name target asked e;
+      })
 
   pub same_source : search (tree_of entries) job.setup (source_ask job.source) ≡ Some source
   same_source = same_found lists nodes found_in_part none_in_part tree job entries whole are makes sub (source_ask job.source) source source_found source_is
@@ -137,32 +129,26 @@ module _ (lists : ListsMakeTrees) (nodes : EntriesAreNodes) (found_in_part : IsF
   same_source_body : mirrored.body source.1.real ≡ all.body source.1.real
   same_source_body = same_body lists nodes found_in_part none_in_part tree job entries whole are makes sub source.1 source_found (source_walked holds locates tree whole job source source_is)
 
-  source_opened : OutlineHolds → (depth : ℕ) (state : State) → open_file mirrored (enter_file mirrored depth) [] source state ≡ open_file all (enter_file all depth) [] source state
-  source_opened outlines depth state =
-      opened_same outlines mirrored all built.plain built.plain (enter_file mirrored depth) (enter_file all depth) [] source state (all.body source.1.real) same_source_body refl
-      (λ asked m. alike_where_agree outlines mirrored all built.plain built.plain depth source.0 asked (agree asked m))
-
-  pub same_run : OutlineHolds → (depth : ℕ) → run_source mirrored source depth ≡ run_source all source depth
-  same_run outlines depth =
-      ap prepared (and_same (limited (first_state source)) (λ state. open_file mirrored (enter_file mirrored depth) [] source state)
-      (λ state. open_file all (enter_file all depth) [] source state) (λ after goes. source_opened outlines depth after))
+  pub same_run : HasPlainParts → OutlineHolds → (macros : List MacroWord) (depth : ℕ) → prepared (source_step mirrored macros source depth) ≡ prepared (source_step all macros source depth)
+  same_run parts outlines macros depth =
+      ap prepared (source_alike mirrored all (found_files tree job) parts outlines built.plain built.plain macros source depth source_found same_source_body source_read).0
 
 -- both sides of a job whose source is found
-from_source : (lists : ListsMakeTrees) (nodes : EntriesAreNodes) (found_in_part : IsFoundInPart) (none_in_part : IsFoundInNoPart) (holds : HoldsOfLocated) (locates : SearchesLocate) → OutlineHolds
+from_source : (lists : ListsMakeTrees) (nodes : EntriesAreNodes) (found_in_part : IsFoundInPart) (none_in_part : IsFoundInNoPart) (holds : HoldsOfLocated) (locates : SearchesLocate) → HasPlainParts → OutlineHolds
     → (tree : FileTree) (job : Job) (entries : Entries) → IsTree tree → AreEntriesOf tree job entries → IsTrue (makes_tree entries) → Sub (tree_of entries) tree
     → (Holds NoSource tree job 0 → ⊥) → (Holds Unbuilt tree job 0 → ⊥)
     → (got : Option Hit) → source_of tree job ≡ got → prep (world_of (tree_of entries) job.setup) job ≡ prep (world_of tree job.setup) job
 unfolding prep
-from_source lists nodes found_in_part none_in_part holds locates outlines tree job entries whole are makes sub there built None e = absurd (there e)
-from_source lists nodes found_in_part none_in_part holds locates outlines tree job entries whole are makes sub there built (Some source) e =
+from_source lists nodes found_in_part none_in_part holds locates parts outlines tree job entries whole are makes sub there built None e = absurd (there e)
+from_source lists nodes found_in_part none_in_part holds locates parts outlines tree job entries whole are makes sub there built (Some source) e =
     let is : IsBuilt tree job source = is_built tree job source (λ unbuilt. built (ap (is_unbuilt tree job) e ∙ unbuilt)) in
     ap (run_job (world_of (tree_of entries) job.setup) job) (same_source lists nodes found_in_part none_in_part holds locates tree job entries whole are makes sub source e is)
     ∙ unforced_run (world_of (tree_of entries) job.setup) job source is.unforced
-    ∙ same_run lists nodes found_in_part none_in_part holds locates tree job entries whole are makes sub source e is outlines depth_limit
+    ∙ same_run lists nodes found_in_part none_in_part holds locates tree job entries whole are makes sub source e is parts outlines job.macros depth_limit
     ∙ sym (unforced_run (world_of tree job.setup) job source is.unforced)
     ∙ ap (run_job (world_of tree job.setup) job) (sym e)
 
-pub is_enough : ListsMakeTrees → EntriesAreNodes → NodesAreEntries → TestsDecide → ParentsMakeTrees → IsFoundInPart → IsFoundInNoPart → HoldsOfLocated → SearchesLocate → OutlineHolds → MirrorIsEnough
-is_enough lists nodes nodes_back tests made found_in_part none_in_part holds locates outlines tree job entries whole are there built =
-    from_source lists nodes found_in_part none_in_part holds locates outlines tree job entries whole are (makes_tree_of tests tree job entries whole are made) (part_of_whole tests tree job entries whole are nodes_back)
+pub is_enough : ListsMakeTrees → EntriesAreNodes → NodesAreEntries → TestsDecide → ParentsMakeTrees → IsFoundInPart → IsFoundInNoPart → HoldsOfLocated → SearchesLocate → HasPlainParts → OutlineHolds → MirrorIsEnough
+is_enough lists nodes nodes_back tests made found_in_part none_in_part holds locates parts outlines tree job entries whole are there built =
+    from_source lists nodes found_in_part none_in_part holds locates parts outlines tree job entries whole are (makes_tree_of tests tree job entries whole are made) (part_of_whole tests tree job entries whole are nodes_back)
     there built (source_of tree job) refl

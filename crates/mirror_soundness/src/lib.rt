@@ -4,7 +4,7 @@
 
 ghost use Rattle.mirror_soundness.specs.Mirror.{EntriesMakeTree, MirrorIsEnough, TouchesNodesAlone};
 
-use directive_scan::outline_holds;
+use directive_scan::{outline_holds, parts_without_probe};
 use search_path::{search_frame, searches_locate};
 use tree_model::{
     entries_of_trees, lists_make_trees, parents_make_trees, tests_decide, walked_law,
@@ -24,4 +24,5 @@ pub fn mirror_is_enough()
     searches_locate();
     search_frame();
     outline_holds();
+    parts_without_probe();
 }

@@ -9,9 +9,9 @@ returns-clause-tree c tree job entries whole are =
     (made, part_of_whole c.tests_decide.ensures tree job entries whole are c.entries_of_trees.ensures.nodes)
 
 pub returns-clause-touched : goal.returns-clause-touched
-returns-clause-touched c = touches_nodes c.outline_holds.ensures
+returns-clause-touched c = touches_nodes c.parts_without_probe.ensures c.outline_holds.ensures
 
 pub returns-clause-enough : goal.returns-clause-enough
 returns-clause-enough c =
     is_enough c.lists_make_trees.ensures c.entries_of_trees.ensures.entries c.entries_of_trees.ensures.nodes c.tests_decide.ensures c.parents_make_trees.ensures
-    c.search_frame.ensures.found c.search_frame.ensures.not_found c.walked_law.ensures c.searches_locate.ensures c.outline_holds.ensures
+    c.search_frame.ensures.found c.search_frame.ensures.not_found c.walked_law.ensures c.searches_locate.ensures c.parts_without_probe.ensures c.outline_holds.ensures

@@ -1,4 +1,4 @@
-use Rattle.std.proofs.Common.{◌++◌, ◌∷◌, [], List, true, ◌∙◌, ap, Ok, Err}
+use Rattle.std.proofs.Common.{◌++◌, ◌∷◌, [], List, ◌∙◌, ap, Ok, Err}
 use Rattle.std.specs.Prelude.{Result}
 use Rattle.tree_model.specs.declared.walk.Located.{Located}
 use Rattle.closure_fixpoint.specs.declared.job_analysis.Refusal.{Refusal}
