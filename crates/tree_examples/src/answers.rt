@@ -5,10 +5,7 @@ use crate::paths::{answer_child, answer_first, answer_path, path_of};
 use crate::text::{push_bytes, say, say_lines, say_value, say_word};
 use base_types::{Bytes, List};
 use closure_fixpoint::{Analysed, analyse};
-use command_line::BODY_LIMIT;
-use daemon_cpp::{Outcome, preprocess, reserved_line};
 use job_words::{Job, read_words};
-use pp_tokens::lex;
 use std::alloc::{AllocError, Global};
 use tree_model::{CanonPath, Located, Node, Tree, TreeError, locate, read_body};
 
@@ -21,7 +18,6 @@ pub fn answer<T: Tree>(
     rest: &str,
 ) -> Result<(), Wrong> {
     match word {
-        "preprocess" => answer_outcome(alloc, out, tree, &job_of(alloc, rest)?),
         "analyse" => answer_analysis(alloc, out, tree, &job_of(alloc, rest)?),
         "locate" => answer_located(alloc, out, tree, rest),
         "node" => answer_node(out, tree, &path_of(alloc, rest.as_bytes())?),
@@ -33,7 +29,6 @@ pub fn answer<T: Tree>(
         "path" => answer_path(alloc, out, rest),
         "child" => answer_child(alloc, out, rest),
         "first" => answer_first(alloc, out, rest),
-        "reserved" => answer_reserved(alloc, out, rest),
         "reply" => answer_reply(alloc, out, rest),
         "request" => answer_request(alloc, out, rest),
         _ => Err(Wrong::Form("a word that isn't known")),
@@ -56,19 +51,6 @@ fn list_of(alloc: Global, words: &str) -> Result<List<Bytes>, AllocError> {
         list.push(Bytes::copy_of(alloc, word.as_bytes())?)?;
     }
     Ok(list)
-}
-
-fn answer_outcome<T: Tree>(
-    alloc: Global,
-    out: &mut String,
-    tree: &mut T,
-    job: &Job,
-) -> Result<(), Wrong> {
-    match preprocess(alloc, tree, job) {
-        Ok(Outcome::Text(text)) => say_lines(out, "text", text.as_slice()),
-        Ok(Outcome::Diag(words)) => say(out, "diag", words.as_slice()),
-        Err(error) => say_value(out, "error", &error),
-    }
 }
 
 fn answer_analysis<T: Tree>(
@@ -129,18 +111,4 @@ fn say_body(out: &mut String, body: &Result<Option<Bytes>, TreeError>) -> Result
         Ok(None) => say_word(out, "nothing"),
         Err(error) => say_value(out, "error", error),
     }
-}
-
-// The line of the first reserved name, where each word stands on a line of its own.
-fn answer_reserved(alloc: Global, out: &mut String, words: &str) -> Result<(), Wrong> {
-    let mut body = String::new(alloc);
-    for word in words.split_whitespace() {
-        writeln!(body, "{word}")?;
-    }
-    if body.len() > BODY_LIMIT {
-        return Err(Wrong::Form("its words have more than 16777216 bytes"));
-    }
-    let lexed = lex(alloc, body.as_bytes(), false)?;
-    let tokens = lexed.tokens(0, lexed.tokens_before(lexed.line_count()));
-    say_value(out, "line", &reserved_line(tokens))
 }

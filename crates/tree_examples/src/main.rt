@@ -30,9 +30,8 @@ The tree, its nodes in order of the bytes of their paths:
   fail NUMBER                 this call of the tree fails, counted from 1
 
 Questions about the tree:
-  preprocess DIR WORD..       the text of the job of these compile words in a
-                              directory, or its diagnostic
-  analyse DIR WORD..          the request of the job, or why there is none
+  analyse DIR WORD..          the request of the job of these compile words in
+                              a directory, or why there is none
   locate DIR TEXT             the place and the file that a text locates from a
                               directory, and the nodes walked
   node PATH                   what stands there
@@ -46,8 +45,6 @@ Other questions:
   path TEXT                   a path, its parent, and its parent's spelling
   child PATH NAME             the path of a name in a directory
   first TEXT                  a path that may be the first of a tree
-  reserved WORD..             the line of the first reserved name, where each
-                              word is an identifier on a line of its own
   reply BYTES                 the verdict on a reply, its answer, and the reply
                               that is written of the answer
   request BYTES               the verdicts on a request that comes byte by byte,

@@ -34,13 +34,13 @@ pub const RUNS: [Run<'static>; 4] = [
         ..JOB
     },
     Run {
-        name: "a source that is not built is not sent",
+        name: "a source that is not simple is not sent",
         files: &[Placed {
             path: "/w/a.c",
-            body: "#define X 1\n",
+            body: "#define X 1\n#include X\n",
         }],
         status: 1,
-        report: "job 0 diag local A8\n/w/a.c:1: error: not built\n\
+        report: "job 0 diag local A8\n/w/a.c:2: error: no header name\n\
                  jobs 1 remote 0 local 1 broken 0\n",
         ..JOB
     },

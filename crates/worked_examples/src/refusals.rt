@@ -94,10 +94,10 @@ pub const RUNS: [Run<'static>; 15] = [
         ..JOB
     },
     Run {
-        name: "an option that defines a macro",
-        list: "/w -DX=1 a.c\n",
+        name: "an option that defines no macro",
+        list: "/w -D1x a.c\n",
         status: 3,
-        report: "pump: list 1: words 3\n",
+        report: "pump: list 1: words 5\n",
         ..JOB
     },
     Run {

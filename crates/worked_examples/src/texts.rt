@@ -2,7 +2,7 @@
 use crate::example::{JOB, Placed, Run};
 use crate::header::{HEADER, RECEIVED, SENT, TEXT};
 
-pub const RUNS: [Run<'static>; 7] = [
+pub const RUNS: [Run<'static>; 8] = [
     Run {
         name: "an empty source",
         files: &[Placed {
@@ -76,6 +76,17 @@ pub const RUNS: [Run<'static>; 7] = [
                NAME00000006/w/a.cFILE0000000f#include \"b.h\"\nNAME00000006/w/b.hFILE00000007int b;\n",
         received: "DONE00000103STAT00000000SERR00000000DOTI00000032\
                    # 1 \"/w/a.c\"\n# 1 \"/w/b.h\" 1\nint b;\n# 2 \"/w/a.c\" 2\n",
+        ..JOB
+    },
+    Run {
+        name: "a source with a macro is local",
+        list: "/w a.c -DX=Y\n",
+        files: &[Placed {
+            path: "/w/a.c",
+            body: "#define Y 1\nint a = X;\n",
+        }],
+        report: "job 0 text 25 local A8\njobs 1 remote 0 local 1 broken 0\n",
+        text: "# 1 \"/w/a.c\"\n\nint a = 1;\n",
         ..JOB
     },
     Run {
