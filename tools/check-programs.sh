@@ -18,7 +18,7 @@ build() {
     fi
 }
 
-examples='token_examples expansion_examples choice_examples condition_examples frame_examples tree_examples'
+examples='token_examples expansion_examples choice_examples condition_examples frame_examples job_texts tree_examples'
 for program in pump_program pumpd lex_program tree_program expand_program share_program $examples; do
     build $program
 done
@@ -126,6 +126,7 @@ list 3 'pump: list 1: words 1' 'list line 1: no source (words 1)' '/w -c\n'
 list 3 'pump: list 1: words 2' "list line 1: 'b.c': a second source (words 2)" '/w -I i a.c b.c -O2\n'
 list 3 'pump: list 1: words 3' "list line 1: '-q': unknown option (words 3)" '/w -I -q a.c -q -z\n'
 list 3 'pump: list 1: words 4' "list line 1: '-I': no operand (words 4)" '/w -I i a.c -I\n'
+list 3 'pump: list 1: words 5' "list line 1: '-D1x': no macro (words 5)" '/w -DX -D1x a.c -UX\n'
 list 3 'pump: list 1: words 7' "list line 1: 'w': no working directory (words 7)" 'w a.c\n'
 try 4 'pump: list read fault' 'pump_program: standard input: Is a directory*' src "$pump" order - --hosts localhost -j 1
 
