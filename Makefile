@@ -1,7 +1,7 @@
 # make demo     builds the programs, does two jobs on the C files of examples/hello and of examples/options, and sends the
 #               daemon's program a stored request
-# make check    the gate: all proofs, edits that must fail, tests and programs; then each header of the host is lexed twice,
-#               walks in random trees are compared with the host's own, conditions with gcc's, and the programs are tried with
+# make check    the gate: all proofs, edits that must fail, tests and programs; then each header of the host is lexed twice and
+#               preprocessed as gcc does, walks in random trees are compared with the host's own, conditions with gcc's, and the programs are tried with
 #               what is wrong
 # make bench    measures the programs, most beside gcc and tcc: docs/PERFORMANCE.md
 .PHONY: demo check bench

@@ -1,5 +1,6 @@
 #!/bin/sh
-# Lexes each header of the host again from its tokens. It ends with 1 where one differs or isn't read.
+# Lexes each header of the host again from its tokens, and compares what preprocessing makes of each with GCC's. It ends with 1 where
+# one differs or isn't read.
 cd "$(dirname "$0")/.." || exit 1
 list=out/headers
 mkdir -p out
@@ -16,4 +17,13 @@ tr '\n' '\0' < $list | xargs -0 crates/lex_program/out/lex_program again > out/h
 status=$?
 grep -v ' same$' out/headers.log
 echo "$(grep -c ' same$' out/headers.log) of $(wc -l < $list) headers have the same tokens again"
-[ $status -eq 0 ]
+[ $status -eq 0 ] || exit 1
+if ! command -v gcc > /dev/null; then
+    echo "no gcc to compare preprocessing with"
+    exit 0
+fi
+if ! (cd crates/pump_program && rt run -- --version) > out/pump_program.log 2>&1; then
+    cat out/pump_program.log
+    exit 1
+fi
+python3 tools/check-preprocessing.py crates/pump_program/out/pump_program
