@@ -1,0 +1,7 @@
+-- The sheet of a file: what it may ask for and define, whatever its conditionals say.
+--     Sheet      the sheet of a visit
+--     Stored     the sheet that stored parts are, and how it grows piece by piece
+--     Laws       the place of a located file leads to it from the root
+pub mod Sheet
+pub mod Stored
+pub mod Laws

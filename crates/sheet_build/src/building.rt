@@ -1,0 +1,103 @@
+// How sheets are built.
+ghost use Rattle.std.specs.Prelude.{◌≡◌, ◌≤◌, ◌+◌, length, nat_le, true, IfOk, IfSome, IsErrOf};
+ghost use Rattle.std.specs.Option.{ForSome};
+ghost use Rattle.base_types.specs.Causes.{HasCause};
+ghost use Rattle.pp_tokens.specs.Lines.{lexed};
+ghost use Rattle.directive_scan.specs.Directives as scanning;
+ghost use Rattle.tree_model.specs.Bodies.{body_within};
+ghost use Rattle.tree_model.specs.Trees.{body_limit};
+ghost use Rattle.search_path.specs.Search.{search};
+ghost use Rattle.sheet_build.specs.Sheet.{sheet_of, sheet_from, body_of_place, IsLargeAt};
+ghost use Rattle.sheet_build.specs.Stored.{sheet_of_parts};
+
+use crate::directives::add_piece;
+use crate::sheets::{Parts, Sheet};
+use base_types::Bytes;
+use directive_scan::Pieces;
+use pp_tokens::lex;
+use search_path::{Setup, Visit};
+use std::alloc::Global;
+use tree_model::{CanonPath, Tree, TreeError, locate, read_body};
+
+/// The sheet of a visit: its place is located from the root, and the file's directives are read. Where its place isn't a file
+/// the sheet is empty. `Large` comes just where the file has more than 16,777,216 bytes. The file is read at most once.
+pub fn sheet<T: Tree>(
+    alloc: Global,
+    tree: &mut T,
+    setup: &Setup,
+    visit: &Visit,
+) -> Result<Sheet, TreeError>
+    ensures same { T.told tree.new ≡ T.told tree.old }
+    ensures sheet { ForSome (T.told tree.old) (λ told. IfOk result (λ sheet. sheet ≡ sheet_of told setup.now visit.now)) }
+    ensures large { ForSome (T.told tree.old) (λ told. IsErrOf result TreeError.Large → IsLargeAt told visit.now) }
+    ensures small { ForSome (T.told tree.old) (λ told. IfOk result (λ _sheet. nat_le (length (body_of_place told visit.now.place)) body_limit ≡ true)) }
+    ensures cause { HasCause TreeError.Fault (T.faults tree.old) (T.faults tree.new) result }
+    ensures one_read { T.reads tree.new ≤ T.reads tree.old + 1 }
+{
+    let Some(body) = body_at(alloc, tree, &visit.place)? else {
+        return Err(TreeError::Large);
+    };
+    let parts = parts_of_body(alloc, tree, setup, visit, body.as_slice())?;
+    Ok(Sheet::new(alloc, parts)?)
+}
+
+// The bytes of the file that a place leads to, none where there is none; None where they are too many.
+fn body_at<T: Tree>(
+    alloc: Global,
+    tree: &mut T,
+    place: &CanonPath,
+) -> Result<Option<Bytes>, TreeError>
+    ensures same { T.told tree.new ≡ T.told tree.old }
+    ensures body { ForSome (T.told tree.old) (λ told. IfOk result (λ body. body ≡ body_within (body_of_place told place.now))) }
+    ensures within { IfOk result (λ body. IfSome body (λ bytes. length bytes ≤ 16777216)) }
+    ensures never_large { IsErrOf result TreeError.Large → ⊥ }
+    ensures cause { HasCause TreeError.Fault (T.faults tree.old) (T.faults tree.new) result }
+    ensures one_read { T.reads tree.new ≤ T.reads tree.old + 1 }
+{
+    let root = CanonPath::root(alloc)?;
+    match locate(alloc, tree, &root, place.bytes())? {
+        Some(located) => read_body(alloc, tree, &located.real),
+        None => Ok(Some(Bytes::new(alloc))),
+    }
+}
+
+// What is kept of a file with these bytes.
+fn parts_of_body<T: Tree>(
+    alloc: Global,
+    tree: &mut T,
+    setup: &Setup,
+    visit: &Visit,
+    body: &[u8],
+) -> Result<Parts, TreeError>
+    requires { length body.now ≤ 16777216 }
+    ensures same { T.told tree.new ≡ T.told tree.old }
+    ensures parts { ForSome (T.told tree.old) (λ told. IfOk result (λ parts. sheet_of_parts parts ≡ sheet_from (search told setup.now) visit.now (scanning.pieces (lexed setup.now.trigraphs body.now).lines))) }
+    ensures cause { HasCause TreeError.Fault (T.faults tree.old) (T.faults tree.new) result }
+    ensures never_large { IsErrOf result TreeError.Large → ⊥ }
+    ensures no_read { T.reads tree.new ≡ T.reads tree.old }
+{
+    let lexed = lex(alloc, body, setup.trigraphs())?;
+    let pieces = Pieces::of(alloc, lexed)?;
+    parts_of_pieces(alloc, tree, setup, visit, &pieces)
+}
+
+// What is kept of a file with these pieces.
+fn parts_of_pieces<T: Tree>(
+    alloc: Global,
+    tree: &mut T,
+    setup: &Setup,
+    visit: &Visit,
+    pieces: &Pieces,
+) -> Result<Parts, TreeError>
+    ensures same { T.told tree.new ≡ T.told tree.old }
+    ensures parts { ForSome (T.told tree.old) (λ told. IfOk result (λ parts. sheet_of_parts parts ≡ sheet_from (search told setup.now) visit.now pieces.now)) }
+    ensures cause { HasCause TreeError.Fault (T.faults tree.old) (T.faults tree.new) result }
+    ensures never_large { IsErrOf result TreeError.Large → ⊥ }
+    ensures no_read { T.reads tree.new ≡ T.reads tree.old }
+{
+    let mut parts = Parts::new(alloc);
+    for number in 0..pieces.len() {
+        add_piece(alloc, tree, setup, visit, pieces.piece(number), &mut parts)?;
+    }
+    Ok(parts)
+}

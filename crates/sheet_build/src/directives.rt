@@ -1,0 +1,88 @@
+// What directives add to a sheet (ISO C 6.10).
+ghost use Rattle.std.specs.Prelude.{◌≡◌, ℕ, ◌∷◌, [], OnOk, IsErrOf};
+ghost use Rattle.std.specs.List.{cons_option};
+ghost use Rattle.std.specs.Option.{ForSome};
+ghost use Rattle.base_types.specs.Causes.{HasCause};
+ghost use Rattle.directive_scan.specs.Spots.{piece_seen};
+ghost use Rattle.directive_scan.specs.declared.Piece.TheVariants.{Line};
+ghost use Rattle.macro_defs.specs.Defining.{defined_by};
+ghost use Rattle.sheet_build.specs.Sheet.{accepted};
+ghost use Rattle.sheet_build.specs.Stored.{sheet_of_parts, with_definitions, Adds};
+
+use crate::sheets::Parts;
+use crate::targets::{add_include, add_probes};
+use directive_scan::{Directive, PieceRef};
+use macro_defs::{DefineError, read_define};
+use pp_tokens::Token;
+use search_path::{Setup, Visit};
+use std::alloc::Global;
+use tree_model::{Tree, TreeError};
+
+// A piece of a file. The tokens of text aren't read, those of a directive are made here.
+pub fn add_piece<T: Tree>(
+    alloc: Global,
+    tree: &mut T,
+    setup: &Setup,
+    visit: &Visit,
+    piece: PieceRef<'_>,
+    parts: &mut Parts,
+) -> Result<(), TreeError>
+    ensures same { T.told tree.new ≡ T.told tree.old }
+    ensures adds { ForSome (T.told tree.old) (λ told. OnOk result (Adds told setup.now visit.now (piece_seen piece.entry ∷ []) parts.old parts.new)) }
+    ensures cause { HasCause TreeError.Fault (T.faults tree.old) (T.faults tree.new) result }
+    ensures never_large { IsErrOf result TreeError.Large → ⊥ }
+    ensures no_read { T.reads tree.new ≡ T.reads tree.old }
+{
+    match piece {
+        PieceRef::Run(_) => Ok(()),
+        PieceRef::Line { at: _, what } => {
+            let what = what.read(alloc)?;
+            add_directive(alloc, tree, setup, visit, what, parts)
+        }
+    }
+}
+
+// A directive, on whatever line.
+fn add_directive<T: Tree>(
+    alloc: Global,
+    tree: &mut T,
+    setup: &Setup,
+    visit: &Visit,
+    what: Directive,
+    parts: &mut Parts,
+) -> Result<(), TreeError>
+    ensures same { T.told tree.new ≡ T.told tree.old }
+    ensures adds { ForSome (T.told tree.old) (λ told. OnOk result ((at : ℕ) → Adds told setup.now visit.now (Line at what ∷ []) parts.old parts.new)) }
+    ensures cause { HasCause TreeError.Fault (T.faults tree.old) (T.faults tree.new) result }
+    ensures never_large { IsErrOf result TreeError.Large → ⊥ }
+    ensures no_read { T.reads tree.new ≡ T.reads tree.old }
+{
+    match what {
+        Directive::Include(target) => add_include(alloc, tree, setup, visit, false, target, parts),
+        Directive::Next(target) => add_include(alloc, tree, setup, visit, true, target, parts),
+        Directive::Define(tokens) => add_definition(alloc, tokens.as_slice(), parts),
+        Directive::If(tokens) => add_probes(alloc, tree, setup, visit, tokens.as_slice(), parts),
+        Directive::Elif(tokens) => add_probes(alloc, tree, setup, visit, tokens.as_slice(), parts),
+        Directive::Line(_) => {
+            parts.has_line = true;
+            Ok(())
+        }
+        _ => Ok(()),
+    }
+}
+
+// A `#define`: one that is refused adds nothing.
+fn add_definition(alloc: Global, tokens: &[Token], parts: &mut Parts) -> Result<(), TreeError>
+    ensures adds { OnOk result (sheet_of_parts parts.new ≡ with_definitions (cons_option (accepted (defined_by tokens.now)) []) (sheet_of_parts parts.old)) }
+    ensures no_fault { IsErrOf result TreeError.Fault → ⊥ }
+    ensures never_large { IsErrOf result TreeError.Large → ⊥ }
+{
+    match read_define(alloc, tokens) {
+        Ok(definition) => {
+            parts.defs.push(definition)?;
+            Ok(())
+        }
+        Err(DefineError::Memory) => Err(TreeError::Memory),
+        Err(_) => Ok(()),
+    }
+}

@@ -1,0 +1,16 @@
+//! The sheet of a file: what it may ask for and define, found from its directives alone, whatever its conditionals say.
+#![tactic(auto)]
+
+mod building;
+mod computed;
+mod directives;
+mod laws;
+mod sheets;
+mod targets;
+#[cfg(test)]
+mod tests;
+
+pub use building::sheet;
+pub use computed::Computed;
+pub use laws::places_locate;
+pub use sheets::Sheet;
