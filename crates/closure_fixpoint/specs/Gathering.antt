@@ -1,61 +1,22 @@
--- The parts of an analysis: the files that are found, the paths of their nodes, their entries, and the request.
-use Rattle.std.specs.Prelude.{◌≡◌, ◌⊎◌, All, Bool, true, false, not, ◌&&◌, ◌≤◌, List, [], ◌∷◌, ◌++◌, length, cond, nat_lt, Option, None, Some, Result, Ok, Err}
-use Rattle.std.specs.List.{list_any, list_all, filter_map, flat_map}
-use Rattle.std.specs.Option.{option_map}
+-- The parts of a request: the paths of the nodes of files, and their entries.
+use Rattle.std.specs.Prelude.{◌≡◌, ◌⊎◌, ◌<◌, ℕ, ◌+◌, All, IsTrue, Bool, true, false, not, ◌&&◌, ◌||◌, ◌≤◌, List, [], ◌∷◌, ◌++◌, length, cond, nat_lt, Option, None, Some}
+use Rattle.std.specs.List.{list_all, flat_map}
 use Rattle.base_types.specs.Members.{Member}
 use Rattle.tree_model.specs.Paths.{Text, Path, spelled}
-use Rattle.tree_model.specs.Entries.{Entries, IsLinkText, below}
-use Rattle.tree_model.specs.Trees.{FileTree, entry_at, body_limit, IsTooLarge}
+use Rattle.tree_model.specs.Entries.{Entries, Increasing, IsLinkText, below, has_parent, makes_tree}
+use Rattle.tree_model.specs.Trees.{FileTree, entry_at, body_limit}
 use Rattle.tree_model.specs.declared.walk.Located.{Located}
 use Rattle.tree_model.specs.declared.entry.Entry.{Entry}
 use Rattle.tree_model.specs.declared.entry.Entry.TheVariants.{Dir, File, Link}
-use Rattle.search_path.specs.SetupOf.{SetupData}
 use Rattle.search_path.specs.Search.{Hit}
 use Rattle.search_path.specs.declared.asking.Visit.{Visit}
-use Rattle.job_words.specs.declared.job.Job.{Job}
+use Rattle.search_path.specs.declared.asking.Ask.{Ask}
+use Rattle.sheet_build.specs.Sheet.{SheetData}
+use Rattle.job_words.specs.JobOf.{JobData}
 use Rattle.job_frames.specs.Request.{HasSpelling, request_bytes, most}
-use Rattle.pp_tokens.specs.Lines.{LexedFile}
-use Rattle.directive_scan.specs.declared.Piece.{Piece}
-use Rattle.directive_scan.specs.Directives.{pieces}
-use Rattle.closure_fixpoint.specs.Simple.{name_asked, asks, pieces_of, has_reserved, is_next_or_unquoted, is_simple, is_flat}
-use Rattle.closure_fixpoint.specs.declared.job_analysis.Refusal.{Refusal}
 use Rattle.closure_fixpoint.specs.declared.job_analysis.Refusal.TheVariants as refusal
-use Rattle.closure_fixpoint.specs.declared.job_analysis.Analysed.{Analysed}
-use Rattle.closure_fixpoint.specs.declared.job_analysis.Analysed.TheVariants as analysed
-use Rattle.closure_fixpoint.specs.Analysis.{body_found, target_of, targets_of, is_unbuilt}
-
--- ---- the files ----
-
--- the pieces of a file that is taken so far
-unfoldable pub simple_of : Text → Option (List Piece)
-simple_of body = cond (is_simple body) (Some (pieces_of body)) None
-
--- the same, by the tokens of the file
-abbrev pub taken_pieces : LexedFile → Option (List Piece)
-taken_pieces file = cond (not (has_reserved file) && not (list_any is_next_or_unquoted (pieces file.lines))) (Some (pieces file.lines)) None
-
--- pieces of which none asks for a name
-abbrev pub is_flat_file : Option (List Piece) → Bool
-is_flat_file None = false
-is_flat_file (Some pieces) = not (list_any asks pieces)
-
--- the files that pieces of a file ask for, where they are found
-abbrev pub targets_from : FileTree → SetupData → Visit → List Piece → List Located
-targets_from tree setup visit pieces = filter_map (target_of tree setup visit) (filter_map name_asked pieces)
-
--- none of the files isn't flat
-abbrev pub are_flat : FileTree → List Located → Bool
-are_flat tree files = not (list_any (λ other. not (is_flat (body_found tree other))) files)
-
--- a file and the files that its pieces ask for, or that one of these isn't flat
-abbrev pub with_targets : FileTree → SetupData → Visit → Located → List Piece → Result (List Located) Refusal
-with_targets tree setup visit file pieces =
-    cond (are_flat tree (targets_from tree setup visit pieces)) (Ok (file ∷ targets_from tree setup visit pieces)) (Err refusal.Unbuilt)
-
--- the files of a job whose source's search gave this, or why there are none
-abbrev pub files_from : FileTree → Job → Option Hit → Result (List Located) Refusal
-files_from tree job None = Err refusal.NoSource
-files_from tree job (Some hit) = cond (is_unbuilt tree job (Some hit)) (Err refusal.Unbuilt) (Ok (hit.1 ∷ targets_of tree job.setup hit))
+use Rattle.closure_fixpoint.specs.declared.entries.Gathered.{Gathered}
+use Rattle.closure_fixpoint.specs.declared.entries.Gathered.TheVariants as gathered
 
 -- ---- the nodes ----
 
@@ -70,6 +31,20 @@ all_upward paths = flat_map upward paths
 -- the nodes of files: what their searches walked, and what is above that
 abbrev pub nodes_of : List Located → List Path
 nodes_of files = flat_map (λ file. all_upward file.walked) files
+
+-- of what a search found, of all searches, of the files of visits, and of those of sheets
+abbrev pub found_nodes : Option Hit → List Path
+found_nodes None = []
+found_nodes (Some hit) = all_upward hit.1.walked
+
+abbrev pub searched_nodes : List (Ask × Option Hit) → List Path
+searched_nodes searches = flat_map (λ told. found_nodes told.1) searches
+
+abbrev pub hits_nodes : List Hit → List Path
+hits_nodes hits = flat_map (λ hit. all_upward hit.1.walked) hits
+
+abbrev pub sheets_nodes : List (Visit × SheetData) → List Path
+sheets_nodes sheets = flat_map (λ told. hits_nodes told.1.plain ++ nodes_of told.1.probes) sheets
 
 -- the order of spellings
 abbrev pub comes_before : Path → Path → Bool
@@ -96,30 +71,82 @@ each_once (path ∷ paths) = kept path paths ++ each_once paths
 
 -- ---- the entries ----
 
--- what a tree has at a path, as an entry
-abbrev pub with_path : Path → Option Entry → Option (Path × Entry)
-with_path path entry = option_map (λ e. (path, e)) entry
+-- the entries gathered of nodes: what the tree has at each whose parent is the root or a directory among them, and nothing
+-- else, in order of their paths' bytes
+pub record AreGathered (tree : FileTree) (nodes : List Path) (entries : Entries) : Type 0 where
+  pub increasing : Increasing entries
+  pub inside : (path : Path) (entry : Entry) → Member (path, entry) entries → Member path nodes
+  pub parents : (path : Path) (entry : Entry) → Member (path, entry) entries → IsTrue (has_parent entries path)
+  pub same : (path : Path) (entry : Entry) → Member (path, entry) entries → entry_at tree path ≡ Some entry
+  pub whole : (path : Path) (entry : Entry) → Member path nodes → entry_at tree path ≡ Some entry → IsTrue (has_parent entries path) → Member (path, entry) entries
 
-abbrev pub entries_at : FileTree → List Path → Entries
-entries_at tree paths = filter_map (λ path. with_path path (entry_at tree path)) paths
+-- a file among entries has more bytes than are read
+abbrev pub HasLarge : Entries → Type 0
+HasLarge entries = (path : Path) × (body : Text) × Member (path, File body) entries × (body_limit < length body)
+
+-- entries are too many, or their request has too many bytes
+abbrev pub is_over : JobData → Entries → Bool
+is_over job entries = nat_lt 100000 (length entries) || nat_lt most (length (request_bytes job entries))
+
+-- what is gathered of nodes: their entries, or `Large` where a file among these is too large, else `Request` where they are
+-- over the limits
+abbrev pub IsGathered : FileTree → JobData → List Path → Gathered → Type 0
+IsGathered tree job nodes (gathered.Entries entries) =
+    AreGathered tree nodes entries.items × (HasLarge entries.items → ⊥) × (is_over job entries.items ≡ false)
+IsGathered tree job nodes (gathered.Refused refusal.Large) = (entries : Entries) × AreGathered tree nodes entries × HasLarge entries
+IsGathered tree job nodes (gathered.Refused refusal.Request) =
+    (entries : Entries) × AreGathered tree nodes entries × (HasLarge entries → ⊥) × (is_over job entries ≡ true)
+IsGathered tree job nodes (gathered.Refused _) = ⊥
+
+-- what is gathered of any tree has a request
+abbrev pub FitsRequest : JobData → Gathered → Type 0
+FitsRequest job (gathered.Entries entries) = IsTrue (makes_tree entries.items) × All HasSpelling entries.items × (is_over job entries.items ≡ false)
+FitsRequest job (gathered.Refused why) = Unit {0}
+
+-- how many files there are
+abbrev pub files_there : Option Entry → ℕ
+files_there None = 0
+files_there (Some Dir) = 0
+files_there (Some (File body)) = 1
+files_there (Some (Link text)) = 0
+
+abbrev pub files_among : Entries → ℕ
+files_among [] = 0
+files_among (e ∷ es) = files_there (Some e.1) + files_among es
+
+-- the count of reads rose by the number of files among the entries at most
+abbrev pub ReadsFiles : ℕ → ℕ → Gathered → Type 0
+ReadsFiles before now (gathered.Entries entries) = now ≤ before + files_among entries.items
+ReadsFiles before now (gathered.Refused why) = Unit {0}
+
+-- ---- how they are gathered ----
+
+-- what a tree has at a path, behind entries that have its parent
+abbrev pub with_path : Path → Option Entry → Entries
+with_path path None = []
+with_path path (Some entry) = (path, entry) ∷ []
+
+abbrev pub kept_at : FileTree → Entries → Path → Entries
+kept_at tree before path = cond (has_parent before path) (with_path path (entry_at tree path)) []
+
+-- the entries of paths in order, behind those before them
+abbrev pub gathered_from : FileTree → Entries → List Path → Entries
+gathered_from tree before [] = before
+gathered_from tree before (path ∷ paths) = gathered_from tree (before ++ kept_at tree before path) paths
+
+-- entries of some nodes, in order, with their parents
+pub record AreKept (nodes : List Path) (entries : Entries) : Type 0 where
+  pub increasing : Increasing entries
+  pub inside : (path : Path) (entry : Entry) → Member (path, entry) entries → Member path nodes
+  pub parents : (path : Path) (entry : Entry) → Member (path, entry) entries → IsTrue (has_parent entries path)
+
+-- an entry at a path was added behind entries that have its parent, or none was
+abbrev pub AddsAt : Path → Entries → Entries → Type 0
+AddsAt path before now =
+    (now ≡ before) ⊎ ((entry : Entry) × IsTrue (has_parent before path) × HasSpelling (path, entry) × (now ≡ before ++ (path, entry) ∷ []))
 
 -- a node that a request may carry
 abbrev pub IsSendable : Entry → Type 0
 IsSendable Dir = Unit {0}
 IsSendable (File body) = length body ≤ body_limit
 IsSendable (Link text) = IsLinkText text
-
--- ---- the request ----
-
--- the request of a job with these entries, where it isn't too large
-abbrev pub request_from : Job → Entries → Analysed
-request_from job entries =
-    cond (nat_lt 100000 (length entries))
-    (analysed.Refused refusal.Request)
-    (cond (nat_lt most (length (request_bytes job entries))) (analysed.Refused refusal.Request) (analysed.Request (request_bytes job entries)))
-
--- the answer of what stands at paths: that a file there is too large, or the request of the entries, which have spellings
-abbrev pub IsAnswerAt : FileTree → Job → List Path → Analysed → Type 0
-IsAnswerAt tree job paths answer =
-    ((path : Path) × Member path paths × IsTooLarge tree path × (answer ≡ analysed.Refused refusal.Large))
-    ⊎ (All HasSpelling (entries_at tree paths) × (answer ≡ request_from job (entries_at tree paths)))

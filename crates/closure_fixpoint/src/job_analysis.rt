@@ -1,18 +1,24 @@
 // The analysis of a job.
-ghost use Rattle.std.specs.Prelude.{◌≡◌, IfOk, IfSome, IsErrOf};
+ghost use Rattle.std.specs.Prelude.{◌≡◌, ℕ, Bool, IfOk, IfSome, OnOk, IsErrOf};
+ghost use Rattle.std.specs.Option.{ForSome};
 ghost use Rattle.base_types.specs.Causes.{HasCause};
+ghost use Rattle.search_path.specs.Search.{NeedsFrom};
 ghost use Rattle.closure_fixpoint.specs.Analysis.{AnalysisHolds};
+ghost use Rattle.closure_fixpoint.specs.Told.{OfSearch, OfSheet};
+ghost use Rattle.closure_fixpoint.specs.Driving.{IsOfTree, GoesOn, StepsSo, EndsSo, HasCanonicalNodes};
 
-use crate::files::files_found;
-use crate::gather::request_at;
-use crate::nodes::nodes_in_order;
+use crate::{Closure, Fixpoint, Gathered, Next, closures, gather};
 use base_types::Bytes;
+use directive_scan::HeaderName;
+use job_frames::write_request;
 use job_words::Job;
-use search_path::searches_locate;
+use search_path::{Ask, Visit, search, searches_locate};
+use sheet_build::{places_locate, sheet};
 use std::alloc::Global;
+use symbolic_expand::more_definitions;
 use tree_model::{Tree, TreeError, walked_law};
 
-/// Why an analysis is refused; the job is then done locally, and the report shows `local A1` to `local A8`.
+/// Why an analysis is refused; the job is then done locally, and the report shows `local A1` to `local A7`.
 #[derive(Clone, Copy, Debug, PartialEq, Eq, Drop)]
 pub enum Refusal {
     /// A computed include has more choices of definitions than the budget.
@@ -29,8 +35,6 @@ pub enum Refusal {
     Request,
     /// The source isn't found.
     NoSource,
-    /// Analysing the job isn't built yet: a file of it isn't simple, or its words name files to include or trigraphs.
-    Unbuilt,
 }
 
 /// What an analysis gives: the whole request of the job, or why there is none.
@@ -52,12 +56,126 @@ pub fn analyse<T: Tree>(
     ensures cause { HasCause TreeError.Fault (T.faults tree.old) (T.faults tree.new) result }
     ensures never_large { IsErrOf result TreeError.Large → ⊥ }
 {
+    closures();
+    places_locate();
     walked_law();
     searches_locate();
-    let files = match files_found(alloc, tree, job)? {
-        Ok(files) => files,
-        Err(refusal) => return Ok(Analysed::Refused(refusal)),
+    more_definitions::<HeaderName>();
+    let closure = match ending_of(alloc, tree, job, budget)? {
+        Ending::Done(closure) => closure,
+        Ending::Refused(refusal) => return Ok(Analysed::Refused(refusal)),
     };
-    let nodes = nodes_in_order(alloc, files.as_slice())?;
-    request_at(alloc, tree, job, &nodes)
+    let entries = match gather(alloc, tree, job, &closure)? {
+        Gathered::Entries(entries) => entries,
+        Gathered::Refused(refusal) => return Ok(Analysed::Refused(refusal)),
+    };
+    Ok(Analysed::Request(write_request(alloc, job, &entries)?))
+}
+
+// How an analysis ends: with the closure, or with why it is refused.
+#[derive(Drop)]
+enum Ending {
+    Done(Closure),
+    Refused(Refusal),
+}
+
+// Asks and answers to the end.
+fn ending_of<T: Tree>(
+    alloc: Global,
+    tree: &mut T,
+    job: &Job,
+    budget: u32,
+) -> Result<Ending, TreeError>
+    ensures same { T.told tree.new ≡ T.told tree.old }
+    ensures ends { ForSome (T.told tree.old) (λ told. IfOk result (EndsSo told job.now budget)) }
+    ensures canonical { IfOk result HasCanonicalNodes }
+    ensures cause { HasCause TreeError.Fault (T.faults tree.old) (T.faults tree.new) result }
+    ensures never_large { IsErrOf result TreeError.Large → ⊥ }
+{
+    let mut analysis = Fixpoint::new(alloc, job, budget)?;
+    for _ in 0..u64::MAX {
+        match step(alloc, tree, job, &mut analysis) {
+            Ok(None) => (),
+            Ok(Some(ending)) => return Ok(ending),
+            Err(error) => return Err(error),
+        }
+    }
+    Err(TreeError::Memory)
+}
+
+// One question with its answer, or the end.
+fn step<T: Tree>(
+    alloc: Global,
+    tree: &mut T,
+    job: &Job,
+    analysis: &mut Fixpoint,
+) -> Result<Option<Ending>, TreeError>
+    ensures same { T.told tree.new ≡ T.told tree.old }
+    ensures steps { ForSome (T.told tree.old) (λ told. IfOk result (λ end. (budget : ℕ) → GoesOn told job.now budget analysis.old → StepsSo told job.now budget analysis.new end)) }
+    ensures canonical { IfOk result (λ end. IfSome end HasCanonicalNodes) }
+    ensures cause { HasCause TreeError.Fault (T.faults tree.old) (T.faults tree.new) result }
+    ensures never_large { IsErrOf result TreeError.Large → ⊥ }
+{
+    match analysis.next() {
+        Next::Search(ask) => match answer_search(alloc, tree, job, &ask, analysis) {
+            Ok(()) => Ok(None),
+            Err(error) => Err(error),
+        },
+        Next::Sheet(visit) => match answer_sheet(alloc, tree, job, &visit, analysis) {
+            Ok(()) => Ok(None),
+            Err(error) => Err(error),
+        },
+        Next::Done(closure) => Ok(Some(Ending::Done(closure))),
+        Next::Refused(refusal) => Ok(Some(Ending::Refused(refusal))),
+        Next::Memory => Err(TreeError::Memory),
+    }
+}
+
+// Answers the search that is asked for.
+fn answer_search<T: Tree>(
+    alloc: Global,
+    tree: &mut T,
+    job: &Job,
+    ask: &Ask,
+    analysis: &mut Fixpoint,
+) -> Result<(), TreeError>
+    requires { NeedsFrom ask.now.form ask.now.from }
+    ensures same { T.told tree.new ≡ T.told tree.old }
+    ensures told { ForSome (T.told tree.old) (λ told. OnOk result ((budget : ℕ) (include : Bool) → analysis.old.pending ≡ OfSearch ask.now include → IsOfTree told job.now budget analysis.old → GoesOn told job.now budget analysis.new)) }
+    ensures cause { HasCause TreeError.Fault (T.faults tree.old) (T.faults tree.new) result }
+    ensures never_large { IsErrOf result TreeError.Large → ⊥ }
+{
+    match search(alloc, tree, job.setup(), ask) {
+        Ok(got) => {
+            analysis.put_search(got);
+            Ok(())
+        }
+        Err(error) => Err(error),
+    }
+}
+
+// Answers the sheet that is asked for.
+fn answer_sheet<T: Tree>(
+    alloc: Global,
+    tree: &mut T,
+    job: &Job,
+    visit: &Visit,
+    analysis: &mut Fixpoint,
+) -> Result<(), TreeError>
+    ensures same { T.told tree.new ≡ T.told tree.old }
+    ensures told { ForSome (T.told tree.old) (λ told. OnOk result ((budget : ℕ) → analysis.old.pending ≡ OfSheet visit.now → IsOfTree told job.now budget analysis.old → GoesOn told job.now budget analysis.new)) }
+    ensures cause { HasCause TreeError.Fault (T.faults tree.old) (T.faults tree.new) result }
+    ensures never_large { IsErrOf result TreeError.Large → ⊥ }
+{
+    match sheet(alloc, tree, job.setup(), visit) {
+        Ok(got) => {
+            analysis.put_sheet(got);
+            Ok(())
+        }
+        Err(TreeError::Large) => {
+            analysis.put_large();
+            Ok(())
+        }
+        Err(error) => Err(error),
+    }
 }

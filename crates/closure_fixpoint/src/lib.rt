@@ -2,10 +2,21 @@
 //! the request that carries just these.
 #![tactic(auto)]
 
-mod files;
-mod gather;
+mod entries;
+mod fixpoint;
 mod job_analysis;
+mod law;
+mod lengths;
+mod naming;
 mod nodes;
-mod simple;
+mod plan;
+mod searches;
+mod targets;
+mod visits;
+mod wanting;
+mod worklist;
 
+pub use entries::{Gathered, gather};
+pub use fixpoint::{Closure, Fixpoint, Next};
 pub use job_analysis::{Analysed, Refusal, analyse};
+pub use law::{closures, gathered_are_sent};

@@ -1,36 +1,138 @@
 // The paths of a job's nodes.
-ghost use Rattle.std.specs.Prelude.{◌≡◌, ◌++◌, ◌↔◌, IfOk, OnOk, All, IsTrue};
+ghost use Rattle.std.specs.Prelude.{◌≡◌, ◌++◌, ◌∷◌, [], ◌↔◌, IfOk, OnOk, All, IsTrue};
 ghost use Rattle.std.specs.Ordering.{nat_cmp};
 ghost use Rattle.std.specs.Cmp.Lexicographic.{slice_cmp};
 ghost use Rattle.base_types.specs.Members.{Member};
 ghost use Rattle.tree_model.specs.Paths.{Path, IsCanonical, spelled};
 ghost use Rattle.closure_fixpoint.specs.Gathering as gathering;
-ghost use Rattle.closure_fixpoint.specs.Gathering.{upward, all_upward, kept, are_rising};
+ghost use Rattle.closure_fixpoint.specs.Progress.{located_told};
+ghost use Rattle.closure_fixpoint.specs.Targets.{heard_of};
+ghost use Rattle.closure_fixpoint.specs.Told.{AreNodesOf};
+ghost use Rattle.closure_fixpoint.specs.Gathering.{upward, all_upward, found_nodes, searched_nodes, hits_nodes, sheets_nodes, kept, are_rising};
 
+use crate::searches::Searches;
+use search_path::Visit;
+use sheet_build::Sheet;
 use std::alloc::{AllocError, Global};
 use std::cmp::Ordering;
 use tree_model::{CanonPath, Located, spellings_are_apart};
 
-// The nodes of files, without the root, each once, in order of their spellings' bytes.
-pub fn nodes_in_order(alloc: Global, files: &[Located]) -> Result<Vec<CanonPath>, AllocError>
+// The nodes of all files that searches found, and of those that sheets have, without the root, each once, in order of their
+// spellings' bytes.
+pub fn nodes_told(
+    alloc: Global,
+    searches: &Searches,
+    sheets: &[(Visit, Sheet)],
+) -> Result<Vec<CanonPath>, AllocError>
+    ensures are { IfOk result (λ nodes. AreNodesOf (located_told (heard_of searches.now sheets.now)) nodes.items) }
     ensures rising { IfOk result (λ nodes. IsTrue (are_rising nodes.items)) }
-    ensures same { IfOk result (λ nodes. (path : Path) → Member path nodes.items ↔ Member path (gathering.nodes_of files.now)) }
-    ensures canonical { IfOk result (λ nodes. All IsCanonical nodes.items) }
-{
-    sorted(alloc, nodes_of(alloc, files)?)
-}
-
-// The nodes of files, without the root, each as often as it was walked or stands above one that was: a walk of n nodes
-// gives at most the sum of their depths.
-fn nodes_of(alloc: Global, files: &[Located]) -> Result<Vec<CanonPath>, AllocError>
-    ensures nodes { IfOk result (λ nodes. nodes.items ≡ gathering.nodes_of files.now) }
     ensures canonical { IfOk result (λ nodes. All IsCanonical nodes.items) }
 {
     let mut nodes = Vec::new(alloc);
-    for file in files {
-        add_walked(alloc, file.walked.as_slice(), &mut nodes)?;
+    add_searched(alloc, searches, &mut nodes)?;
+    add_sheets(alloc, sheets, &mut nodes)?;
+    sorted(alloc, nodes)
+}
+
+// Paths, each once, in order of their spellings' bytes.
+pub fn in_order(alloc: Global, paths: &[CanonPath]) -> Result<Vec<CanonPath>, AllocError>
+    ensures rising { IfOk result (λ nodes. IsTrue (are_rising nodes.items)) }
+    ensures same { IfOk result (λ nodes. (path : Path) → Member path nodes.items ↔ Member path paths.now) }
+    ensures canonical { IfOk result (λ nodes. All IsCanonical nodes.items) }
+{
+    sorted(alloc, copies(alloc, paths)?)
+}
+
+fn copies(alloc: Global, paths: &[CanonPath]) -> Result<Vec<CanonPath>, AllocError>
+    ensures items { IfOk result (λ copies. copies.items ≡ paths.now) }
+    ensures canonical { IfOk result (λ copies. All IsCanonical copies.items) }
+{
+    let mut copies = Vec::new(alloc);
+    for path in paths {
+        add_copy(alloc, path, &mut copies)?;
     }
-    Ok(nodes)
+    Ok(copies)
+}
+
+fn add_copy(alloc: Global, path: &CanonPath, copies: &mut Vec<CanonPath>) -> Result<(), AllocError>
+    ensures items { OnOk result (copies.new.items ≡ copies.old.items ++ path.now ∷ []) }
+    ensures canonical { IsCanonical path.now }
+{
+    let _spelling = path.bytes();
+    copies.push(path.copy(alloc)?)?;
+    Ok(())
+}
+
+// Adds the nodes of the files that searches found, each as often as it was walked or stands above one that was.
+fn add_searched(
+    alloc: Global,
+    searches: &Searches,
+    nodes: &mut Vec<CanonPath>,
+) -> Result<(), AllocError>
+    ensures nodes { OnOk result (nodes.new.items ≡ nodes.old.items ++ searched_nodes searches.now) }
+    ensures canonical { OnOk result (All IsCanonical nodes.old.items → All IsCanonical nodes.new.items) }
+{
+    for number in 0..searches.len() {
+        add_found(alloc, searches.found_by(number), nodes)?;
+    }
+    Ok(())
+}
+
+// Adds the nodes of what a search found.
+fn add_found(
+    alloc: Global,
+    found: &Option<(Visit, Located)>,
+    nodes: &mut Vec<CanonPath>,
+) -> Result<(), AllocError>
+    ensures nodes { OnOk result (nodes.new.items ≡ nodes.old.items ++ found_nodes found.now) }
+    ensures canonical { OnOk result (All IsCanonical nodes.old.items → All IsCanonical nodes.new.items) }
+{
+    match found {
+        None => Ok(()),
+        Some((_, located)) => add_walked(alloc, located.walked.as_slice(), nodes),
+    }
+}
+
+// Adds the nodes of the files of sheets.
+fn add_sheets(
+    alloc: Global,
+    sheets: &[(Visit, Sheet)],
+    nodes: &mut Vec<CanonPath>,
+) -> Result<(), AllocError>
+    ensures nodes { OnOk result (nodes.new.items ≡ nodes.old.items ++ sheets_nodes sheets.now) }
+    ensures canonical { OnOk result (All IsCanonical nodes.old.items → All IsCanonical nodes.new.items) }
+{
+    for told in sheets {
+        add_hits(alloc, told.1.plain(), nodes)?;
+        add_files(alloc, told.1.probes(), nodes)?;
+    }
+    Ok(())
+}
+
+// Adds the nodes of the files of visits.
+fn add_hits(
+    alloc: Global,
+    hits: &[(Visit, Located)],
+    nodes: &mut Vec<CanonPath>,
+) -> Result<(), AllocError>
+    ensures nodes { OnOk result (nodes.new.items ≡ nodes.old.items ++ hits_nodes hits.now) }
+    ensures canonical { OnOk result (All IsCanonical nodes.old.items → All IsCanonical nodes.new.items) }
+{
+    for hit in hits {
+        add_walked(alloc, hit.1.walked.as_slice(), nodes)?;
+    }
+    Ok(())
+}
+
+// Adds the nodes of files.
+fn add_files(alloc: Global, files: &[Located], nodes: &mut Vec<CanonPath>) -> Result<(), AllocError>
+    ensures nodes { OnOk result (nodes.new.items ≡ nodes.old.items ++ gathering.nodes_of files.now) }
+    ensures canonical { OnOk result (All IsCanonical nodes.old.items → All IsCanonical nodes.new.items) }
+{
+    for file in files {
+        add_walked(alloc, file.walked.as_slice(), nodes)?;
+    }
+    Ok(())
 }
 
 // Adds paths and what is above them.

@@ -1,0 +1,151 @@
+-- The nodes gathered of what was told are those of its located files.
+use Rattle.std.proofs.Common.{◌≡◌, ◌<◌, ◌+◌, ℕ, zero, suc, length, drop, arith, add-one, ◌++◌, ◌∷◌, [], List, Option, None, Some, Bool, true, false, ◌&&◌, inl, inr, refl, sym, ◌∙◌, ap, subst, map, append_assoc}
+use Rattle.std.specs.Prelude.{IsTrue, IfSome, IfOk, Result, Ok, Err, ◌↔◌}
+use Rattle.std.specs.List.{list_all, flat_map, slice_get}
+use Rattle.base_types.specs.Members.{Member, EachOnce}
+use Rattle.tree_model.specs.Paths.{Path, IsAtOrAbove}
+use Rattle.tree_model.specs.declared.walk.Located.{Located}
+use Rattle.search_path.specs.Search.{Hit}
+use Rattle.search_path.specs.declared.asking.Visit.{Visit}
+use Rattle.search_path.specs.declared.asking.Ask.{Ask}
+use Rattle.sheet_build.specs.Sheet.{SheetData}
+use Rattle.closure_fixpoint.specs.Progress.{Heard, located_by_search, located_in_sheet, located_told}
+use Rattle.closure_fixpoint.specs.Told.{AreNodesOf}
+use Rattle.closure_fixpoint.specs.Gathering.{upward, all_upward, nodes_of, found_nodes, searched_nodes, hits_nodes, sheets_nodes, comes_before, are_rising}
+use Rattle.closure_fixpoint.proofs.Orders.{in_order}
+use Rattle.closure_fixpoint.proofs.MemberLaws.{Member-flat_map, MadeBy, flat_map-Member}
+
+-- NODES OF JOINED LISTS
+
+nodes-joined : (a b : List Located) → nodes_of (a ++ b) ≡ nodes_of a ++ nodes_of b
+nodes-joined [] b = refl
+nodes-joined (l ∷ a) b = ap (λ (t : List Path). all_upward l.walked ++ t) (nodes-joined a b) ∙ sym (append_assoc (all_upward l.walked) (nodes_of a) (nodes_of b))
+
+append-none : (xs : List Path) → xs ++ [] ≡ xs
+append-none [] = refl
+append-none (x ∷ xs) = ap (λ (t : List Path). x ∷ t) (append-none xs)
+
+one-search : (ask : Ask) (got : Option Hit) → nodes_of (located_by_search (ask, got)) ≡ found_nodes got
+one-search ask None = refl
+one-search ask (Some hit) = append-none (all_upward hit.1.walked)
+
+of-searches : (searches : List (Ask × Option Hit)) → nodes_of (flat_map located_by_search searches) ≡ searched_nodes searches
+of-searches [] = refl
+of-searches ((ask, got) ∷ searches) =
+    nodes-joined (located_by_search (ask, got)) (flat_map located_by_search searches)
+    ∙ ap (λ (t : List Path). t ++ nodes_of (flat_map located_by_search searches)) (one-search ask got)
+    ∙ ap (λ (t : List Path). found_nodes got ++ t) (of-searches searches)
+
+of-hits : (hits : List Hit) → nodes_of (map (λ hit. hit.1) hits) ≡ hits_nodes hits
+of-hits [] = refl
+of-hits (hit ∷ hits) = ap (λ (t : List Path). all_upward hit.1.walked ++ t) (of-hits hits)
+
+one-sheet : (sheet : SheetData) → nodes_of (located_in_sheet sheet) ≡ hits_nodes sheet.plain ++ nodes_of sheet.probes
+one-sheet sheet =
+    nodes-joined (map (λ hit. hit.1) sheet.plain) sheet.probes ∙ ap (λ (t : List Path). t ++ nodes_of sheet.probes) (of-hits sheet.plain)
+
+of-sheets : (sheets : List (Visit × SheetData)) → nodes_of (flat_map (λ told. located_in_sheet told.1) sheets) ≡ sheets_nodes sheets
+of-sheets [] = refl
+of-sheets ((visit, sheet) ∷ sheets) =
+    nodes-joined (located_in_sheet sheet) (flat_map (λ told. located_in_sheet told.1) sheets)
+    ∙ ap (λ (t : List Path). t ++ nodes_of (flat_map (λ told. located_in_sheet told.1) sheets)) (one-sheet sheet)
+    ∙ ap (λ (t : List Path). (hits_nodes sheet.plain ++ nodes_of sheet.probes) ++ t) (of-sheets sheets)
+
+nodes-told : (heard : Heard) → searched_nodes heard.searches ++ sheets_nodes heard.sheets ≡ nodes_of (located_told heard)
+unfolding located_told
+nodes-told heard =
+    sym (nodes-joined (flat_map located_by_search heard.searches) (flat_map (λ told. located_in_sheet told.1) heard.sheets)
+    ∙ ap (λ (t : List Path). t ++ nodes_of (flat_map (λ told. located_in_sheet told.1) heard.sheets)) (of-searches heard.searches)
+    ∙ ap (λ (t : List Path). searched_nodes heard.searches ++ t) (of-sheets heard.sheets))
+
+-- NODES ABOVE
+
+above-member : (path met : Path) → Member path (upward met) → IsAtOrAbove path met
+above-member path [] m = elim m [ ]
+above-member path (name ∷ met) (inl e) = inl (sym e)
+above-member path (name ∷ met) (inr m) = inr (above-member path met m)
+
+below-root : (path met : Path) → Member path (upward met) → path ≡ [] → ⊥
+below-root path [] m e = elim m [ ]
+below-root path (name ∷ met) (inl same) e = let never : name ∷ met ≡ [] = same ∙ e in absurd (cc)
+below-root path (name ∷ met) (inr m) e = below-root path met m e
+
+member-above : (path met : Path) → IsAtOrAbove path met → (path ≡ [] → ⊥) → Member path (upward met)
+member-above path [] above never = absurd (never above)
+member-above path (name ∷ met) (inl e) never = inl (sym e)
+member-above path (name ∷ met) (inr above) never = inr (member-above path met above never)
+
+-- RISING PATHS STAND ONCE
+
+first-of : (a b : Bool) → (a && b) ≡ true → a ≡ true
+first-of true b e = refl
+first-of false b e = cc
+
+second-of : (a b : Bool) → (a && b) ≡ true → b ≡ true
+second-of true b e = e
+second-of false b e = cc
+
+pub test-all : (path : Path) (paths : List Path) → list_all (λ other. comes_before path other) paths ≡ true → (x : Path) → Member x paths → comes_before path x ≡ true
+test-all path [] all x m = elim m [ ]
+test-all path (y ∷ paths) all x (inl e) =
+    ap (λ (p : Path). comes_before path p) (sym e) ∙ first-of (comes_before path y) (list_all (λ other. comes_before path other) paths) all
+test-all path (y ∷ paths) all x (inr m) = test-all path paths (second-of (comes_before path y) (list_all (λ other. comes_before path other) paths) all) x m
+
+pub rising-once : (paths : List Path) → are_rising paths ≡ true → EachOnce paths
+rising-once [] up = tt
+rising-once (path ∷ paths) up = (
+  λ m.
+      let is : comes_before path path ≡ true =
+      test-all path paths (first-of (list_all (λ other. comes_before path other) paths) (are_rising paths) up) path m in
+      let not_so : comes_before path path ≡ false = in_order.one_way path path is in absurd (cc),
+  rising-once paths (second-of (list_all (λ other. comes_before path other) paths) (are_rising paths) up),
+)
+
+-- THE NODES
+
+module _ (heard : Heard) (gathered list : List Path) (is : gathered ≡ searched_nodes heard.searches ++ sheets_nodes heard.sheets)
+    (rising : IsTrue (are_rising list)) (same : (path : Path) → Member path list ↔ Member path gathered) where
+  all_are : gathered ≡ nodes_of (located_told heard)
+  all_are = is ∙ nodes-told heard
+
+  to_list : (path : Path) → Member path (nodes_of (located_told heard)) → Member path list
+  to_list path m = (same path).1 (subst (λ (l : List Path). Member path l) (sym all_are) m)
+
+  from_list : (path : Path) → Member path list → Member path (nodes_of (located_told heard))
+  from_list path m = subst (λ (l : List Path). Member path l) all_are ((same path).0 m)
+
+  pub are-nodes : AreNodesOf (located_told heard) list
+  are-nodes = record {
+    once = rising-once list rising;
+    whole = λ l met path located walked above below.
+        to_list path
+        (Member-flat_map (λ (f : Located). all_upward f.walked) l path (located_told heard) located
+        (Member-flat_map upward met path l.walked walked (member-above path met above below)));
+    only = λ path m.
+        let file : MadeBy (λ (f : Located). all_upward f.walked) (located_told heard) path =
+        flat_map-Member (λ (f : Located). all_upward f.walked) path (located_told heard) (from_list path m) in
+        let met : MadeBy upward file.by.walked path = flat_map-Member upward path file.by.walked file.gives in
+        (file.by, met.by, file.member, met.member, above-member path met.by met.gives, below-root path met.by met.gives);
+  }
+
+-- STEPS OF LOOPS
+
+-- what a search with a number found, and those behind it
+pub searches-next : (searches : List (Ask × Option Hit)) (i : ℕ) (got : Option Hit) → i < length searches → IfSome (slice_get searches i) (λ told. got ≡ told.1)
+    → searched_nodes (drop i searches) ≡ found_nodes got ++ searched_nodes (drop (i + 1) searches)
+searches-next searches i got below is = rw (add-one i) (by_suc searches i got below is)
+  where
+    by_suc : (searches : List (Ask × Option Hit)) (i : ℕ) (got : Option Hit) → i < length searches → IfSome (slice_get searches i) (λ told. got ≡ told.1)
+        → searched_nodes (drop i searches) ≡ found_nodes got ++ searched_nodes (drop (suc i) searches)
+    by_suc [] i got below is = absurd (omega (arith, below))
+    by_suc (told ∷ searches) zero got below is = ap (λ (o : Option Hit). found_nodes o ++ searched_nodes searches) (sym is)
+    by_suc (told ∷ searches) (suc i) got below is = by_suc searches i got (omega (arith, below)) is
+
+-- the files of a sheet added in two parts
+pub two-parts : (before more whole plain probes : List Path) → more ≡ before ++ plain → whole ≡ more ++ probes → whole ≡ before ++ (plain ++ probes)
+two-parts before more whole plain probes first second = second ∙ ap (λ (l : List Path). l ++ probes) first ∙ append_assoc before plain probes
+
+-- of two facts a third
+pub if_ok_both : {R E : Type 0} (r : Result R E) (P Q S : R → Type 0) → ((x : R) → P x → Q x → S x) → IfOk r P → IfOk r Q → IfOk r S
+if_ok_both (Ok x) P Q S f p q = f x p q
+if_ok_both (Err e) P Q S f p q = tt

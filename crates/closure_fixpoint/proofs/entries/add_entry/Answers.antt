@@ -1,0 +1,7 @@
+use Rattle.closure_fixpoint.proofs.GatherLaws.{reads-added}
+use Rattle.closure_fixpoint.proofs.entries.add_entry.Goals as goal
+
+pub returns-in_ok-push_entry-in-Some-clause-reads : goal.returns-in_ok-push_entry-in-Some-clause-reads
+returns-in_ok-push_entry-in-Some-clause-reads g c =
+    reads-added (g.T.Tree.reads c.args.tree.now) (g.T.Tree.reads c.entry_at.new.tree) c.args.entries.now.items c.push_entry.new.entries.items c.args.path.now c.in-Some.entry c.in_ok-entry_at.field-0
+    c.in_ok-entry_at.ensures.reads c.in-Some.is c.in_ok-push_entry-in-Some.ensures
