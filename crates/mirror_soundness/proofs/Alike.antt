@@ -1,14 +1,10 @@
--- Preprocessing over two worlds that agree where simple files ask goes alike, step by step.
-use Rattle.std.proofs.Common.{◌≡◌, ℕ, zero, suc, ◌+◌, ◌-◌, ◌++◌, ◌∷◌, [], List, length, Option, Some, None, Bool, true, false, inl, inr, refl, sym, ap, subst, ◌∙◌, map, cond}
-use Rattle.std.specs.Prelude.{nat_le, codes}
-use Rattle.std.specs.List.{list_any, filter_map}
+-- Preprocessing over two worlds that agree where the analysis searches goes alike, step by step.
+use Rattle.std.proofs.Common.{◌≡◌, ℕ, zero, suc, ◌+◌, ◌-◌, ◌++◌, ◌∷◌, [], List, length, Option, Some, None, Bool, true, false, inl, inr, refl, sym, ap, subst, cond}
+use Rattle.std.specs.Prelude.{nat_le}
 use Rattle.base_types.specs.Members.{Member, Within}
-use Rattle.pp_tokens.specs.declared.Token.{Token}
-use Rattle.pp_tokens.specs.Marks.{is_word}
 use Rattle.pp_tokens.specs.Lines.{lexed, LexedFile}
 use Rattle.directive_scan.specs.declared.HeaderName.{HeaderName}
 use Rattle.directive_scan.specs.declared.Target.{Target}
-use Rattle.directive_scan.specs.declared.Target.TheVariants.{Plain, Computed}
 use Rattle.directive_scan.specs.declared.Directive.{Directive}
 use Rattle.directive_scan.specs.declared.Directive.TheVariants as named
 use Rattle.directive_scan.specs.declared.Piece.{Piece}
@@ -16,268 +12,331 @@ use Rattle.directive_scan.specs.declared.Piece.TheVariants.{Run, Line}
 use Rattle.directive_scan.specs.declared.Malformed.{Malformed}
 use Rattle.directive_scan.specs.declared.Malformed.TheVariants as malformed
 use Rattle.directive_scan.specs.declared.ConditionPart.{ConditionPart}
-use Rattle.directive_scan.specs.declared.ConditionPart.TheVariants.{Written}
+use Rattle.directive_scan.specs.declared.ConditionPart.TheVariants.{Written, Probe}
 use Rattle.directive_scan.specs.Directives.{pieces}
-use Rattle.directive_scan.specs.Operands.{parts_of}
+use Rattle.directive_scan.specs.Operands.{parts_of, targets_of}
 use Rattle.directive_scan.specs.Groups.{Role, Group, nothing, one, conditional, Branches, ended, branch, group_pieces, branches_pieces, Outline, whole, stray, after_else, unended, role_of, outline, malformed_by, HasOutline}
 use Rattle.macro_defs.specs.Defining.{defined_by}
+use Rattle.macro_expand.specs.Laws.{ChoiceFactHolds}
 use Rattle.cpp_output.specs.Layout.{Event, enter, back, pragma}
-use Rattle.tree_model.specs.Paths.{Text}
+use Rattle.tree_model.specs.Paths.{Text, Path}
 use Rattle.tree_model.specs.Trees.{body_limit}
 use Rattle.tree_model.specs.Shown.{presumed_name}
 use Rattle.tree_model.specs.declared.walk.Located.{Located}
 use Rattle.search_path.specs.Search.{Hit}
-use Rattle.search_path.specs.Asks.{header_ask}
+use Rattle.search_path.specs.Asks.{forced_ask, source_ask}
 use Rattle.search_path.specs.declared.asking.Visit.{Visit}
 use Rattle.search_path.specs.declared.asking.Ask.{Ask}
-use Rattle.job_words.specs.declared.MacroWord.{MacroWord}
+use Rattle.job_words.specs.JobOf.{JobData}
 use Rattle.daemon_cpp.specs.Diagnostics.{WorkLimit, TooLarge}
-use Rattle.daemon_cpp.specs.Prep.{World, here_at, visit_of, presumed_line, State, Step, Go, Stop, and_then, Reached, Gives, Ends, with_value, reach, complain, complain_of_job, say, touch, Entering, is_marked, answer_parts, answered_condition, parts_condition, condition, directive_test, piece_test, unless_marked, found_file, include, directive_step, piece_step, group_or, run_group, run_branches, malformed_step, run_outline, run_file, paid, opening_cost, open_file, back_in, enter_file, limited, first_state}
-use Rattle.closure_fixpoint.specs.Simple.{name_asked, name_in_form, pieces_of, is_simple, is_flat}
-use Rattle.mirror_soundness.proofs.Members.{Member-append_left, Member-append_right, given_by_member}
-use Rattle.mirror_soundness.proofs.SimpleFiles.{IsUnprobed, AsksByQuotes, PieceAsksByQuotes, simple_asks, flat_is_simple, flat_asks}
-use Rattle.mirror_soundness.proofs.Kept.{Holds, Keeps, KeepsWith, limited_keeps, say_keeps, left_holds, touch_holds, text_keeps, define_keeps, undef_keeps, line_step_keeps, answered_keeps, name_keeps}
+use Rattle.daemon_cpp.specs.Prep.{World, here_at, presumed_line, State, Step, Go, Stop, and_then, Reached, Gives, Ends, with_value, reach, complain, complain_of_job, limited, say, touch, Entering, header_reached, is_marked, answer_token, answered_condition, probed, probe_named, probe, answer_parts, parts_condition, condition, directive_test, piece_test, unless_marked, found_file, include_named, include, directive_step, piece_step, group_or, run_group, run_branches, malformed_step, run_outline, run_file, paid, opening_cost, open_file, back_in, enter_file, first_state, run_forced}
+use Rattle.sheet_build.specs.Sheet.{asking, SheetData, asked_for, sheet_from}
+use Rattle.closure_fixpoint.specs.Closure.{Answers, first_definitions, Known}
+use Rattle.mirror_soundness.proofs.MemberLaws.{Member-append_left, Member-append_right, Member-map}
+use Rattle.mirror_soundness.proofs.TableLaws.{first_among}
+use Rattle.mirror_soundness.proofs.Kept as kept
+use Rattle.mirror_soundness.proofs.Kept.{Any}
+use Rattle.mirror_soundness.proofs.Targets as asked_by
+use Rattle.mirror_soundness.proofs.Targets.{answers_by, Analyses, IsIncluded, IsProbed, operands_there, probes_there, includes_there}
 
 -- each list of pieces has the outline that is computed of it
 abbrev pub OutlineHolds : Type 0
 OutlineHolds = (role : Piece → Role) (ps : List Piece) → HasOutline role ps (outline role ps)
 
--- a condition's line without a probe has its tokens as parts
-abbrev pub HasPlainParts : Type 0
-HasPlainParts = (line : List Token) → list_any (is_word (codes "__has_include")) line ≡ false → parts_of line ≡ Some (map Written line)
+-- A part of a world, and the world, of which there is an analysis: a search of which all that it may find is known gives the same in
+-- the part, and a known file has the same bytes.
+pub record Agree (part world : World) (sheet : Visit → SheetData) (job : JobData) (visits : List Visit) (Home : Path → Type 0) : Type 0 where
+  pub analysis : Analyses world sheet job visits Home
+  pub trigraphs : part.trigraphs ≡ world.trigraphs
+  pub finds : (ask : Ask) → ((hit : Hit) → world.find ask ≡ Some hit → Known (answers_by world sheet) job visits hit.1) → part.find ask ≡ world.find ask
+  pub bodies : (l : Located) → Known (answers_by world sheet) job visits l → part.body l.real ≡ world.body l.real
 
--- CONDITIONS
+-- a job whose source was found: the files of its words, and then the source
+abbrev pub job_step : JobData → World → ℕ → Hit → Step
+job_step job w depth hit =
+    and_then (λ state. open_file w (enter_file w depth) [] hit state)
+    (and_then (λ state. run_forced w (enter_file w depth) job.forced state) (limited (first_state job.macros hit)))
 
-written_parts : (world : World) (at : ℕ) (tokens : List Token) (state : State) → answer_parts world at (map Written tokens) state ≡ Gives tokens state
-unfolding answer_parts
-written_parts world at [] state = refl
-written_parts world at (t ∷ ts) state = ap (reach (λ us after. Gives (t ∷ us) after)) (written_parts world at ts state)
+module _ (fact : ChoiceFactHolds) (outlines : OutlineHolds) (m g : World) (sheet : Visit → SheetData) (job : JobData) (visits : List Visit) (Home : Path → Type 0)
+    (a : Agree m g sheet job visits Home) where
+  abbrev pub all : Answers
+  all = answers_by g sheet
 
--- a condition without a probe asks for nothing
-plain_condition : HasPlainParts → (world : World) (at : ℕ) (tokens : List Token) (state : State) → IsUnprobed tokens → condition world at tokens state ≡ answered_condition at tokens state
-unfolding condition
-plain_condition parts world at tokens state free =
-    ap (λ (o : Option (List ConditionPart)). parts_condition world at o state) (parts tokens free)
-    ∙ ap (reach (λ ts after. answered_condition at ts after)) (written_parts world at tokens state)
+  abbrev pub IsKnown : Located → Type 0
+  IsKnown l = Known all job visits l
 
--- a source alone, behind the macros of these words
-abbrev pub source_step : World → List MacroWord → Hit → ℕ → Step
-source_step world macros source depth = and_then (λ state. open_file world (enter_file world depth) [] source state) (limited (first_state macros source))
+  abbrev pub Holds : Visit → State → Type 0
+  Holds visit state = kept.Holds all job visits visit state
 
-module _ (m g : World) (files : List Located) where
-  -- both worlds make the same step, which keeps the file that is read and the files that were found
+  abbrev pub Keeps : Visit → Step → Type 0
+  Keeps visit step = kept.Keeps all job visits visit step
+
+  abbrev pub KeepsWith : {A : Type 0} → Visit → (A → Type 0) → Reached A → Type 0
+  KeepsWith visit P r = kept.KeepsWith all job visits visit P r
+
+  abbrev pub IsRead : Visit → List Piece → Type 0
+  IsRead visit ps = asked_by.IsRead g sheet job visits Home visit ps
+
+  abbrev pub MayEnter : Hit → Type 0
+  MayEnter hit = asked_by.MayEnter g sheet job visits Home hit
+
+  abbrev pub Enters : Visit → Bool → HeaderName → Type 0
+  Enters visit next header = asked_by.Enters g sheet job visits Home visit next header
+
+  abbrev pub KnowsAll : Visit → HeaderName → Type 0
+  KnowsAll visit header = asked_by.KnowsAll g sheet job visits Home visit header
+
+  -- both worlds make the same step, which keeps what holds
   abbrev pub Alike : Visit → Step → Step → Type 0
-  Alike visit s t = (s ≡ t) × Keeps files visit t
+  Alike visit s t = (s ≡ t) × Keeps visit t
 
-  abbrev AlikeWith : {A : Type 0} → Visit → Reached A → Reached A → Type 0
-  AlikeWith visit r s = (r ≡ s) × KeepsWith files visit s
+  -- both worlds reach the same value, of which this holds
+  abbrev pub AlikeWith : {A : Type 0} → Visit → (A → Type 0) → Reached A → Reached A → Type 0
+  AlikeWith visit P r s = (r ≡ s) × KeepsWith visit P s
 
   then_alike : (visit after : Visit) (s t : Step) (next_m next_g : State → Step) → Alike visit s t
-      → ((state : State) → Holds files visit state → Alike after (next_m state) (next_g state))
+      → ((state : State) → Holds visit state → Alike after (next_m state) (next_g state))
       → Alike after (and_then next_m s) (and_then next_g t)
   then_alike visit after s t next_m next_g alike next =
       subst (λ (step : Step). Alike after (and_then next_m step) (and_then next_g t)) (sym alike.0) (go t alike.1)
     where
-      go : (step : Step) → Keeps files visit step → Alike after (and_then next_m step) (and_then next_g step)
+      go : (step : Step) → Keeps visit step → Alike after (and_then next_m step) (and_then next_g step)
       go (Go state) keeps = next state keeps
       go (Stop diagnostic state) keeps = (refl, keeps)
 
-  value_alike : {A : Type 0} (visit : Visit) (r s : Reached A) (next_m next_g : A → State → Step) → AlikeWith visit r s
-      → ((x : A) (state : State) → Holds files visit state → Alike visit (next_m x state) (next_g x state))
-      → Alike visit (with_value next_m r) (with_value next_g s)
-  value_alike {A} visit r s next_m next_g alike next =
-      subst (λ (x : Reached A). Alike visit (with_value next_m x) (with_value next_g s)) (sym alike.0) (go s alike.1)
+  reach_alike : {A B : Type 0} (visit : Visit) (P : A → Type 0) (Q : B → Type 0) (r s : Reached A) (next_m next_g : A → State → Reached B) → AlikeWith visit P r s
+      → ((x : A) (state : State) → Holds visit state → P x → AlikeWith visit Q (next_m x state) (next_g x state))
+      → AlikeWith visit Q (reach next_m r) (reach next_g s)
+  reach_alike {A} visit P Q r s next_m next_g alike next =
+      subst (λ (x : Reached A). AlikeWith visit Q (reach next_m x) (reach next_g s)) (sym alike.0) (go s alike.1)
     where
-      go : (x : Reached A) → KeepsWith files visit x → Alike visit (with_value next_m x) (with_value next_g x)
-      go (Gives x state) keeps = next x state keeps
+      go : (x : Reached A) → KeepsWith visit P x → AlikeWith visit Q (reach next_m x) (reach next_g x)
+      go (Gives x state) keeps = next x state keeps.0 keeps.1
       go (Ends diagnostic state) keeps = (refl, keeps)
 
-  -- WHAT MAY BE READ
+  value_alike : {A : Type 0} (visit : Visit) (P : A → Type 0) (r s : Reached A) (next_m next_g : A → State → Step) → AlikeWith visit P r s
+      → ((x : A) (state : State) → Holds visit state → P x → Alike visit (next_m x state) (next_g x state))
+      → Alike visit (with_value next_m r) (with_value next_g s)
+  value_alike {A} visit P r s next_m next_g alike next =
+      subst (λ (x : Reached A). Alike visit (with_value next_m x) (with_value next_g s)) (sym alike.0) (go s alike.1)
+    where
+      go : (x : Reached A) → KeepsWith visit P x → Alike visit (with_value next_m x) (with_value next_g x)
+      go (Gives x state) keeps = next x state keeps.0 keeps.1
+      go (Ends diagnostic state) keeps = (refl, keeps)
 
-  -- a file that an include may enter: one of the files, with the same bytes in both worlds, and flat
-  pub record MayEnter (hit : Hit) : Type 0 where
-    pub known : Member hit.1 files
-    pub same : m.body hit.1.real ≡ g.body hit.1.real
-    pub flat : is_flat (g.body hit.1.real) ≡ true
+  -- CONDITIONS
 
-  -- a search that is the same over both worlds, and finds files that may be entered
-  pub record Finds (ask : Ask) : Type 0 where
-    pub same : m.find ask ≡ g.find ask
-    pub file : (hit : Hit) → g.find ask ≡ Some hit → MayEnter hit
+  probed_keeps : (visit : Visit) (state : State) (answer : Option Hit) → Holds visit state → ((hit : Hit) → answer ≡ Some hit → IsKnown hit.1) → KeepsWith visit Any (probed answer state)
+  probed_keeps visit state None h known = (h, tt)
+  probed_keeps visit state (Some hit) h known = (kept.touch_holds all job visits visit hit.1 state h (known hit refl), tt)
 
-  -- pieces that may be read in the file of this visit: their includes are of names in quotes, whose searches are such
-  pub record MayRead (visit : Visit) (ps : List Piece) : Type 0 where
-    pub asks : (p : Piece) → Member p ps → PieceAsksByQuotes p
-    pub finds : (name : Text) → Member name (filter_map name_asked ps) → Finds (header_ask visit false false name)
+  -- a search that fails over the whole world fails over the part, and one that succeeds succeeds there
+  probe_named_alike : (visit : Visit) (at : ℕ) (o : Option HeaderName) (state : State) → Holds visit state → ((header : HeaderName) → o ≡ Some header → KnowsAll visit header)
+      → AlikeWith visit Any (probe_named m at o state) (probe_named g at o state)
+  probe_named_alike visit at None state h known = (refl, h.touched)
+  probe_named_alike visit at (Some header) state h known =
+      subst (λ (v : Visit). AlikeWith visit Any (probed (m.find (asked_for v false header)) state) (probed (g.find (asked_for v false header)) state)) (sym h.in_file) (
+        ap (λ (answer : Option Hit). probed answer state) (a.finds (asked_for visit false header) (known header refl)),
+        probed_keeps visit state (g.find (asked_for visit false header)) h (known header refl),
+      )
 
-  -- those of a simple file
-  pub simple_read : (visit : Visit) (body : Text) → is_simple body ≡ true
-      → ((name : Text) → Member name (filter_map name_asked (pieces_of body)) → Finds (header_ask visit false false name)) → MayRead visit (pieces_of body)
-  simple_read visit body simple finds = record { asks = simple_asks body simple; finds = finds }
+  probe_alike : (visit : Visit) (ps : List Piece) (at : ℕ) (target : Target) (state : State) → IsRead visit ps → Holds visit state → IsProbed ps (asking false true target)
+      → AlikeWith visit Any (probe m at target state) (probe g at target state)
+  probe_alike visit ps at target state read h asked =
+      reach_alike visit (λ o. (header : HeaderName) → o ≡ Some header → KnowsAll visit header) Any (header_reached at target state) (header_reached at target state)
+      (λ header after. probe_named m at header after) (λ header after. probe_named g at header after)
+      (refl, asked_by.probe_keeps g sheet job visits Home fact a.analysis visit ps at target state read h asked)
+      (λ o after k known. probe_named_alike visit at o after k known)
 
-  flat_read : (visit : Visit) (body : Text) → is_flat body ≡ true → MayRead visit (pieces_of body)
-  flat_read visit body flat = simple_read visit body (flat_is_simple body flat) (λ name there. absurd (flat_asks body flat name there))
+  -- operands from left to right
+  answered_alike : (visit : Visit) (ps : List Piece) (at : ℕ) (parts : List ConditionPart) (state : State) → IsRead visit ps → Holds visit state
+      → ((target : Target) → Member target (targets_of parts) → IsProbed ps (asking false true target))
+      → AlikeWith visit Any (answer_parts m at parts state) (answer_parts g at parts state)
+  unfolding answer_parts targets_of
+  answered_alike visit ps at [] state read h asked = (refl, (h, tt))
+  answered_alike visit ps at (Written t ∷ parts) state read h asked =
+      reach_alike visit Any Any (answer_parts m at parts state) (answer_parts g at parts state) (λ ts after. Gives (t ∷ ts) after) (λ ts after. Gives (t ∷ ts) after)
+      (answered_alike visit ps at parts state read h asked) (λ ts after k any. (refl, (k, tt)))
+  answered_alike visit ps at (Probe t target ∷ parts) state read h asked =
+      reach_alike visit Any Any (probe m at target state) (probe g at target state)
+      (λ holds after. reach (λ ts more. Gives (answer_token t holds ∷ ts) more) (answer_parts m at parts after))
+      (λ holds after. reach (λ ts more. Gives (answer_token t holds ∷ ts) more) (answer_parts g at parts after))
+      (probe_alike visit ps at target state read h (asked target (inl refl)))
+      (λ holds after k any.
+      reach_alike visit Any Any (answer_parts m at parts after) (answer_parts g at parts after)
+      (λ ts more. Gives (answer_token t holds ∷ ts) more) (λ ts more. Gives (answer_token t holds ∷ ts) more)
+      (answered_alike visit ps at parts after read k (λ other n. asked other (inr n))) (λ ts more l any. (refl, (l, tt))))
 
-  -- TESTS
+  parts_alike : (visit : Visit) (ps : List Piece) (at : ℕ) (parts : Option (List ConditionPart)) (state : State) → IsRead visit ps → Holds visit state
+      → ((some : List ConditionPart) → parts ≡ Some some → (target : Target) → Member target (targets_of some) → IsProbed ps (asking false true target))
+      → AlikeWith visit Any (parts_condition m at parts state) (parts_condition g at parts state)
+  parts_alike visit ps at None state read h asked = (refl, h.touched)
+  parts_alike visit ps at (Some parts) state read h asked =
+      reach_alike visit Any Any (answer_parts m at parts state) (answer_parts g at parts state) (λ ts after. answered_condition at ts after) (λ ts after. answered_condition at ts after)
+      (answered_alike visit ps at parts state read h (asked parts refl))
+      (λ ts after k any. (refl, kept.answered_keeps all job visits visit at ts after k))
 
-  condition_alike : HasPlainParts → (visit : Visit) (at : ℕ) (tokens : List Token) (state : State) → IsUnprobed tokens → Holds files visit state
-      → AlikeWith visit (condition m at tokens state) (condition g at tokens state)
-  condition_alike parts visit at tokens state free h = (
-    plain_condition parts m at tokens state free ∙ sym (plain_condition parts g at tokens state free),
-    subst (λ (r : Reached Bool). KeepsWith files visit r) (sym (plain_condition parts g at tokens state free)) (answered_keeps files visit at tokens state h),
-  )
+  -- whether the group behind a line is read
+  directive_test_alike : (visit : Visit) (ps : List Piece) (at : ℕ) (what : Directive) (state : State) → IsRead visit ps → Holds visit state → Member (Line at what) ps
+      → AlikeWith visit Any (directive_test m at what state) (directive_test g at what state)
+  unfolding condition
+  directive_test_alike visit ps at (named.If tokens) state read h there =
+      parts_alike visit ps at (parts_of tokens) state read h
+      (λ some is target n. probes_there ps (Line at (named.If tokens)) there (asking false true target) (operands_there tokens some target is n))
+  directive_test_alike visit ps at (named.Elif tokens) state read h there =
+      parts_alike visit ps at (parts_of tokens) state read h
+      (λ some is target n. probes_there ps (Line at (named.Elif tokens)) there (asking false true target) (operands_there tokens some target is n))
+  directive_test_alike visit ps at (named.Ifdef tokens) state read h there = (refl, kept.name_keeps all job visits visit at true tokens state h)
+  directive_test_alike visit ps at (named.Ifndef tokens) state read h there = (refl, kept.name_keeps all job visits visit at false tokens state h)
+  directive_test_alike visit ps at (named.Include target) state read h there = (refl, (h, tt))
+  directive_test_alike visit ps at (named.Next target) state read h there = (refl, (h, tt))
+  directive_test_alike visit ps at (named.Define tokens) state read h there = (refl, (h, tt))
+  directive_test_alike visit ps at (named.Undef tokens) state read h there = (refl, (h, tt))
+  directive_test_alike visit ps at named.Else state read h there = (refl, (h, tt))
+  directive_test_alike visit ps at named.Endif state read h there = (refl, (h, tt))
+  directive_test_alike visit ps at (named.Line tokens) state read h there = (refl, (h, tt))
+  directive_test_alike visit ps at (named.Error tokens) state read h there = (refl, (h, tt))
+  directive_test_alike visit ps at named.Warning state read h there = (refl, (h, tt))
+  directive_test_alike visit ps at named.Once state read h there = (refl, (h, tt))
+  directive_test_alike visit ps at (named.Pragma tokens) state read h there = (refl, (h, tt))
+  directive_test_alike visit ps at named.Null state read h there = (refl, (h, tt))
+  directive_test_alike visit ps at named.Unknown state read h there = (refl, (h, tt))
 
-  directive_test_alike : HasPlainParts → (visit : Visit) (at : ℕ) (what : Directive) (state : State) → AsksByQuotes what → Holds files visit state
-      → AlikeWith visit (directive_test m at what state) (directive_test g at what state)
-  directive_test_alike parts visit at (named.If tokens) state asks h = condition_alike parts visit at tokens state asks h
-  directive_test_alike parts visit at (named.Elif tokens) state asks h = condition_alike parts visit at tokens state asks h
-  directive_test_alike parts visit at (named.Ifdef tokens) state asks h = (refl, name_keeps files visit at true tokens state h)
-  directive_test_alike parts visit at (named.Ifndef tokens) state asks h = (refl, name_keeps files visit at false tokens state h)
-  directive_test_alike parts visit at (named.Include target) state asks h = (refl, h)
-  directive_test_alike parts visit at (named.Next target) state asks h = (refl, h)
-  directive_test_alike parts visit at (named.Define tokens) state asks h = (refl, h)
-  directive_test_alike parts visit at (named.Undef tokens) state asks h = (refl, h)
-  directive_test_alike parts visit at named.Else state asks h = (refl, h)
-  directive_test_alike parts visit at named.Endif state asks h = (refl, h)
-  directive_test_alike parts visit at (named.Line tokens) state asks h = (refl, h)
-  directive_test_alike parts visit at (named.Error tokens) state asks h = (refl, h)
-  directive_test_alike parts visit at named.Warning state asks h = (refl, h)
-  directive_test_alike parts visit at named.Once state asks h = (refl, h)
-  directive_test_alike parts visit at (named.Pragma tokens) state asks h = (refl, h)
-  directive_test_alike parts visit at named.Null state asks h = (refl, h)
-  directive_test_alike parts visit at named.Unknown state asks h = (refl, h)
-
-  piece_test_alike : HasPlainParts → (visit : Visit) (p : Piece) (state : State) → PieceAsksByQuotes p → Holds files visit state → AlikeWith visit (piece_test m p state) (piece_test g p state)
-  piece_test_alike parts visit (Run tokens) state asks h = (refl, h)
-  piece_test_alike parts visit (Line at what) state asks h = directive_test_alike parts visit at what state asks h
+  piece_test_alike : (visit : Visit) (ps : List Piece) (piece : Piece) (state : State) → IsRead visit ps → Holds visit state → Member piece ps
+      → AlikeWith visit Any (piece_test m piece state) (piece_test g piece state)
+  piece_test_alike visit ps (Run tokens) state read h there = (refl, (h, tt))
+  piece_test_alike visit ps (Line at what) state read h there = directive_test_alike visit ps at what state read h there
 
   -- A FILE
 
-  -- entering a file does the same over both worlds
+  -- entering a found file makes the same step
   abbrev pub EnterAlike : Entering → Entering → Type 0
-  EnterAlike e d = (visit : Visit) (at : ℕ) (hit : Hit) (state : State) → Holds files visit state → MayEnter hit → Alike visit (e at hit state) (d at hit state)
+  EnterAlike e d = (visit : Visit) (at : ℕ) (hit : Hit) (state : State) → Holds visit state → MayEnter hit → Alike visit (e at hit state) (d at hit state)
 
-  module _ (parts : HasPlainParts) (outlines : OutlineHolds) (e d : Entering) (enters : EnterAlike e d) where
-    marked_alike : (visit : Visit) (b : Bool) (at : ℕ) (hit : Hit) (state : State) → Holds files visit state → MayEnter hit
+  module _ (e d : Entering) (enters : EnterAlike e d) where
+    marked_alike : (visit : Visit) (b : Bool) (at : ℕ) (hit : Hit) (state : State) → Holds visit state → MayEnter hit
         → Alike visit (unless_marked m e b at hit state) (unless_marked g d b at hit state)
     marked_alike visit true at hit state h may = (refl, h)
     marked_alike visit false at hit state h may = enters visit at hit state h may
 
-    found_alike : (visit : Visit) (at : ℕ) (name : Text) (state : State) (got : Option Hit) → Holds files visit state → ((hit : Hit) → got ≡ Some hit → MayEnter hit)
-        → Alike visit (found_file m e at false name state got) (found_file g d at false name state got)
-    found_alike visit at name state None h may = (refl, h.touched)
-    found_alike visit at name state (Some hit) h may =
-        marked_alike visit (is_marked hit.1.real state) at hit (touch hit.1 state) (touch_holds files visit hit.1 state h (may hit refl).known) (may hit refl)
+    found_alike : (visit : Visit) (at : ℕ) (angle : Bool) (name : Text) (state : State) (answer : Option Hit) → Holds visit state → ((hit : Hit) → answer ≡ Some hit → MayEnter hit)
+        → Alike visit (found_file m e at angle name state answer) (found_file g d at angle name state answer)
+    found_alike visit at angle name state None h may = (refl, h.touched)
+    found_alike visit at angle name state (Some hit) h may =
+        marked_alike visit (is_marked hit.1.real state) at hit (touch hit.1 state) (kept.touch_holds all job visits visit hit.1 state h (may hit refl).known) (may hit refl)
 
-    -- an include of a name in quotes
-    quoted_alike : (visit : Visit) (at : ℕ) (name : Text) (state : State) → Holds files visit state → Finds (header_ask visit false false name)
-        → Alike visit (found_file m e at false name state (m.find (header_ask (visit_of state.here) false false name)))
-        (found_file g d at false name state (g.find (header_ask (visit_of state.here) false false name)))
-    quoted_alike visit at name state h finds =
-        subst (λ (v : Visit). Alike visit (found_file m e at false name state (m.find (header_ask v false false name))) (found_file g d at false name state (g.find (header_ask v false false name))))
-        (sym h.in_file)
-        (subst (λ (got : Option Hit). Alike visit (found_file m e at false name state got) (found_file g d at false name state (g.find (header_ask visit false false name))))
-        (sym finds.same)
-        (found_alike visit at name state (g.find (header_ask visit false false name)) h finds.file))
+    -- a name whose search finds files that may be entered
+    searched_alike : (visit : Visit) (at : ℕ) (angle : Bool) (name : Text) (state : State) (ask : Ask) → Holds visit state → ((hit : Hit) → g.find ask ≡ Some hit → MayEnter hit)
+        → Alike visit (found_file m e at angle name state (m.find ask)) (found_file g d at angle name state (g.find ask))
+    searched_alike visit at angle name state ask h may =
+        subst (λ (answer : Option Hit). Alike visit (found_file m e at angle name state answer) (found_file g d at angle name state (g.find ask)))
+        (sym (a.finds ask (λ hit is. (may hit is).known)))
+        (found_alike visit at angle name state (g.find ask) h may)
 
-    header_alike : (visit : Visit) (at : ℕ) (header : HeaderName) (state : State) → header.angle ≡ false → Holds files visit state → Finds (header_ask visit false false header.name)
-        → Alike visit (include m e false at (Plain header) state) (include g d false at (Plain header) state)
-    header_alike visit at header state quoted h finds =
-        subst (λ (angle : Bool). Alike visit (found_file m e at angle header.name state (m.find (header_ask (visit_of state.here) false angle header.name)))
-        (found_file g d at angle header.name state (g.find (header_ask (visit_of state.here) false angle header.name))))
-        (sym quoted) (quoted_alike visit at header.name state h finds)
+    named_alike : (visit : Visit) (next : Bool) (at : ℕ) (o : Option HeaderName) (state : State) → Holds visit state → ((header : HeaderName) → o ≡ Some header → Enters visit next header)
+        → Alike visit (include_named m e next at o state) (include_named g d next at o state)
+    named_alike visit next at None state h may = (refl, h.touched)
+    named_alike visit next at (Some header) state h may =
+        subst (λ (v : Visit). Alike visit (found_file m e at header.angle header.name state (m.find (asked_for v next header)))
+        (found_file g d at header.angle header.name state (g.find (asked_for v next header))))
+        (sym h.in_file) (searched_alike visit at header.angle header.name state (asked_for visit next header) h (may header refl))
 
-    include_alike : (visit : Visit) (ps : List Piece) (at : ℕ) (target : Target) (state : State) → MayRead visit ps → Member (Line at (named.Include target)) ps → Holds files visit state
-        → Alike visit (include m e false at target state) (include g d false at target state)
-    include_alike visit ps at (Plain header) state read there h =
-        let quoted : header.angle ≡ false = read.asks (Line at (named.Include (Plain header))) there in
-        header_alike visit at header state quoted h
-        (read.finds header.name (given_by_member name_asked ps (Line at (named.Include (Plain header))) header.name there (ap (λ (angle : Bool). name_in_form angle header.name) quoted)))
-    include_alike visit ps at (Computed tokens) state read there h = let never : true ≡ false = read.asks (Line at (named.Include (Computed tokens))) there in absurd (cc)
+    include_alike : (visit : Visit) (ps : List Piece) (next : Bool) (at : ℕ) (target : Target) (state : State) → IsRead visit ps → Holds visit state → IsIncluded ps (asking next false target)
+        → Alike visit (include m e next at target state) (include g d next at target state)
+    include_alike visit ps next at target state read h asked =
+        value_alike visit (λ o. (header : HeaderName) → o ≡ Some header → Enters visit next header) (header_reached at target state) (header_reached at target state)
+        (λ header after. include_named m e next at header after) (λ header after. include_named g d next at header after)
+        (refl, asked_by.include_keeps g sheet job visits Home fact a.analysis visit ps next at target state read h asked)
+        (λ o after k may. named_alike visit next at o after k may)
 
-    directive_alike : (visit : Visit) (ps : List Piece) (at : ℕ) (what : Directive) (state : State) → MayRead visit ps → Member (Line at what) ps → Holds files visit state
+    directive_alike : (visit : Visit) (ps : List Piece) (at : ℕ) (what : Directive) (state : State) → IsRead visit ps → Holds visit state → Member (Line at what) ps
         → Alike visit (directive_step m e at what state) (directive_step g d at what state)
-    directive_alike visit ps at (named.Include target) state read there h = include_alike visit ps at target state read there h
-    directive_alike visit ps at (named.Next target) state read there h = absurd (read.asks (Line at (named.Next target)) there)
-    directive_alike visit ps at (named.Define tokens) state read there h = (refl, define_keeps files visit at (defined_by tokens) state h)
-    directive_alike visit ps at (named.Undef tokens) state read there h = (refl, undef_keeps files visit at tokens state h)
-    directive_alike visit ps at (named.If tokens) state read there h = (refl, h)
-    directive_alike visit ps at (named.Ifdef tokens) state read there h = (refl, h)
-    directive_alike visit ps at (named.Ifndef tokens) state read there h = (refl, h)
-    directive_alike visit ps at (named.Elif tokens) state read there h = (refl, h)
-    directive_alike visit ps at named.Else state read there h = (refl, h)
-    directive_alike visit ps at named.Endif state read there h = (refl, h)
-    directive_alike visit ps at (named.Line tokens) state read there h = (refl, line_step_keeps files visit at tokens state h)
-    directive_alike visit ps at (named.Error tokens) state read there h = (refl, h.touched)
-    directive_alike visit ps at named.Warning state read there h = (refl, h)
-    directive_alike visit ps at named.Once state read there h = (refl, record { in_file = h.in_file; touched = h.touched })
-    directive_alike visit ps at (named.Pragma tokens) state read there h = (refl, say_keeps files visit (pragma at tokens ∷ []) state h)
-    directive_alike visit ps at named.Null state read there h = (refl, h)
-    directive_alike visit ps at named.Unknown state read there h = (refl, h.touched)
+    directive_alike visit ps at (named.Include target) state read h there =
+        include_alike visit ps false at target state read h (includes_there ps (Line at (named.Include target)) there (asking false false target) (inl refl))
+    directive_alike visit ps at (named.Next target) state read h there =
+        include_alike visit ps true at target state read h (includes_there ps (Line at (named.Next target)) there (asking true false target) (inl refl))
+    directive_alike visit ps at (named.Define tokens) state read h there =
+        (refl, kept.define_keeps all job visits visit at (defined_by tokens) state h (asked_by.defined_there g sheet job visits Home visit ps at tokens read there))
+    directive_alike visit ps at (named.Undef tokens) state read h there = (refl, kept.undef_keeps all job visits visit at tokens state h)
+    directive_alike visit ps at (named.If tokens) state read h there = (refl, h)
+    directive_alike visit ps at (named.Ifdef tokens) state read h there = (refl, h)
+    directive_alike visit ps at (named.Ifndef tokens) state read h there = (refl, h)
+    directive_alike visit ps at (named.Elif tokens) state read h there = (refl, h)
+    directive_alike visit ps at named.Else state read h there = (refl, h)
+    directive_alike visit ps at named.Endif state read h there = (refl, h)
+    directive_alike visit ps at (named.Line tokens) state read h there =
+        (refl, kept.line_step_keeps all job visits visit at tokens state (asked_by.has_line g sheet job visits Home visit ps at tokens read there) h)
+    directive_alike visit ps at (named.Error tokens) state read h there = (refl, h.touched)
+    directive_alike visit ps at named.Warning state read h there = (refl, h)
+    directive_alike visit ps at named.Once state read h there = (refl, record { in_file = h.in_file; table = h.table; touched = h.touched; presumed = h.presumed })
+    directive_alike visit ps at (named.Pragma tokens) state read h there = (refl, kept.say_keeps all job visits visit (pragma at tokens ∷ []) state h)
+    directive_alike visit ps at named.Null state read h there = (refl, h)
+    directive_alike visit ps at named.Unknown state read h there = (refl, h.touched)
 
-    piece_alike : (visit : Visit) (ps : List Piece) (p : Piece) (state : State) → MayRead visit ps → Member p ps → Holds files visit state → Alike visit (piece_step m e p state) (piece_step g d p state)
-    piece_alike visit ps (Run tokens) state read there h = (refl, text_keeps files visit tokens state h)
-    piece_alike visit ps (Line at what) state read there h = directive_alike visit ps at what state read there h
+    piece_alike : (visit : Visit) (ps : List Piece) (piece : Piece) (state : State) → IsRead visit ps → Holds visit state → Member piece ps
+        → Alike visit (piece_step m e piece state) (piece_step g d piece state)
+    piece_alike visit ps (Run tokens) state read h there = (refl, kept.text_keeps all job visits visit tokens state h)
+    piece_alike visit ps (Line at what) state read h there = directive_alike visit ps at what state read h there
 
     -- a group, or what stands behind it
     either_alike : (visit : Visit) (group_m group_g behind_m behind_g : State → Step)
-        → ((state : State) → Holds files visit state → Alike visit (group_m state) (group_g state))
-        → ((state : State) → Holds files visit state → Alike visit (behind_m state) (behind_g state))
-        → (b : Bool) (state : State) → Holds files visit state → Alike visit (group_or m e group_m behind_m b state) (group_or g d group_g behind_g b state)
+        → ((state : State) → Holds visit state → Alike visit (group_m state) (group_g state))
+        → ((state : State) → Holds visit state → Alike visit (behind_m state) (behind_g state))
+        → (b : Bool) (state : State) → Holds visit state → Alike visit (group_or m e group_m behind_m b state) (group_or g d group_g behind_g b state)
     either_alike visit group_m group_g behind_m behind_g group behind true state h = group state h
     either_alike visit group_m group_g behind_m behind_g group behind false state h = behind state h
 
     mutual
       unfolding run_group run_branches group_pieces branches_pieces
 
-      group_alike : (group : Group) (visit : Visit) (ps : List Piece) (state : State) → MayRead visit ps → Within (group_pieces group) ps → Holds files visit state
+      group_alike : (group : Group) (visit : Visit) (ps : List Piece) (state : State) → IsRead visit ps → Holds visit state → Within (group_pieces group) ps
           → Alike visit (run_group m e group state) (run_group g d group state)
-      group_alike nothing visit ps state read within h = (refl, h)
-      group_alike (one piece group) visit ps state read within h =
+      group_alike nothing visit ps state read h within = (refl, h)
+      group_alike (one piece group) visit ps state read h within =
           then_alike visit visit (piece_step m e piece state) (piece_step g d piece state) (λ after. run_group m e group after) (λ after. run_group g d group after)
-          (piece_alike visit ps piece state read (within piece (inl refl)) h)
-          (λ after k. group_alike group visit ps after read (λ p n. within p (inr n)) k)
-      group_alike (conditional opening group branches behind) visit ps state read within h =
+          (piece_alike visit ps piece state read h (within piece (inl refl)))
+          (λ after k. group_alike group visit ps after read k (λ p n. within p (inr n)))
+      group_alike (conditional opening group branches behind) visit ps state read h within =
           then_alike visit visit
           (with_value (λ holds after. group_or m e (λ more. run_group m e group more) (λ more. run_branches m e branches more) holds after) (piece_test m opening state))
           (with_value (λ holds after. group_or g d (λ more. run_group g d group more) (λ more. run_branches g d branches more) holds after) (piece_test g opening state))
           (λ after. run_group m e behind after) (λ after. run_group g d behind after)
-          (value_alike visit (piece_test m opening state) (piece_test g opening state) _ _
-          (piece_test_alike parts visit opening state (read.asks opening (within opening (inl refl))) h)
-          (λ holds after k. either_alike visit _ _ _ _
-          (λ more l. group_alike group visit ps more read (λ p n. within p (inr (Member-append_left p (group_pieces group) _ n))) l)
-          (λ more l. branches_alike branches visit ps more read (λ p n. within p (inr (Member-append_right p (group_pieces group) _ (Member-append_left p (branches_pieces branches) _ n)))) l)
+          (value_alike visit Any (piece_test m opening state) (piece_test g opening state) _ _
+          (piece_test_alike visit ps opening state read h (within opening (inl refl)))
+          (λ holds after k any. either_alike visit _ _ _ _
+          (λ more l. group_alike group visit ps more read l (λ p n. within p (inr (Member-append_left p (group_pieces group) _ n))))
+          (λ more l. branches_alike branches visit ps more read l (λ p n. within p (inr (Member-append_right p (group_pieces group) _ (Member-append_left p (branches_pieces branches) _ n)))))
           holds after k))
-          (λ after k. group_alike behind visit ps after read (λ p n. within p (inr (Member-append_right p (group_pieces group) _ (Member-append_right p (branches_pieces branches) _ n)))) k)
+          (λ after k. group_alike behind visit ps after read k (λ p n. within p (inr (Member-append_right p (group_pieces group) _ (Member-append_right p (branches_pieces branches) _ n)))))
 
-      branches_alike : (branches : Branches) (visit : Visit) (ps : List Piece) (state : State) → MayRead visit ps → Within (branches_pieces branches) ps → Holds files visit state
+      branches_alike : (branches : Branches) (visit : Visit) (ps : List Piece) (state : State) → IsRead visit ps → Holds visit state → Within (branches_pieces branches) ps
           → Alike visit (run_branches m e branches state) (run_branches g d branches state)
-      branches_alike (ended last) visit ps state read within h = (refl, h)
-      branches_alike (branch line group branches) visit ps state read within h =
-          value_alike visit (piece_test m line state) (piece_test g line state) _ _
-          (piece_test_alike parts visit line state (read.asks line (within line (inl refl))) h)
-          (λ holds after k. either_alike visit _ _ _ _
-          (λ more l. group_alike group visit ps more read (λ p n. within p (inr (Member-append_left p (group_pieces group) _ n))) l)
-          (λ more l. branches_alike branches visit ps more read (λ p n. within p (inr (Member-append_right p (group_pieces group) _ n))) l)
+      branches_alike (ended last) visit ps state read h within = (refl, h)
+      branches_alike (branch line group branches) visit ps state read h within =
+          value_alike visit Any (piece_test m line state) (piece_test g line state) _ _
+          (piece_test_alike visit ps line state read h (within line (inl refl)))
+          (λ holds after k any. either_alike visit _ _ _ _
+          (λ more l. group_alike group visit ps more read l (λ p n. within p (inr (Member-append_left p (group_pieces group) _ n))))
+          (λ more l. branches_alike branches visit ps more read l (λ p n. within p (inr (Member-append_right p (group_pieces group) _ n))))
           holds after k)
 
-    malformed_alike : (visit : Visit) (what : Option Malformed) (state : State) → Holds files visit state → Alike visit (malformed_step m e what state) (malformed_step g d what state)
+    malformed_alike : (visit : Visit) (what : Option Malformed) (state : State) → Holds visit state → Alike visit (malformed_step m e what state) (malformed_step g d what state)
     malformed_alike visit None state h = (refl, h)
     malformed_alike visit (Some (malformed.WithoutIf name at)) state h = (refl, h.touched)
     malformed_alike visit (Some (malformed.AfterElse name at)) state h = (refl, h.touched)
     malformed_alike visit (Some (malformed.Unended at)) state h = (refl, h.touched)
 
-    outline_alike : (visit : Visit) (ps : List Piece) (o : Outline) → HasOutline role_of ps o → (events : List Event) (state : State) → MayRead visit ps → Holds files visit state
+    outline_alike : (visit : Visit) (ps : List Piece) (o : Outline) → HasOutline role_of ps o → (events : List Event) (state : State) → IsRead visit ps → Holds visit state
         → Alike visit (run_outline m e events o state) (run_outline g d events o state)
     outline_alike visit ps (whole group) has events state read h =
         then_alike visit visit (say events state) (say events state) (λ after. run_group m e group after) (λ after. run_group g d group after)
-        (refl, say_keeps files visit events state h)
-        (λ after k. group_alike group visit ps after read (λ p n. subst (λ (qs : List Piece). Member p qs) has.1 n) k)
+        (refl, kept.say_keeps all job visits visit events state h)
+        (λ after k. group_alike group visit ps after read k (λ p n. subst (λ (qs : List Piece). Member p qs) has.1 n))
     outline_alike visit ps (stray piece) has events state read h = malformed_alike visit (malformed_by (stray piece)) state h
     outline_alike visit ps (after_else piece) has events state read h = malformed_alike visit (malformed_by (after_else piece)) state h
     outline_alike visit ps (unended piece) has events state read h = malformed_alike visit (malformed_by (unended piece)) state h
 
-    file_alike : (visit : Visit) (events : List Event) (file : LexedFile) (line : Option ℕ) (state : State) → MayRead visit (pieces file.lines) → Holds files visit state
+    file_alike : (visit : Visit) (events : List Event) (file : LexedFile) (line : Option ℕ) (state : State) → IsRead visit (pieces file.lines) → Holds visit state
         → Alike visit (run_file m e events file line state) (run_file g d events file line state)
     file_alike visit events file None state read h = outline_alike visit (pieces file.lines) (outline role_of (pieces file.lines)) (outlines role_of (pieces file.lines)) events state read h
     file_alike visit events file (Some line) state read h = (refl, h.touched)
@@ -294,68 +353,90 @@ module _ (m g : World) (files : List Located) where
         (paid w f (opening_cost w f file) (run_file w f events file file.unended) (inside_of hit state))
         (complain 0 TooLarge (inside_of hit state))
 
-    inside_holds : (visit : Visit) (hit : Hit) (state : State) → Holds files visit state → Holds files hit.0 (inside_of hit state)
-    inside_holds visit hit state h = record { in_file = refl; touched = h.touched }
+    inside_holds : (visit : Visit) (hit : Hit) (state : State) → Holds visit state → Holds hit.0 (inside_of hit state)
+    inside_holds visit hit state h = record { in_file = refl; table = h.table; touched = h.touched; presumed = λ none. refl }
 
-    -- a file without trigraphs whose pieces may be read
-    opened_alike : (visit : Visit) (events : List Event) (hit : Hit) (state : State) (body : Text) → Holds files visit state → MayRead hit.0 (pieces_of body)
-        → Alike hit.0 (opened_as m e events hit state false body) (opened_as g d events hit state false body)
-    unfolding pieces_of
-    opened_alike visit events hit state body h read = go (nat_le (length body) body_limit)
+    opened_alike : (visit : Visit) (events : List Event) (hit : Hit) (state : State) (trigraphs : Bool) (body : Text) → Holds visit state → Member hit.0 visits → Home hit.0.place
+        → (nat_le (length body) body_limit ≡ true → sheet hit.0 ≡ sheet_from g.find hit.0 (pieces (lexed trigraphs body).lines))
+        → Alike hit.0 (opened_as m e events hit state trigraphs body) (opened_as g d events hit state trigraphs body)
+    opened_alike visit events hit state trigraphs body h within home has = go (nat_le (length body) body_limit) refl
       where
         file : LexedFile
-        file = lexed false body
+        file = lexed trigraphs body
 
-        paid_alike : (b : Bool)
+        paid_alike : (b : Bool) → IsRead hit.0 (pieces file.lines)
             → Alike hit.0
             (cond b (run_file m e events file file.unended (record (inside_of hit state) { left = state.left - opening_cost m e file })) (complain_of_job WorkLimit (inside_of hit state)))
             (cond b (run_file g d events file file.unended (record (inside_of hit state) { left = state.left - opening_cost g d file })) (complain_of_job WorkLimit (inside_of hit state)))
-        paid_alike true =
+        paid_alike true read =
             file_alike hit.0 events file file.unended (record (inside_of hit state) { left = state.left - opening_cost g d file }) read
-            (left_holds files hit.0 (inside_of hit state) (state.left - opening_cost g d file) (inside_holds visit hit state h))
-        paid_alike false = (refl, h.touched)
+            (kept.left_holds all job visits hit.0 (inside_of hit state) (state.left - opening_cost g d file) (inside_holds visit hit state h))
+        paid_alike false read = (refl, h.touched)
 
-        go : (b : Bool)
+        go : (b : Bool) → nat_le (length body) body_limit ≡ b
             → Alike hit.0
             (cond b (paid m e (opening_cost m e file) (run_file m e events file file.unended) (inside_of hit state)) (complain 0 TooLarge (inside_of hit state)))
             (cond b (paid g d (opening_cost g d file) (run_file g d events file file.unended) (inside_of hit state)) (complain 0 TooLarge (inside_of hit state)))
-        go true = paid_alike (nat_le (opening_cost g d file) state.left)
-        go false = (refl, h.touched)
+        go true small = paid_alike (nat_le (opening_cost g d file) state.left) (record { inside = within; home = home; is_sheet = has small })
+        go false large = (refl, h.touched)
 
-    -- a file with the same bytes in both worlds, which leave trigraphs alone
-    pub open_alike : m.trigraphs ≡ false → g.trigraphs ≡ false → (visit : Visit) (events : List Event) (hit : Hit) (state : State) → Holds files visit state
-        → m.body hit.1.real ≡ g.body hit.1.real → MayRead hit.0 (pieces_of (g.body hit.1.real)) → Alike hit.0 (open_file m e events hit state) (open_file g d events hit state)
+    open_file_alike : (visit : Visit) (events : List Event) (hit : Hit) (state : State) → Holds visit state → MayEnter hit
+        → Alike hit.0 (open_file m e events hit state) (open_file g d events hit state)
     unfolding open_file
-    open_alike m_plain g_plain visit events hit state h same read =
-        subst (λ (t : Bool). Alike hit.0 (opened_as m e events hit state t (m.body hit.1.real)) (opened_as g d events hit state g.trigraphs (g.body hit.1.real))) (sym m_plain)
-        (subst (λ (t : Bool). Alike hit.0 (opened_as m e events hit state false (m.body hit.1.real)) (opened_as g d events hit state t (g.body hit.1.real))) (sym g_plain)
-        (subst (λ (b : Text). Alike hit.0 (opened_as m e events hit state false b) (opened_as g d events hit state false (g.body hit.1.real))) (sym same)
-        (opened_alike visit events hit state (g.body hit.1.real) h read)))
+    open_file_alike visit events hit state h may =
+        subst (λ (t : Bool). Alike hit.0 (opened_as m e events hit state t (m.body hit.1.real)) (opened_as g d events hit state g.trigraphs (g.body hit.1.real))) (sym a.trigraphs)
+        (subst (λ (b : Text). Alike hit.0 (opened_as m e events hit state g.trigraphs b) (opened_as g d events hit state g.trigraphs (g.body hit.1.real))) (sym (a.bodies hit.1 may.known))
+        (opened_alike visit events hit state g.trigraphs (g.body hit.1.real) h may.within may.at_home may.has_sheet))
 
-  module _ (parts : HasPlainParts) (outlines : OutlineHolds) (m_plain : m.trigraphs ≡ false) (g_plain : g.trigraphs ≡ false) where
-    pub enter_alike : (depth : ℕ) → EnterAlike (enter_file m depth) (enter_file g depth)
-    unfolding enter_file
-    enter_alike zero visit at hit state h may = (refl, h.touched)
-    enter_alike (suc depth) visit at hit state h may =
-        then_alike hit.0 visit
-        (open_file m (enter_file m depth) (enter (presumed_name hit.0.place) ∷ []) hit state) (open_file g (enter_file g depth) (enter (presumed_name hit.0.place) ∷ []) hit state)
-        (λ after. back_in state.here at after) (λ after. back_in state.here at after)
-        (open_alike parts outlines (enter_file m depth) (enter_file g depth) (enter_alike depth) m_plain g_plain visit (enter (presumed_name hit.0.place) ∷ []) hit state h may.same
-        (flat_read hit.0 (g.body hit.1.real) may.flat))
-        (λ after k. (
-          refl,
-          say_keeps files visit (back state.here.name (presumed_line state.here (at + 1)) at ∷ []) (record after { here = state.here }) (record { in_file = h.in_file; touched = k.touched }),
-        ))
+    -- the files of the words
+    forced_alike : (visit : Visit) (names : List Text) → Within names job.forced → (state : State) → Holds visit state
+        → Alike visit (run_forced m e names state) (run_forced g d names state)
+    unfolding run_forced
+    forced_alike visit [] within state h = (refl, h)
+    forced_alike visit (name ∷ names) within state h =
+        then_alike visit visit (found_file m e 0 false name state (m.find (forced_ask name))) (found_file g d 0 false name state (g.find (forced_ask name)))
+        (λ after. run_forced m e names after) (λ after. run_forced g d names after)
+        (searched_alike visit 0 false name state (forced_ask name) h
+        (λ hit is. asked_by.first_enters g sheet job visits Home fact a.analysis (forced_ask name) hit (inr (Member-map forced_ask name job.forced (within name (inl refl)))) is))
+        (λ after k. forced_alike visit names (λ other n. within other (inr n)) after k)
 
-    -- the source is one of the files, with the same bytes in both worlds
-    pub source_alike : (macros : List MacroWord) (source : Hit) (depth : ℕ) → Member source.1 files → m.body source.1.real ≡ g.body source.1.real
-        → MayRead source.0 (pieces_of (g.body source.1.real)) → Alike source.0 (source_step m macros source depth) (source_step g macros source depth)
-    source_alike macros source depth known same read =
-        then_alike source.0 source.0 (limited (first_state macros source)) (limited (first_state macros source))
-        (λ state. open_file m (enter_file m depth) [] source state) (λ state. open_file g (enter_file g depth) [] source state)
-        (refl, limited_keeps files source.0 (first_state macros source) (record { in_file = refl; touched = λ l n. alone l n }))
-        (λ state h. open_alike parts outlines (enter_file m depth) (enter_file g depth) (enter_alike depth) m_plain g_plain source.0 [] source state h same read)
-      where
-        alone : (l : Located) → Member l (source.1 ∷ []) → Member l files
-        alone l (inl e) = subst (λ (x : Located). Member x files) e known
-        alone l (inr never) = elim never [ ]
+  enter_file_alike : (depth : ℕ) → EnterAlike (enter_file m depth) (enter_file g depth)
+  unfolding enter_file
+  enter_file_alike zero visit at hit state h may = (refl, h.touched)
+  enter_file_alike (suc depth) visit at hit state h may =
+      then_alike hit.0 visit
+      (open_file m (enter_file m depth) (enter (presumed_name hit.0.place) ∷ []) hit state) (open_file g (enter_file g depth) (enter (presumed_name hit.0.place) ∷ []) hit state)
+      (λ after. back_in state.here at after) (λ after. back_in state.here at after)
+      (open_file_alike (enter_file m depth) (enter_file g depth) (enter_file_alike depth) visit (enter (presumed_name hit.0.place) ∷ []) hit state h may)
+      (λ after k. (
+        refl,
+        kept.say_keeps all job visits visit (back state.here.name (presumed_line state.here (at + 1)) at ∷ []) (record after { here = state.here })
+            (record { in_file = h.in_file; table = k.table; touched = k.touched; presumed = h.presumed }),
+      ))
+
+  -- A JOB
+
+  -- all that the source's search finds may be entered
+  pub source_enters : (hit : Hit) → g.find (source_ask job.source) ≡ Some hit → MayEnter hit
+  source_enters hit is = asked_by.first_enters g sheet job visits Home fact a.analysis (source_ask job.source) hit (inl refl) is
+
+  first_holds : (hit : Hit) → MayEnter hit → Holds hit.0 (first_state job.macros hit)
+  first_holds hit may = record {
+    in_file = refl;
+    table = λ name x is. Member-append_left (record { name = name; definition = x }) (first_definitions job) _ (first_among job name x is);
+    touched = λ l n. elim n [ inl same ↦ subst (λ (x : Located). IsKnown x) same may.known | inr never ↦ absurd never ];
+    presumed = λ none. refl;
+  }
+
+  pub job_alike : (depth : ℕ) (hit : Hit) → g.find (source_ask job.source) ≡ Some hit → Alike hit.0 (job_step job m depth hit) (job_step job g depth hit)
+  job_alike depth hit is =
+      let may : MayEnter hit = source_enters hit is in
+      then_alike hit.0 hit.0
+      (and_then (λ state. run_forced m (enter_file m depth) job.forced state) (limited (first_state job.macros hit)))
+      (and_then (λ state. run_forced g (enter_file g depth) job.forced state) (limited (first_state job.macros hit)))
+      (λ state. open_file m (enter_file m depth) [] hit state) (λ state. open_file g (enter_file g depth) [] hit state)
+      (then_alike hit.0 hit.0 (limited (first_state job.macros hit)) (limited (first_state job.macros hit))
+      (λ state. run_forced m (enter_file m depth) job.forced state) (λ state. run_forced g (enter_file g depth) job.forced state)
+      (refl, kept.limited_keeps all job visits hit.0 (first_state job.macros hit) (first_holds hit may))
+      (λ state h. forced_alike (enter_file m depth) (enter_file g depth) (enter_file_alike depth) hit.0 job.forced (λ name n. n) state h))
+      (λ state h. open_file_alike (enter_file m depth) (enter_file g depth) (enter_file_alike depth) hit.0 [] hit state h may)

@@ -1,6 +1,6 @@
 -- The entries of a job make a tree, which is a part of the whole tree.
-use Rattle.std.proofs.Common.{◌≡◌, ◌⊎◌, ◌∷◌, [], List, ℕ, Bool, true, false, ◌&&◌, ◌||◌, nat_eq, eq-eqb, Option, Some, IsSome, IsTrue, inl, inr, refl, sym, ap, subst, ◌∙◌}
-use Rattle.std.specs.List.{list_all, list_any}
+use Rattle.std.proofs.Common.{◌≡◌, ◌⊎◌, ◌∷◌, [], List, ℕ, Bool, true, false, ◌&&◌, nat_eq, eq-eqb, Option, Some, IsSome, IsTrue, inl, inr, refl, sym, ap, subst, ◌∙◌}
+use Rattle.std.specs.List.{list_all}
 use lib.Pointwise.{pointwise}
 use Rattle.base_types.specs.Members.{Member}
 use Rattle.tree_model.specs.Paths.{Text, Path, spelled, is_canonical, IsAtOrAbove}
@@ -11,9 +11,10 @@ use Rattle.tree_model.specs.declared.entry.Entry.{Entry}
 use Rattle.tree_model.specs.declared.entry.Entry.TheVariants.{Dir, File, Link}
 use Rattle.job_words.specs.declared.job.Job.{Job}
 use Rattle.closure_fixpoint.specs.Analysis.{AreEntriesOf, IsNodeOf}
+use Rattle.mirror_soundness.proofs.MemberLaws.{list_any-from}
 
 -- a test that each member passes
-pub all_of_members : {X : Type 0} (test : X → Bool) (xs : List X) → ((x : X) → Member x xs → test x ≡ true) → list_all test xs ≡ true
+all_of_members : {X : Type 0} (test : X → Bool) (xs : List X) → ((x : X) → Member x xs → test x ≡ true) → list_all test xs ≡ true
 all_of_members test [] each = refl
 all_of_members test (x ∷ xs) each = both (test x) (list_all test xs) (each x (inl refl)) (all_of_members test xs (λ y m. each y (inr m)))
   where
@@ -21,37 +22,25 @@ all_of_members test (x ∷ xs) each = both (test x) (list_all test xs) (each x (
     both true b ea eb = eb
     both false b ea eb = cc
 
--- a test that some member passes
-pub any_of_member : {X : Type 0} (test : X → Bool) (xs : List X) (x : X) → Member x xs → test x ≡ true → list_any test xs ≡ true
-any_of_member test [] x m e = elim m [ ]
-any_of_member test (y ∷ ys) x (inl same) e = first (test y) (list_any test ys) (ap test same ∙ e)
-  where
-    first : (a b : Bool) → a ≡ true → (a || b) ≡ true
-    first true b ea = refl
-    first false b ea = cc
-any_of_member test (y ∷ ys) x (inr m) e = later (test y) (list_any test ys) (any_of_member test ys x m e)
-  where
-    later : (a b : Bool) → b ≡ true → (a || b) ≡ true
-    later true b eb = refl
-    later false b eb = eb
-
 -- a path is at or above itself
 pub at_itself : (path : Path) → IsAtOrAbove path path
 at_itself [] = refl
 at_itself (name ∷ path) = inl refl
 
 -- what is above a path at or above another is so too
-pub parent_above : (name : Text) (up met : Path) → IsAtOrAbove (name ∷ up) met → IsAtOrAbove up met
+parent_above : (name : Text) (up met : Path) → IsAtOrAbove (name ∷ up) met → IsAtOrAbove up met
 parent_above name up [] above = cc
 parent_above name up (other ∷ below) (inl same) =
     let tails : up ≡ below = cc in inr (subst (λ (p : Path). IsAtOrAbove up p) tails (at_itself up))
 parent_above name up (other ∷ below) (inr above) = inr (parent_above name up below above)
 
 -- the parent of a node that isn't below the root alone is a node
-pub parent_is_node : (tree : FileTree) (job : Job) (name outer : Text) (up : Path) → IsNodeOf tree job (name ∷ outer ∷ up) → IsNodeOf tree job (outer ∷ up)
+parent_is_node : (tree : FileTree) (job : Job) (name outer : Text) (up : Path) → IsNodeOf tree job (name ∷ outer ∷ up) → IsNodeOf tree job (outer ∷ up)
 parent_is_node tree job name outer up node = record {
+  visits = node.visits;
+  closure = node.closure;
   located = node.located;
-  found = node.found;
+  known = node.known;
   met = node.met;
   walked = node.walked;
   above = parent_above name (outer ∷ up) node.met node.above;
@@ -104,7 +93,7 @@ module _ (tests : TestsDecide) (tree : FileTree) (job : Job) (entries : Entries)
   parent_each [] entry m = absurd ((are.nodes [] entry m).below_root refl)
   parent_each (name ∷ []) entry m = refl
   parent_each (name ∷ outer ∷ up) entry m =
-      any_of_member (is_dir_at (spelled (outer ∷ up))) entries (outer ∷ up, Dir) (dir_entry name outer up entry m)
+      list_any-from (is_dir_at (spelled (outer ∷ up))) (outer ∷ up, Dir) entries (dir_entry name outer up entry m)
       (both_true (pointwise nat_eq (spelled (outer ∷ up)) (spelled (outer ∷ up))) true (same_text (spelled (outer ∷ up))) refl)
 
   pub makes_tree_of : ParentsMakeTrees → IsTrue (makes_tree entries)
