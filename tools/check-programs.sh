@@ -81,6 +81,9 @@ full() {
 wrong='wrong words; see'
 try 2 'pump: usage' "pump_program: $wrong pump_program --help" empty "$pump"
 try 2 'pump: usage' "pump_program: $wrong pump_program --help" empty "$pump" order - --hosts "$odd" -j 1
+for budget in '' 0 01 +1 1x 65537; do
+    try 2 'pump: usage' "pump_program: $wrong pump_program --help" empty "$pump" order - --hosts localhost --budget "$budget"
+done
 try 2 '' "pumpd: $wrong pumpd --help" empty "$daemon"
 try 2 '' "pumpd: $wrong pumpd --help" empty "$daemon" --port 3632
 try 2 '' "pumpd: $wrong pumpd --help" empty "$daemon" "$odd"

@@ -34,16 +34,18 @@ use std::{env, io};
 use told::{NAME, tell_faults, tell_status, tell_stream};
 use tree_model::{Cached, Tree};
 
-const HELP: &str = "usage: pump_program order - --hosts HOST -j 1 < LIST
+const HELP: &str = "usage: pump_program order - --hosts HOST [-j 1] [--budget N] < LIST
 
 A line of LIST asks for a job, and so far one line does: a working directory,
 and the words of a compile command without the compiler's name, with one C
 source in them; a `\\` makes the byte behind it one of a word, and a line that
-begins with # is passed over. Of the options -I, -iquote, -isystem, -idirafter,
--include, -o and -trigraphs are read, and those without effect on preprocessing
-passed over. The source is preprocessed as `cc -E` would, by a daemon that gets
-just the files that it may include, or else here. So far the daemon is in this
-process: HOST is read and not dialed. The text is written below the folder
+begins with # is passed over. Of the options -I, -iquote, -isystem,
+-idirafter, -include, -D, -U, -o and -trigraphs are read, and those without
+effect on preprocessing passed over. The source is preprocessed as `cc -E`
+would, by a daemon that gets just the files that it may include, or else here.
+So far the daemon is in this process: HOST is read and not dialed. N, 1 to
+65536 or else 4096, is how many choices of definitions a computed include may
+have; with more, the job is done here. The text is written below the folder
 `out`, under the name of -o, also where that begins with `/`, or the source's
 with `.i`. A report is written to standard output, and a line on what failed,
 and why, to standard error.

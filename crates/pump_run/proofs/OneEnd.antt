@@ -23,11 +23,11 @@ use Rattle.pump_run.proofs.Still.{still-end}
 
 -- ---- the first of a list of ends ----
 
-pub first-did : {E : Type 0} (seen : E → EndSeen) (named : Option FileTree) (peer : List ℕ → List ℕ → Type 0) (job : Job) (host : Host) (done : Done) (items : List E) (d e : E)
-    → 1 ≤ length items → d ≡ get_or items 0 d → done.job ≡ 0 → done.client ≡ 0 → DidJob (known named 4096) job host done (seen d) (seen e)
-    → EachAnswered peer (seen e).talk → ForSome named IsTree → FirstDid named peer job host done (map seen items) (map seen (set items 0 e))
-first-did seen named peer job host done [] d e some is number client did answered whole = absurd (omega (arith, some))
-first-did seen named peer job host done (x ∷ items) d e some is number client did answered whole = record {
+pub first-did : {E : Type 0} (seen : E → EndSeen) (named : Option FileTree) (peer : List ℕ → List ℕ → Type 0) (budget : ℕ) (job : Job) (host : Host) (done : Done) (items : List E) (d e : E)
+    → 1 ≤ length items → d ≡ get_or items 0 d → done.job ≡ 0 → done.client ≡ 0 → DidJob (known named budget) job host done (seen d) (seen e)
+    → EachAnswered peer (seen e).talk → ForSome named IsTree → FirstDid named peer budget job host done (map seen items) (map seen (set items 0 e))
+first-did seen named peer budget job host done [] d e some is number client did answered whole = absurd (omega (arith, some))
+first-did seen named peer budget job host done (x ∷ items) d e some is number client did answered whole = record {
   first = seen x;
   now = seen e;
   rest = map seen items;
@@ -35,7 +35,7 @@ first-did seen named peer job host done (x ∷ items) d e some is number client 
   is = refl;
   number = number;
   client = client;
-  did = subst (λ (old : EndSeen). DidJob (known named 4096) job host done old (seen e)) (ap seen is) did;
+  did = subst (λ (old : EndSeen). DidJob (known named budget) job host done old (seen e)) (ap seen is) did;
   answered = answered;
   whole = whole;
 }
@@ -88,7 +88,7 @@ others : (w : Work) → w.done.client ≡ 0 → (client : ℕ) (ends : List EndS
 others w e client [] = tt
 others w e client (x ∷ ends) = (subst (λ (works : List Work). EndHolds works x x) (sym (works-other w client e)) (still-end x), others w e (suc client) ends)
 
-module _ (named : Option FileTree) (job : Job) (host : Host) (done : Done) (first now : EndSeen) (did : DidJob (known named 4096) job host done first now) where
+module _ (named : Option FileTree) (budget : ℕ) (job : Job) (host : Host) (done : Done) (first now : EndSeen) (did : DidJob (known named budget) job host done first now) where
   abbrev pub first_deeds : Deeds
   first_deeds = deeds_of did.exchanges did.put first now
 
@@ -100,9 +100,9 @@ module _ (named : Option FileTree) (job : Job) (host : Host) (done : Done) (firs
     outs = rw append-nil did.did.kept;
     talk = rw append-nil did.did.talk;
     tree = did.did.told;
-    link_bound = bound (is_link done.way) first.wire_faults now.wire_faults did.did.wire (link-rose (known named 4096) job first_deeds done.way did.recorded.way);
-    tree_bound = bound (is_tree_fault done.outcome) first.tree_faults now.tree_faults did.did.tree (tree-rose (known named 4096) job first_deeds done.way done.outcome did.recorded.outcome);
-    outs_bound = bound (is_out_fault done.outcome) first.outs_faults now.outs_faults did.did.outs (out-rose (known named 4096) job first_deeds done.way done.outcome did.recorded.outcome);
+    link_bound = bound (is_link done.way) first.wire_faults now.wire_faults did.did.wire (link-rose (known named budget) job first_deeds done.way did.recorded.way);
+    tree_bound = bound (is_tree_fault done.outcome) first.tree_faults now.tree_faults did.did.tree (tree-rose (known named budget) job first_deeds done.way done.outcome did.recorded.outcome);
+    outs_bound = bound (is_out_fault done.outcome) first.outs_faults now.outs_faults did.did.outs (out-rose (known named budget) job first_deeds done.way done.outcome did.recorded.outcome);
     chain = (
       record { tree = omega arith; wire = omega arith; outs = omega arith },
       (record { tree = did.did.tree; wire = did.did.wire; outs = did.did.outs }, record { tree = omega arith; wire = omega arith; outs = omega arith }),

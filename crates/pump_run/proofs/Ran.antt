@@ -52,16 +52,16 @@ status-of before after number client status way deeds end.OutFault (inr (inr (fo
 status-of before after number client status way deeds end.Memory (inr other) memory = inl (memory refl)
 
 module _ (given : Given) (before : Outside) (fresh : AllByRecursion IsFresh before.ends) (left report : Option (List ℕ)) (ends : List EndSeen) (list count status : ℕ)
-    (name : List ℕ) (job : Job) (done : Done) (did : FirstDid given.named given.peer job (host_of name) done before.ends ends) where
+    (name : List ℕ) (budget : ℕ) (job : Job) (done : Done) (did : FirstDid given.named given.peer budget job (host_of name) done before.ends ends) where
   -- the outside after the job was done and the report was put
   abbrev pub after : Outside
   after = record before { ends = ends; left = left; report = report; counts = record { list = list; spawner = before.counts.spawner; report = count } }
 
   abbrev deeds : Deeds
-  deeds = first_deeds given.named job (host_of name) done did.first did.now did.did
+  deeds = first_deeds given.named budget job (host_of name) done did.first did.now did.did
 
   abbrev works : List Work
-  works = first_work given.named job (host_of name) done did.first did.now did.did ∷ []
+  works = first_work given.named budget job (host_of name) done did.first did.now did.did ∷ []
 
   fresh_first : AllByRecursion IsFresh (did.first ∷ did.rest)
   fresh_first = subst (λ (l : List EndSeen). AllByRecursion IsFresh l) did.was fresh
@@ -71,17 +71,17 @@ module _ (given : Given) (before : Outside) (fresh : AllByRecursion IsFresh befo
       let now = (subst (λ (l : List EndSeen). EachServed l) did.is served).0 in
       of-added AreServed deeds.exchanges now.talk did.first.talk did.now.talk fresh_first.0.no_talk did.did.did.talk now.told now.served
 
-  over-tree : EachServed ends → (tree : FileTree) → given.named ≡ Some tree → ListGives before.left left before.counts.list list (Ok job) → Served tree 4096 job done deeds
+  over-tree : EachServed ends → (tree : FileTree) → given.named ≡ Some tree → ListGives before.left left before.counts.list list (Ok job) → Served tree budget job done deeds
   over-tree served tree named gives = record {
     whole = did.whole tree named;
     job_is = gives.0;
-    recorded = subst (λ (n : Option FileTree). IsRecord (known n 4096) job done deeds) named did.did.recorded;
+    recorded = subst (λ (n : Option FileTree). IsRecord (known n budget) job done deeds) named did.did.recorded;
     served = served-deeds served;
   }
 
   ran-ends : EachEnd 0 works before.ends ends
   ran-ends = subst (λ (l : List EndSeen). EachEnd 0 works l ends) (sym did.was)
-      (subst (λ (l : List EndSeen). EachEnd 0 works (did.first ∷ did.rest) l) (sym did.is) (first-ends given.named job (host_of name) done did.first did.now did.did did.client did.rest))
+      (subst (λ (l : List EndSeen). EachEnd 0 works (did.first ∷ did.rest) l) (sym did.is) (first-ends given.named budget job (host_of name) done did.first did.now did.did did.client did.rest))
 
   answered : EachAnsweredBy given.peer ends
   answered = subst (λ (l : List EndSeen). EachAnsweredBy given.peer l) (sym did.is) (did.answered, fresh-answered given.peer did.rest fresh_first.1)
@@ -89,12 +89,12 @@ module _ (given : Given) (before : Outside) (fresh : AllByRecursion IsFresh befo
   calm-first : EachCalm before.ends ends → EachCalm (did.first ∷ did.rest) (did.now ∷ did.rest)
   calm-first calm = subst (λ (l : List EndSeen). EachCalm (did.first ∷ did.rest) l) did.is (subst (λ (l : List EndSeen). EachCalm l ends) did.was calm)
 
-  pub ran-run : RecordsAgree → NoPeers → RecordsAreCalm → asked_for given before ≡ Some (settings_with name) → ListGives before.left left before.counts.list list (Ok job)
+  pub ran-run : RecordsAgree → NoPeers → RecordsAreCalm → asked_for given before ≡ Some (settings_with name 1 budget) → ListGives before.left left before.counts.list list (Ok job)
       → JobIsTold done before.report report before.counts.report count status → IsRun given before after status
   ran-run agree no_peers calm asked gives told = record {
     ending = Ran works;
     cause = record {
-      settings = settings_with name;
+      settings = settings_with name 1 budget;
       asked = asked;
       jobs = job ∷ [];
       listed = gives.1.0;
@@ -105,9 +105,9 @@ module _ (given : Given) (before : Outside) (fresh : AllByRecursion IsFresh befo
       agrees = λ served tree named. (
         let over = over-tree served tree named gives in
             record {
-              outcome = agree tree 4096 job done deeds over;
-              no_peer = no_peers tree 4096 job done deeds over;
-              calm = calm tree 4096 job done deeds over;
+              outcome = agree tree budget job done deeds over;
+              no_peer = no_peers tree budget job done deeds over;
+              calm = calm tree budget job done deeds over;
             },
         tt,
       );
@@ -118,5 +118,5 @@ module _ (given : Given) (before : Outside) (fresh : AllByRecursion IsFresh befo
     daemons = record { begun = refl; running = refl; asked = refl };
     answered = answered;
     complete = λ served tree named settings asks bytes left_is one lists still.
-        (let ends_still = calm-first still.ends in calm tree 4096 job done deeds (over-tree served tree named gives) (record { tree = ends_still.0; wire = ends_still.1.0; outs = ends_still.1.1.0 }), tt);
+        (let ends_still = calm-first still.ends in calm tree budget job done deeds (over-tree served tree named gives) (record { tree = ends_still.0; wire = ends_still.1.0; outs = ends_still.1.1.0 }), tt);
   }

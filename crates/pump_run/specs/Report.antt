@@ -35,7 +35,6 @@ refusal_text refusal.Visits = codes "A4"
 refusal_text refusal.Large = codes "A5"
 refusal_text refusal.Request = codes "A6"
 refusal_text refusal.NoSource = codes "A7"
-refusal_text refusal.Unbuilt = codes "A8"
 
 abbrev pub way_text : Way → List ℕ
 way_text Remote = codes "remote"

@@ -21,8 +21,8 @@ refusal_text_of error = report_text (ListRefused error)
 
 -- ---- the job ----
 
--- the first client did the job with this host, as job 0, and the other ends stayed
-pub record FirstDid (named : Option FileTree) (peer : List ℕ → List ℕ → Type 0) (job : Job) (host : Host) (done : Done) (before after : List EndSeen) : Type 0 where
+-- the first client did the job with this host and budget, as job 0, and the other ends stayed
+pub record FirstDid (named : Option FileTree) (peer : List ℕ → List ℕ → Type 0) (budget : ℕ) (job : Job) (host : Host) (done : Done) (before after : List EndSeen) : Type 0 where
   pub first : EndSeen
   pub now : EndSeen
   pub rest : List EndSeen
@@ -30,7 +30,7 @@ pub record FirstDid (named : Option FileTree) (peer : List ℕ → List ℕ → 
   pub is : after ≡ now ∷ rest
   pub number : done.job ≡ 0
   pub client : done.client ≡ 0
-  pub did : DidJob (known named 4096) job host done first now
+  pub did : DidJob (known named budget) job host done first now
   pub answered : EachAnswered peer now.talk
   pub whole : ForSome named IsTree
 

@@ -11,22 +11,20 @@ use job_words::Job;
 use std::alloc::Global;
 use tree_model::Tree;
 
-// The budget of an analysis.
-const BUDGET: u32 = 4096;
-
-/// Does the job at the first end.
+/// Does the job at the first end; its analysis has this budget.
 pub fn run_first<T: Tree, W: Wire, O: Outs>(
     alloc: Global,
     ends: &mut Vec<End<T, W, O>>,
+    budget: u32,
     job: &Job,
     host: &Host,
 ) -> Done
     requires some { 1 ≤ length ends.old.items }
     requires fresh { AllByRecursion IsFresh (map (seen_end T.told T.Tree.faults T.reads W.talk W.state W.Wire.faults O.kept O.Outs.faults) ends.old.items) }
     ensures did { let seen = seen_end T.told T.Tree.faults T.reads W.talk W.state W.Wire.faults O.kept O.Outs.faults in
-        FirstDid T.Of.named W.peer job.now host.now result (map seen ends.old.items) (map seen ends.new.items) }
+        FirstDid T.Of.named W.peer budget job.now host.now result (map seen ends.old.items) (map seen ends.new.items) }
 {
-    do_job(alloc, &mut ends[0], BUDGET, 0, 0, job, host)
+    do_job(alloc, &mut ends[0], budget, 0, 0, job, host)
 }
 
 /// How many ends there are.

@@ -133,7 +133,6 @@ fn refusal_words(refusal: Refusal) -> &'static [u8]
         Refusal::Large => b"local A5",
         Refusal::Request => b"local A6",
         Refusal::NoSource => b"local A7",
-        Refusal::Unbuilt => b"local A8",
     }
 }
 

@@ -11,13 +11,13 @@ use crate::report::refusal_line;
 use build_clients::End;
 use compile_list::{NoJob, listed_job};
 use io_edges::{Outs, Sink, Source, Spawner, Wire};
-use run_words::{host_in, named_host};
+use run_words::{asked_in, named_host};
 use std::alloc::Global;
 use std::sync::Wait;
 use std::thread::Threads;
 use tree_model::Tree;
 
-/// Does the jobs of a compile list: reads the words `order - --hosts HOST -j 1`, and the list, of which only one with one job
+/// Does the jobs of a compile list: reads the words `order - --hosts HOST`, with `-j 1` and `--budget N` or without, and the list, of which only one with one job
 /// is built so far; does its job at the first of the ends, puts the job's text on that end's outs, and writes the report: a
 /// line for the job and one of totals, or one line that says why nothing was done. The ends weren't
 /// used before, and there are as many as clients at least. The spawner isn't called: hosts are given by name.
@@ -52,7 +52,7 @@ pub fn pump<T: Tree, W: Wire, O: Outs, P: Spawner, S: Source, K: Sink, R: Thread
         result }
 {
     outcomes_agree();
-    let Some(name) = host_in(number_of(ends), words) else {
+    let Some(asked) = asked_in(number_of(ends), words) else {
         return refuse(report, b"pump: usage\n".as_slice(), USAGE);
     };
     let job = match listed_job(alloc, list) {
@@ -71,9 +71,9 @@ pub fn pump<T: Tree, W: Wire, O: Outs, P: Spawner, S: Source, K: Sink, R: Thread
         }
         Err(NoJob::Memory) => return refuse(report, b"pump: memory\n".as_slice(), NO_MEMORY),
     };
-    let Ok(host) = named_host(alloc, name) else {
+    let Ok(host) = named_host(alloc, asked.host) else {
         return refuse(report, b"pump: memory\n".as_slice(), NO_MEMORY);
     };
-    let done = run_first(alloc, ends, &job, &host);
+    let done = run_first(alloc, ends, asked.budget, &job, &host);
     tell(alloc, done, report)
 }

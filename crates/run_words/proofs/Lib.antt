@@ -1,3 +1,5 @@
 -- Lemmas.
---     SixWords    the words of the top call
-pub mod SixWords
+--     Numbers    the budget that a word says
+--     Pairs      a flag and its word, taken off the words in front
+pub mod Numbers
+pub mod Pairs

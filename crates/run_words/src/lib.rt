@@ -1,6 +1,9 @@
-//! The words of the top call, and the host that they name.
+//! The words of the top call, and what they ask for.
 #![tactic(auto)]
 
-mod words;
+mod asked;
+mod flags;
+mod hosts;
 
-pub use words::{host_in, named_host};
+pub use asked::{Asked, asked_in};
+pub use hosts::named_host;

@@ -39,7 +39,7 @@ returns-in-Err-Refused g c =
     let before = outside (map seen c.args.ends.now.items) (g.S.Source.left c.args.list.now) (g.S.Source.faults c.args.list.now) (g.P.Spawner.begun c.args.spawner.now) (g.P.Spawner.running c.args.spawner.now) (g.P.Spawner.asked c.args.spawner.now) (g.P.Spawner.faults c.args.spawner.now) (g.K.Sink.held c.args.report.now) (g.K.Sink.faults c.args.report.now) in
     record {
       run = list-refused-run the_given before c.requires.fresh (g.S.Source.left c.listed_job.new.list) (g.K.Sink.held c.refuse-in-Err-Refused.new.report) (g.S.Source.faults c.listed_job.new.list) (g.K.Sink.faults c.refuse-in-Err-Refused.new.report) c.refuse-in-Err-Refused.result c.as_slice-in-Err-Refused.result.now
-          c.in-Err-Refused.error (settings_with c.in-Some.name.now, asked-seen seen c.args.ends.now.items (map asked_words c.args.words.now) _ (rw c.number_of.ensures at c.in-Some.ensures)) (rw c.in-Err-Refused.field-0-is at c.in-Err-Refused.ensures) (c.as_slice-in-Err-Refused.ensures ∙ c.in-Ok-refusal_line.ensures ∙ ap (λ (error : ListError). refusal_text_of error) c.in-Err-Refused.error-is) c.refuse-in-Err-Refused.ensures;
+          c.in-Err-Refused.error (settings_with c.in-Some.asked.host.now 1 c.in-Some.asked.budget, asked-seen seen c.args.ends.now.items (map asked_words c.args.words.now) _ (rw c.number_of.ensures at c.in-Some.ensures)) (rw c.in-Err-Refused.field-0-is at c.in-Err-Refused.ensures) (c.as_slice-in-Err-Refused.ensures ∙ c.in-Ok-refusal_line.ensures ∙ ap (λ (error : ListError). refusal_text_of error) c.in-Err-Refused.error-is) c.refuse-in-Err-Refused.ensures;
     }
 
 pub returns-in-Err-NotBuilt : goal.returns-in-Err-NotBuilt
@@ -50,7 +50,7 @@ returns-in-Err-NotBuilt g c =
     let before = outside (map seen c.args.ends.now.items) (g.S.Source.left c.args.list.now) (g.S.Source.faults c.args.list.now) (g.P.Spawner.begun c.args.spawner.now) (g.P.Spawner.running c.args.spawner.now) (g.P.Spawner.asked c.args.spawner.now) (g.P.Spawner.faults c.args.spawner.now) (g.K.Sink.held c.args.report.now) (g.K.Sink.faults c.args.report.now) in
     record {
       run = not-built-run the_given before c.requires.fresh (g.S.Source.left c.listed_job.new.list) (g.K.Sink.held c.refuse-in-Err-NotBuilt.new.report) (g.S.Source.faults c.listed_job.new.list) (g.K.Sink.faults c.refuse-in-Err-NotBuilt.new.report) c.refuse-in-Err-NotBuilt.result c.as_slice-in-Err-NotBuilt.result.now
-          (settings_with c.in-Some.name.now, asked-seen seen c.args.ends.now.items (map asked_words c.args.words.now) _ (rw c.number_of.ensures at c.in-Some.ensures)) (rw c.in-Err-NotBuilt.field-0-is at c.in-Err-NotBuilt.ensures) c.as_slice-in-Err-NotBuilt.ensures c.refuse-in-Err-NotBuilt.ensures;
+          (settings_with c.in-Some.asked.host.now 1 c.in-Some.asked.budget, asked-seen seen c.args.ends.now.items (map asked_words c.args.words.now) _ (rw c.number_of.ensures at c.in-Some.ensures)) (rw c.in-Err-NotBuilt.field-0-is at c.in-Err-NotBuilt.ensures) c.as_slice-in-Err-NotBuilt.ensures c.refuse-in-Err-NotBuilt.ensures;
     }
 
 pub returns-in-Err-Fault : goal.returns-in-Err-Fault
@@ -61,7 +61,7 @@ returns-in-Err-Fault g c =
     let before = outside (map seen c.args.ends.now.items) (g.S.Source.left c.args.list.now) (g.S.Source.faults c.args.list.now) (g.P.Spawner.begun c.args.spawner.now) (g.P.Spawner.running c.args.spawner.now) (g.P.Spawner.asked c.args.spawner.now) (g.P.Spawner.faults c.args.spawner.now) (g.K.Sink.held c.args.report.now) (g.K.Sink.faults c.args.report.now) in
     record {
       run = fault-run the_given before c.requires.fresh (g.S.Source.left c.listed_job.new.list) (g.K.Sink.held c.refuse-in-Err-Fault.new.report) (g.S.Source.faults c.listed_job.new.list) (g.K.Sink.faults c.refuse-in-Err-Fault.new.report) c.refuse-in-Err-Fault.result c.as_slice-in-Err-Fault.result.now
-          (settings_with c.in-Some.name.now, asked-seen seen c.args.ends.now.items (map asked_words c.args.words.now) _ (rw c.number_of.ensures at c.in-Some.ensures)) (rw c.in-Err-Fault.field-0-is at c.in-Err-Fault.ensures) c.as_slice-in-Err-Fault.ensures c.refuse-in-Err-Fault.ensures;
+          (settings_with c.in-Some.asked.host.now 1 c.in-Some.asked.budget, asked-seen seen c.args.ends.now.items (map asked_words c.args.words.now) _ (rw c.number_of.ensures at c.in-Some.ensures)) (rw c.in-Err-Fault.field-0-is at c.in-Err-Fault.ensures) c.as_slice-in-Err-Fault.ensures c.refuse-in-Err-Fault.ensures;
     }
 
 pub returns-in-Err-Memory : goal.returns-in-Err-Memory
@@ -95,5 +95,5 @@ returns g c =
     let did = rw c.in-Ok-named_host.ensures at c.run_first-done.ensures.did in
     record {
       run = ran-run the_given before c.requires.fresh (g.S.Source.left c.listed_job.new.list) (g.K.Sink.held c.tell.new.report) (map seen c.run_first-done.new.ends.items) (g.S.Source.faults c.listed_job.new.list) (g.K.Sink.faults c.tell.new.report) c.tell.result
-          c.in-Some.name.now c.in-Ok.job c.run_first-done.result did c.outcomes_agree.ensures.agree c.outcomes_agree.ensures.no_peer c.outcomes_agree.ensures.calm (asked-seen seen c.args.ends.now.items (map asked_words c.args.words.now) _ (rw c.number_of.ensures at c.in-Some.ensures)) c.in-Ok.ensures c.tell.ensures;
+          c.in-Some.asked.host.now c.in-Some.asked.budget c.in-Ok.job c.run_first-done.result did c.outcomes_agree.ensures.agree c.outcomes_agree.ensures.no_peer c.outcomes_agree.ensures.calm (asked-seen seen c.args.ends.now.items (map asked_words c.args.words.now) _ (rw c.number_of.ensures at c.in-Some.ensures)) c.in-Ok.ensures c.tell.ensures;
     }
