@@ -9,6 +9,9 @@ use job_words::{Job, read_words};
 use std::alloc::{AllocError, Global};
 use tree_model::{CanonPath, Located, Node, Tree, TreeError, locate, read_body};
 
+// The budget of each analysis.
+const BUDGET: u32 = 4096;
+
 /// Answers a question by its word and what stands behind that.
 pub fn answer<T: Tree>(
     alloc: Global,
@@ -19,6 +22,7 @@ pub fn answer<T: Tree>(
 ) -> Result<(), Wrong> {
     match word {
         "analyse" => answer_analysis(alloc, out, tree, &job_of(alloc, rest)?),
+        "length" => answer_length(alloc, out, tree, &job_of(alloc, rest)?),
         "locate" => answer_located(alloc, out, tree, rest),
         "node" => answer_node(out, tree, &path_of(alloc, rest.as_bytes())?),
         "read" => say_body(out, &tree.read(&path_of(alloc, rest.as_bytes())?)),
@@ -59,8 +63,21 @@ fn answer_analysis<T: Tree>(
     tree: &mut T,
     job: &Job,
 ) -> Result<(), Wrong> {
-    match analyse(alloc, tree, job, 0) {
+    match analyse(alloc, tree, job, BUDGET) {
         Ok(Analysed::Request(request)) => say(out, "request", request.as_slice()),
+        Ok(Analysed::Refused(refusal)) => say_value(out, "refused", &refusal),
+        Err(error) => say_value(out, "error", &error),
+    }
+}
+
+fn answer_length<T: Tree>(
+    alloc: Global,
+    out: &mut String,
+    tree: &mut T,
+    job: &Job,
+) -> Result<(), Wrong> {
+    match analyse(alloc, tree, job, BUDGET) {
+        Ok(Analysed::Request(request)) => say_value(out, "length", &request.len()),
         Ok(Analysed::Refused(refusal)) => say_value(out, "refused", &refusal),
         Err(error) => say_value(out, "error", &error),
     }

@@ -32,6 +32,7 @@ The tree, its nodes in order of the bytes of their paths:
 Questions about the tree:
   analyse DIR WORD..          the request of the job of these compile words in
                               a directory, or why there is none
+  length DIR WORD..           how many bytes that request has
   locate DIR TEXT             the place and the file that a text locates from a
                               directory, and the nodes walked
   node PATH                   what stands there

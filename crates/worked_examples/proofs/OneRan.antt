@@ -1,6 +1,6 @@
 -- What a run of one job at one end over a named tree says, where its status is 0 or 1.
-use Rattle.std.specs.Prelude.{◌≡◌, ◌⊎◌, ℕ, suc, ◌<◌, ◌≤◌, List, [], ◌∷◌, ◌++◌, length, map, Bool, true, false, cond, nat_le, if◌then◌else◌, Option, None, Some, IsSome, Ok, Err, Result, ◌==◌}
-use Rattle.std.specs.List.{flat_map, AllByRecursion, list_any}
+use Rattle.std.specs.Prelude.{◌≡◌, ◌⊎◌, ℕ, ◌<◌, ◌≤◌, List, [], ◌∷◌, ◌++◌, length, map, false, cond, if◌then◌else◌, Option, Some, IsSome, Ok, Err, Result}
+use Rattle.std.specs.List.{list_any}
 use Rattle.std.proofs.Common.{refl, sym, ap, subst, ◌∙◌, inl, inr, arith, append-nil}
 use Rattle.std.proofs.lemmas.List.{length-map}
 use Rattle.tree_model.specs.Trees.{FileTree}
@@ -16,9 +16,9 @@ use Rattle.job_ends.specs.Outside.{EndSeen}
 use Rattle.job_ends.specs.Record.{Known, known}
 use Rattle.job_ends.specs.Works.{Work, EachEnd, EndHolds, EachRecord, EachServed, EachAgrees, JobAgrees, works_of, is_memory, is_out_fault, is_tree_fault, is_diag}
 use Rattle.compile_list.specs.Listed.{jobs_of}
-use Rattle.run_words.specs.Asked.{Settings, settings_of, settings_in, settings_with, is_grammar, within_ends}
 use Rattle.pump_run.specs.Report.{Ending, Usage, ListRefused, ListNotBuilt, ListFault, SpawnFault, NoMemory, Ran, report_text, jobs_text}
-use Rattle.pump_run.specs.Run.{Given, Outside, IsRun, JobsRan, StatusIs, HasEnding, Reports, OutsideRose, ServedByDaemon, IsDaemon, EachTells, ran, given}
+use Rattle.pump_run.specs.Run.{Outside, IsRun, JobsRan, StatusIs, HasEnding, Reports, OutsideRose, ServedByDaemon, IsDaemon, EachTells, ran, given}
+use Rattle.worked_examples.proofs.OneClient.{one_client}
 
 -- the one job that was run, and what is known of it
 pub record OneRan (tree : FileTree) (job : Job) (status : ℕ) (before after : Outside) (now : EndSeen) : Type 0 where
@@ -27,34 +27,6 @@ pub record OneRan (tree : FileTree) (job : Job) (status : ℕ) (before after : O
   pub status_is : StatusIs before after (Ran (work ∷ [])) status
   pub told : Reports (report_text (Ran (work ∷ []))) status before after
   pub put : now.kept ≡ Some work.deeds.put
-
--- ---- clients ----
-
-one_in : (words : List (List ℕ)) (s : Settings) → settings_in words ≡ Some s → s.clients ≡ 1
-unfolding settings_in
-one_in [] s is = absurd (cc)
-one_in (a ∷ []) s is = absurd (cc)
-one_in (a ∷ b ∷ []) s is = absurd (cc)
-one_in (a ∷ b ∷ c ∷ []) s is = absurd (cc)
-one_in (a ∷ b ∷ c ∷ d ∷ []) s is = absurd (cc)
-one_in (a ∷ b ∷ c ∷ d ∷ x ∷ []) s is = absurd (cc)
-one_in (a ∷ b ∷ c ∷ d ∷ x ∷ f ∷ []) s is = go (is_grammar a b c d x f) is
-  where
-    go : (t : Bool) → (if t then Some (settings_with d) else None) ≡ Some s → s.clients ≡ 1
-    go true same = ap (λ (o : Option Settings). elim o [ None ↦ 1 | Some r ↦ r.clients ]) (sym same)
-    go false same = absurd (cc)
-one_in (a ∷ b ∷ c ∷ d ∷ x ∷ f ∷ g ∷ words) s is = absurd (cc)
-
-was_in : (ends : ℕ) (asked : Option Settings) (s : Settings) → within_ends ends asked ≡ Some s → asked ≡ Some s
-was_in ends None s is = is
-was_in ends (Some r) s is = go (nat_le r.clients ends) is
-  where
-    go : (t : Bool) → (if t then Some r else None) ≡ Some s → Some r ≡ Some s
-    go true same = same
-    go false same = absurd (cc)
-
-one_client : (ends : ℕ) (words : List (List ℕ)) (s : Settings) → settings_of ends words ≡ Some s → s.clients ≡ 1
-one_client ends words s is = one_in words s (was_in ends (settings_in words) s is)
 
 -- ---- records ----
 

@@ -165,14 +165,14 @@ fn put<R: Abort>(
     let text = Bytes::copy_of(alloc, b"text")?;
     let outcome = put_text(end, &client.job, text);
     check_outcome(rt, "put", &outcome, 4);
-    check_put(rt, "put", &end.outs, "text");
+    check_put(rt, "put", &end.outs, "a.i", "text");
     Ok(())
 }
 
 fn work_locally<R: Abort>(rt: &R, alloc: Global, client: &Client, end: &mut MemEnd) {
     let outcome = do_locally(alloc, end, &client.job);
     check_outcome(rt, "work locally", &outcome, 57);
-    check_put(rt, "work locally", &end.outs, TEXT);
+    check_put(rt, "work locally", &end.outs, "a.i", TEXT);
 }
 
 // A failed link, a text and a diagnostic are concluded, one after the other.
@@ -228,7 +228,7 @@ fn work_remotely<R: Abort>(rt: &R, alloc: Global, client: &Client, end: &mut Mem
 {
     let done = do_job(alloc, end, 0, 2, 5, &client.job, &client.host);
     check_done(rt, "work remotely", &done, 57, Way::Remote);
-    check_put(rt, "work remotely", &end.outs, TEXT);
+    check_put(rt, "work remotely", &end.outs, "a.i", TEXT);
 }
 
 fn check_outcome<R: Abort>(rt: &R, step: &str, outcome: &JobOutcome, len: u64) {

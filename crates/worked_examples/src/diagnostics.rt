@@ -1,13 +1,16 @@
 // Jobs whose outcome is a diagnostic.
-use crate::example::{JOB, Placed, Run};
+use crate::example::{JOB, Placed, Run, WORK};
 
 // A source whose header is missing.
 const MISSING: Run<'static> = Run {
     name: "a missing header is the daemon's diagnostic",
-    files: &[Placed {
-        path: "/w/a.c",
-        body: "#include \"b.h\"\nint y;\n",
-    }],
+    files: &[
+        WORK,
+        Placed::File {
+            path: "/w/a.c",
+            body: "#include \"b.h\"\nint y;\n",
+        },
+    ],
     status: 1,
     report: "job 0 diag remote\n/w/a.c:1: error: cannot find \"b.h\"\n\
              jobs 1 remote 1 local 0 broken 0\n",
@@ -19,7 +22,7 @@ const MISSING: Run<'static> = Run {
     ..JOB
 };
 
-pub const RUNS: [Run<'static>; 4] = [
+pub const RUNS: [Run<'static>; 3] = [
     MISSING,
     Run {
         name: "a missing header, byte by byte",
@@ -30,17 +33,6 @@ pub const RUNS: [Run<'static>; 4] = [
         name: "a missing source is not sent",
         status: 1,
         report: "job 0 diag local A7\n/w/a.c:0: error: cannot find source\n\
-                 jobs 1 remote 0 local 1 broken 0\n",
-        ..JOB
-    },
-    Run {
-        name: "a source that is not simple is not sent",
-        files: &[Placed {
-            path: "/w/a.c",
-            body: "#define X 1\n#include X\n",
-        }],
-        status: 1,
-        report: "job 0 diag local A8\n/w/a.c:2: error: no header name\n\
                  jobs 1 remote 0 local 1 broken 0\n",
         ..JOB
     },

@@ -1,6 +1,7 @@
 // What a run is given, and what has to come of it.
-ghost use Rattle.std.specs.Prelude.{◌≡◌, ◌<◌, [], All, IfOk, IsTrue, OnOk};
-ghost use Rattle.tree_model.specs.Entries.{links_fit};
+ghost use Rattle.std.specs.Prelude.{◌≡◌, ◌<◌, ◌==◌, [], All, IfOk, IsTrue, OnOk};
+ghost use Rattle.std.specs.List.{list_any};
+ghost use Rattle.tree_model.specs.Entries.{is_link_text, links_fit};
 
 use crate::named_run::{Ended, NamedEnd, Objects, end_over, run_named};
 use base_types::Bytes;
@@ -16,20 +17,21 @@ use tree_model::{CanonPath, Entry, Unnamed};
 /// An end in memory over a tree that no type names.
 pub type MemEnd = NamedEnd<Unnamed>;
 
-/// A file, by its path and its bytes.
+/// What stands at a path of a tree.
 #[derive(Clone, Copy, Drop)]
-pub struct Placed<'a> {
-    pub path: &'a str,
-    pub body: &'a str,
+pub enum Placed<'a> {
+    File { path: &'a str, body: &'a str },
+    Dir { path: &'a str },
+    Link { path: &'a str, text: &'a str },
 }
 
 /// A run, and what has to come of it.
 ///
-/// It is given words, a list, and the files of the tree beside the directory `/w`, in order of their paths. `list_fails`,
+/// It is given words, a list, and all that the tree has, in order of the paths. `list_fails`,
 /// `tree_fails`, `wire_fails` and `outs_fails` are the number of the call that fails there, from 1, or 0 where none does; at
 /// the wire it is one of the first exchange. The wire gives at most `piece` bytes at a time, or all where that is 0.
 ///
-/// There is one text, under `a.i`, or none where `text` is empty, and one exchange, or none where `sent` is empty.
+/// There is one text, under the name `under`, or none where `text` is empty, and one exchange, or none where `sent` is empty.
 #[derive(Clone, Copy, Drop)]
 pub struct Run<'a> {
     pub name: &'a str,
@@ -44,16 +46,20 @@ pub struct Run<'a> {
     pub status: u8,
     pub report: &'a str,
     pub text: &'a str,
+    pub under: &'a str,
     pub sent: &'a str,
     pub received: &'a str,
 }
+
+/// The working directory of the jobs.
+pub const WORK: Placed<'static> = Placed::Dir { path: "/w" };
 
 /// A run for `a.c` in `/w` over no file, where no call fails, and of which nothing comes.
 pub const JOB: Run<'static> = Run {
     name: "",
     words: &["order", "-", "--hosts", "daemon", "-j", "1"],
     list: "/w a.c\n",
-    files: &[],
+    files: &[WORK],
     list_fails: 0,
     tree_fails: 0,
     wire_fails: 0,
@@ -62,6 +68,7 @@ pub const JOB: Run<'static> = Run {
     status: 0,
     report: "",
     text: "",
+    under: "a.i",
     sent: "",
     received: "",
 };
@@ -143,13 +150,13 @@ fn pieces(alloc: Global, piece: u32) -> Result<Vec<u32>, AllocError>
     Ok(lengths)
 }
 
-// The directory `/w` and the files.
+// What stands in a tree.
 fn entries_of(alloc: Global, files: &[Placed<'_>]) -> Result<Vec<(CanonPath, Entry)>, AllocError>
     ensures { IfOk result (λ entries. IsTrue (links_fit entries.items)) }
 {
-    let mut entries = vec![in alloc; (path(alloc, "/w")?, Entry::Dir)]?;
-    for file in files {
-        place(alloc, &mut entries, file)?;
+    let mut entries = Vec::new(alloc);
+    for placed in files {
+        place(alloc, &mut entries, placed)?;
     }
     Ok(entries)
 }
@@ -157,14 +164,50 @@ fn entries_of(alloc: Global, files: &[Placed<'_>]) -> Result<Vec<(CanonPath, Ent
 fn place(
     alloc: Global,
     entries: &mut Vec<(CanonPath, Entry)>,
-    file: &Placed<'_>,
+    placed: &Placed<'_>,
 ) -> Result<(), AllocError>
     requires { IsTrue (links_fit entries.old.items) }
     ensures { OnOk result (IsTrue (links_fit entries.new.items)) }
 {
-    let body = Bytes::copy_of(alloc, file.body.as_bytes())?;
-    entries.push((path(alloc, file.path)?, Entry::File(body)))?;
+    match placed {
+        Placed::File { path: at, body } => {
+            let body = Bytes::copy_of(alloc, body.as_bytes())?;
+            entries.push((path(alloc, at)?, Entry::File(body)))?;
+        }
+        Placed::Dir { path: at } => entries.push((path(alloc, at)?, Entry::Dir))?,
+        Placed::Link { path: at, text } => place_link(alloc, entries, at, text)?,
+    }
     Ok(())
+}
+
+// A link, or nothing where no link has such a text.
+fn place_link(
+    alloc: Global,
+    entries: &mut Vec<(CanonPath, Entry)>,
+    at: &str,
+    text: &str,
+) -> Result<(), AllocError>
+    requires { IsTrue (links_fit entries.old.items) }
+    ensures { OnOk result (IsTrue (links_fit entries.new.items)) }
+{
+    if is_link_text(text.as_bytes()) {
+        let text = Bytes::copy_of(alloc, text.as_bytes())?;
+        entries.push((path(alloc, at)?, Entry::Link(text)))?;
+    }
+    Ok(())
+}
+
+#[tactic(auto, using(std::proofs::lemmas::Bool::Decides::nat_tests))]
+fn is_link_text(text: &[u8]) -> bool
+    ensures { result ≡ is_link_text text.now }
+{
+    0 < text.len() && (text.len() < 4096 && !has_zero(text))
+}
+
+fn has_zero(text: &[u8]) -> bool
+    ensures { result ≡ list_any (λ b. b == 0) text.now }
+{
+    text.iter().any(|b| *b == 0)
 }
 
 // The path that a text spells, or the root where it spells none.
@@ -190,7 +233,7 @@ pub fn check_text<R: Abort>(rt: &R, name: &str, bytes: &[u8], text: &str) {
 fn check_ended<R: Abort>(rt: &R, ended: &Ended, run: &Run<'_>) {
     check_text(rt, run.name, ended.report.bytes(), run.report);
     check(rt, ended.status == run.status, run.name, "the status");
-    check_put(rt, run.name, &ended.outs, run.text);
+    check_put(rt, run.name, &ended.outs, run.under, run.text);
     check_exchanges(rt, ended.wire.exchanges(), run);
 }
 
@@ -199,12 +242,12 @@ fn count(text: &str) -> usize {
     if text.is_empty() { 0 } else { 1 }
 }
 
-/// Asserts that just this text was put, under `a.i`, or none where it is empty.
-pub fn check_put<R: Abort>(rt: &R, name: &str, outs: &MemOuts, text: &str) {
+/// Asserts that just this text was put, under this name, or none where it is empty.
+pub fn check_put<R: Abort>(rt: &R, name: &str, outs: &MemOuts, under: &str, text: &str) {
     let entries = outs.entries();
     check(rt, entries.len() == count(text), name, "the texts put");
-    for (under, body) in entries {
-        check_text(rt, name, under.as_slice(), "a.i");
+    for (put_under, body) in entries {
+        check_text(rt, name, put_under.as_slice(), under);
         check_text(rt, name, body.as_slice(), text);
     }
 }

@@ -1,12 +1,13 @@
 // A source that includes a header.
-use crate::example::{JOB, Placed, Run};
+use crate::example::{JOB, Placed, Run, WORK};
 
-pub const FILES: [Placed<'static>; 2] = [
-    Placed {
+pub const FILES: [Placed<'static>; 3] = [
+    WORK,
+    Placed::File {
         path: "/w/a.c",
         body: "#include \"b.h\"\nint y;\n",
     },
-    Placed {
+    Placed::File {
         path: "/w/b.h",
         body: "int x;\n",
     },

@@ -6,20 +6,30 @@
 #![tactic(auto)]
 
 #[cfg(test)]
+mod budgets;
+#[cfg(test)]
+mod choices;
+#[cfg(test)]
 mod clients;
 #[cfg(test)]
 mod diagnostics;
+#[cfg(test)]
+mod endings;
 #[cfg(test)]
 mod example;
 #[cfg(test)]
 mod faults;
 #[cfg(test)]
 mod header;
+#[cfg(test)]
+mod links;
 mod named_run;
 #[cfg(test)]
 mod refusals;
 #[cfg(test)]
 mod runs;
+#[cfg(test)]
+mod searches;
 #[cfg(test)]
 mod texts;
 

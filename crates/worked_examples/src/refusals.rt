@@ -1,10 +1,31 @@
 // Words and lists that are refused.
 use crate::example::{JOB, Run};
 
-pub const RUNS: [Run<'static>; 15] = [
+pub const RUNS: [Run<'static>; 18] = [
     Run {
         name: "other words",
         words: &["order", "x"],
+        status: 2,
+        report: "pump: usage\n",
+        ..JOB
+    },
+    Run {
+        name: "no host",
+        words: &["order", "-", "-j", "1"],
+        status: 2,
+        report: "pump: usage\n",
+        ..JOB
+    },
+    Run {
+        name: "a flag that stands twice",
+        words: &["order", "-", "--hosts", "daemon", "-j", "1", "-j", "1"],
+        status: 2,
+        report: "pump: usage\n",
+        ..JOB
+    },
+    Run {
+        name: "a budget beyond the greatest",
+        words: &["order", "-", "--hosts", "daemon", "--budget", "65537"],
         status: 2,
         report: "pump: usage\n",
         ..JOB

@@ -1,14 +1,17 @@
 // Jobs whose outcome is a text.
-use crate::example::{JOB, Placed, Run};
+use crate::example::{JOB, Placed, Run, WORK};
 use crate::header::{HEADER, RECEIVED, SENT, TEXT};
 
-pub const RUNS: [Run<'static>; 8] = [
+pub const RUNS: [Run<'static>; 6] = [
     Run {
         name: "an empty source",
-        files: &[Placed {
-            path: "/w/a.c",
-            body: "",
-        }],
+        files: &[
+            WORK,
+            Placed::File {
+                path: "/w/a.c",
+                body: "",
+            },
+        ],
         report: "job 0 text 13 remote\njobs 1 remote 1 local 0 broken 0\n",
         text: "# 1 \"/w/a.c\"\n",
         sent: "DIST00000103CDIR00000002/wARGC00000001ARGV00000003a.cNFIL00000002\
@@ -45,10 +48,13 @@ pub const RUNS: [Run<'static>; 8] = [
     Run {
         name: "an escaped blank is a byte of a word",
         list: "/w a\\ b.c -o a.i\n",
-        files: &[Placed {
-            path: "/w/a b.c",
-            body: "int x;\n",
-        }],
+        files: &[
+            WORK,
+            Placed::File {
+                path: "/w/a b.c",
+                body: "int x;\n",
+            },
+        ],
         report: "job 0 text 22 remote\njobs 1 remote 1 local 0 broken 0\n",
         text: "# 1 \"/w/a b.c\"\nint x;\n",
         sent: "DIST00000103CDIR00000002/wARGC00000003ARGV00000005a b.cARGV00000002-oARGV00000003a.iNFIL00000002\
@@ -60,11 +66,12 @@ pub const RUNS: [Run<'static>; 8] = [
         name: "a header of a directory",
         list: "/w -O2 a.c\t-I.. -iquote . \n",
         files: &[
-            Placed {
+            WORK,
+            Placed::File {
                 path: "/w/a.c",
                 body: "#include \"b.h\"\n",
             },
-            Placed {
+            Placed::File {
                 path: "/w/b.h",
                 body: "int b;\n",
             },
@@ -76,34 +83,6 @@ pub const RUNS: [Run<'static>; 8] = [
                NAME00000006/w/a.cFILE0000000f#include \"b.h\"\nNAME00000006/w/b.hFILE00000007int b;\n",
         received: "DONE00000103STAT00000000SERR00000000DOTI00000032\
                    # 1 \"/w/a.c\"\n# 1 \"/w/b.h\" 1\nint b;\n# 2 \"/w/a.c\" 2\n",
-        ..JOB
-    },
-    Run {
-        name: "a source with a macro is local",
-        list: "/w a.c -DX=Y\n",
-        files: &[Placed {
-            path: "/w/a.c",
-            body: "#define Y 1\nint a = X;\n",
-        }],
-        report: "job 0 text 25 local A8\njobs 1 remote 0 local 1 broken 0\n",
-        text: "# 1 \"/w/a.c\"\n\nint a = 1;\n",
-        ..JOB
-    },
-    Run {
-        name: "a file in front of the source is local",
-        list: "/w a.c -include d.h\n",
-        files: &[
-            Placed {
-                path: "/w/a.c",
-                body: "int a;\n",
-            },
-            Placed {
-                path: "/w/d.h",
-                body: "int d;\n",
-            },
-        ],
-        report: "job 0 text 57 local A8\njobs 1 remote 0 local 1 broken 0\n",
-        text: "# 1 \"/w/a.c\"\n# 1 \"/w/d.h\" 1\nint d;\n# 1 \"/w/a.c\" 2\nint a;\n",
         ..JOB
     },
 ];
