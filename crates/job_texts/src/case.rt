@@ -41,7 +41,7 @@ impl Case {
         rest: &str,
     ) -> Result<(), Wrong> {
         match word {
-            "file" | "|" | "=" | "dir" | "link" => self.describe(alloc, word, rest),
+            "file" | "|" | "=" | "*" | "dir" | "link" => self.describe(alloc, word, rest),
             "job" => {
                 *self = made(alloc, replace(self, Case::new(alloc)))?;
                 self.preprocess(alloc, out, rest)
@@ -58,6 +58,7 @@ impl Case {
             "file" => add_file(alloc, nodes, rest.as_bytes()),
             "|" => extend(nodes, rest.as_bytes(), b"\n"),
             "=" => extend(nodes, &bytes_of(alloc, rest)?, b""),
+            "*" => extend_times(alloc, nodes, rest),
             "dir" => add(nodes, path_of(alloc, rest.as_bytes())?, Entry::Dir),
             _ => add_link(alloc, nodes, rest),
         }
@@ -155,6 +156,19 @@ fn extend(nodes: &mut Vec<Node>, bytes: &[u8], end: &[u8]) -> Result<(), Wrong> 
     body.extend(bytes)?;
     body.extend(end)?;
     add(nodes, path, Entry::File(body))
+}
+
+// Adds bytes so many times, as a number in front of them says.
+fn extend_times(alloc: Global, nodes: &mut Vec<Node>, rest: &str) -> Result<(), Wrong> {
+    let (number, text) = rest.split_once(' ').unwrap_or((rest, ""));
+    let Ok(times) = number.parse::<u32>() else {
+        return Err(Wrong::Form("no number of times"));
+    };
+    let bytes = bytes_of(alloc, text)?;
+    for _ in 0..times {
+        extend(nodes, &bytes, b"")?;
+    }
+    Ok(())
 }
 
 fn path_of(alloc: Global, text: &[u8]) -> Result<CanonPath, Wrong> {

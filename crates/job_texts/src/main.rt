@@ -23,6 +23,7 @@ The tree, its nodes in order of the bytes of their paths:
                               there yet
   | TEXT                      a line of the file, as it stands
   = BYTES                     bytes of the file, with no line feed behind them
+  * TIMES BYTES               the same, so many times
   dir PATH                    a directory
   link PATH TEXT              a symbolic link
 
