@@ -72,12 +72,12 @@ class Bench:
     def tokens(self, paths):
         return self.numbers(["lex_program", "count"], paths)[-1]
 
-    def job(self, input_, folder, times=1, **more):
-        """A row of `pump_program` on a folder's a.c. What it says is how the job ended, and where it was done."""
+    def job(self, input_, folder, times=1, words=(), **more):
+        """A row of `pump_program` on a folder's a.c, with more words. What it says is how the job ended, and where it was done."""
         line = self.write(f"lists{folder.replace('/', '-')}", f"{folder} a.c\n".encode())
         if "pump_program" not in self.programs:
             return absent(input_, "pump_program", "not here")
-        job = Job([self.programs["pump_program"], *ORDER], self.folder, line)
+        job = Job([self.programs["pump_program"], *ORDER, *words], self.folder, line)
         return Row(input_, "pump_program", [job] * times, same=True, tells=way, **more)
 
 
@@ -102,17 +102,18 @@ def plain_text(bench):
 
 
 def small_plain_files(bench):
-    """Whole jobs on small files, which the analysis takes, and on such with one line that it doesn't."""
+    """Whole jobs on small files, and on such with a computed include that has a choice more than the budget."""
     files = bodies.plain_files(bodies.preprocessed_text(), 64, 59_000)
     size, rows = sum(map(len, files)), []
     lines = b"".join(b'#include "h%d.h"\n' % number for number in range(len(files)))
-    for label, line in [("64 plain files of 59 kB", b"int x;\n"), ("and a line that isn't plain", b"int x = 1 + 2;\n")]:
+    beyond = b'#define H "h0.h"\n#include H\n'
+    for label, line, words in [("64 plain files of 59 kB", b"int x;\n", []), ("and a choice above the budget", beyond, ["--budget", "1"])]:
         folder = f"small{len(rows)}"
         paths = [bench.write(f"{folder}/h{number}.h", body) for number, body in enumerate(files)]
         path = bench.write(f"{folder}/a.c", lines + line)
         counts = {"size": size, "count": bench.tokens(paths)}
         rows += bench.rows(label, [GCC, TCC], [[path]], **counts)
-        rows.append(bench.job(label, os.path.dirname(path), beside=rows[-2], **counts))
+        rows.append(bench.job(label, os.path.dirname(path), beside=rows[-2], words=words, **counts))
     return Table("Whole jobs, the remote way and the local way.", "token", rows)
 
 

@@ -15,7 +15,7 @@ build() {
     done
 }
 
-programs=$(build lex_program expand_program choice_examples tree_program pump_program pumpd share_program)
+programs=$(build lex_program expand_program choice_examples tree_program pump_program pumpd share_program tree_examples)
 counter=out/bench/count_malloc.so
 if ! gcc -O2 -shared -fPIC tools/count_malloc.c -o "$counter" 2> out/bench/count_malloc.log; then
     echo "allocations aren't counted: see out/bench/count_malloc.log" >&2
@@ -23,4 +23,9 @@ if ! gcc -O2 -shared -fPIC tools/count_malloc.c -o "$counter" 2> out/bench/count
 fi
 python3 tools/real_text.py out/bench/real
 # Each program's name is a word of its own.
-exec python3 -B tools/bench.py "${1:-5}" "$counter" out/bench/real $programs
+python3 -B tools/bench.py "${1:-5}" "$counter" out/bench/real $programs
+status=$?
+case " $(echo $programs) " in
+*" tree_examples "*) python3 -B tools/measure-analysis.py crates/tree_examples/out/tree_examples ;;
+esac
+exit $status
