@@ -1,0 +1,6 @@
+#pragma once
+
+#define PLATFORM_NAME "bsd"
+
+#include <sys/param.h>
+#include "on_posix.h"
