@@ -63,12 +63,13 @@ def list_word(word):
     return "".join("\\" + char if char in " \\\t\n#" else char for char in word)
 
 
-def ours(program, folder, words):
-    """The program's text of the source in a folder, or its diagnostic behind `!`."""
+def ours(program, folder, words, ways):
+    """The program's text of the source in a folder, or its diagnostic behind `!`; `ways` counts where jobs were done."""
     line = " ".join(list_word(word) for word in [folder, *words, "unit.c"])
     done = subprocess.run([program, "order", "-", "--hosts", "localhost", "-j", "1"],
                           input=line.encode("latin-1") + b"\n", capture_output=True, cwd=folder)
     report = done.stdout.decode("latin-1")
+    ways[re.sub(r"^job 0 (text \d+|\S+) ", "", report.split("\n")[0])] += 1
     if " text " not in report.splitlines()[0]:
         return "!" + " ".join(report.split("\n")[0:2]) + done.stderr.decode("latin-1")
     with open(os.path.join(folder, "out", "unit.i"), encoding="latin-1") as file:
@@ -97,7 +98,7 @@ def main():
         chosen = chosen[::step]
     words = macro_words() + directory_words()
     same = refused = differs = 0
-    diagnostics = collections.Counter()
+    diagnostics, ways = collections.Counter(), collections.Counter()
     with tempfile.TemporaryDirectory() as folder:
         for header in chosen:
             with open(os.path.join(folder, "unit.c"), "w", encoding="latin-1") as file:
@@ -106,7 +107,7 @@ def main():
             if gcc.returncode != 0:
                 refused += 1
                 continue
-            text = ours(program, folder, words)
+            text = ours(program, folder, words, ways)
             if text.startswith("!"):
                 diagnostics[re.sub(r".*: error: ", "", text)[:60]] += 1
                 continue
@@ -118,6 +119,7 @@ def main():
                 print(f"{header}: {first_difference(one, other)}")
     print(f"{len(chosen)} headers: {same} with the tokens of gcc, {differs} with others, {refused} that gcc refuses, "
           f"{sum(diagnostics.values())} with a diagnostic")
+    print("    done " + ", ".join(f"{way}: {count}" for way, count in ways.most_common()))
     for told, count in diagnostics.most_common(12):
         print(f"    {count} {told}")
     sys.exit(1 if differs else 0)
