@@ -4,7 +4,9 @@
 mod building;
 mod computed;
 mod directives;
+mod keys;
 mod laws;
+mod memo;
 mod sheets;
 mod targets;
 #[cfg(test)]
@@ -12,5 +14,7 @@ mod tests;
 
 pub use building::sheet;
 pub use computed::Computed;
+pub use keys::SheetKey;
 pub use laws::places_locate;
+pub use memo::SheetMemo;
 pub use sheets::Sheet;

@@ -1,5 +1,5 @@
 // Sheets.
-ghost use Rattle.std.specs.Prelude.{◌≡◌, IfOk};
+ghost use Rattle.std.specs.Prelude.{◌≡◌, ◌-◌, ◌^◌, length, min, sum_by, IfOk};
 ghost use Rattle.sheet_build.specs.Stored.{sheet_of_parts};
 
 use crate::computed::Computed;
@@ -59,6 +59,7 @@ impl Model for Sheet {
 impl Sheet {
     ghost use Rattle.std.specs.Prelude.{map};
     ghost use Rattle.sheet_build.specs.Sheet.{named_pair};
+    ghost use Rattle.sheet_build.specs.Weights.{sheet_weight};
 
     // A sheet of these parts.
     pub(crate) fn new(alloc: Global, parts: Parts) -> Result<Sheet, AllocError>
@@ -76,6 +77,17 @@ impl Sheet {
         Ok(Sheet {
             parts: Arc::try_clone(&self.parts)?,
         })
+    }
+
+    /// What it weighs in a memo: one more than the tokens of its definitions and of its computed targets and the nodes that
+    /// were walked for its plain targets and its probes, or 2^64 - 1 where that is greater.
+    pub fn weight(&self) -> u64
+        ensures { result ≡ sheet_weight self.now }
+    {
+        let tokens = definition_tokens(self.defs());
+        let tokens = tokens.saturating_add(computed_tokens(self.computed()));
+        let nodes = plain_nodes(self.plain()).saturating_add(probe_nodes(self.probes()));
+        tokens.saturating_add(nodes).saturating_add(1)
     }
 
     /// The definitions of its `#define` lines that are well formed, in order (ISO C 6.10.3).
@@ -112,4 +124,48 @@ impl Sheet {
     {
         self.parts.has_line
     }
+}
+
+// The tokens of definitions, up to 2^64 - 1.
+fn definition_tokens(defs: &[(Bytes, Definition)]) -> u64
+    ensures { result ≡ min (2 ^ 64 - 1) (sum_by (λ named. length named.1.body) defs.now) }
+{
+    let mut tokens: u64 = 0;
+    for named in defs {
+        tokens = tokens.saturating_add(named.1.body().len() as u64);
+    }
+    tokens
+}
+
+// The tokens of computed targets, up to 2^64 - 1.
+fn computed_tokens(computed: &[Computed]) -> u64
+    ensures { result ≡ min (2 ^ 64 - 1) (sum_by (λ c. length c.tokens) computed.now) }
+{
+    let mut tokens: u64 = 0;
+    for target in computed {
+        tokens = tokens.saturating_add(target.tokens().len() as u64);
+    }
+    tokens
+}
+
+// The nodes that were walked for plain targets, up to 2^64 - 1.
+fn plain_nodes(plain: &[(Visit, Located)]) -> u64
+    ensures { result ≡ min (2 ^ 64 - 1) (sum_by (λ hit. length hit.1.walked) plain.now) }
+{
+    let mut nodes: u64 = 0;
+    for hit in plain {
+        nodes = nodes.saturating_add(hit.1.walked.len() as u64);
+    }
+    nodes
+}
+
+// The nodes that were walked for probes, up to 2^64 - 1.
+fn probe_nodes(probes: &[Located]) -> u64
+    ensures { result ≡ min (2 ^ 64 - 1) (sum_by (λ located. length located.walked) probes.now) }
+{
+    let mut nodes: u64 = 0;
+    for located in probes {
+        nodes = nodes.saturating_add(located.walked.len() as u64);
+    }
+    nodes
 }

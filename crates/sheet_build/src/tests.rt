@@ -2,8 +2,9 @@
 ghost use Rattle.std.specs.Prelude.{IsTrue};
 ghost use Rattle.tree_model.specs.Entries.{entry_fits, links_fit};
 
-use crate::{Computed, Sheet, sheet};
+use crate::{Computed, Sheet, SheetKey, SheetMemo, sheet};
 use base_types::{Bytes, List};
+use closure_memo::{Kept, MemoState};
 use pp_tokens::Token;
 use search_path::{Found, Setup, Visit};
 use std::alloc::{AllocError, Global};
@@ -68,16 +69,52 @@ fn no_file_has_an_empty_sheet(rt: HostRuntime) {
     assert_eq!(&rt; text.as_str(), "line false\n");
 }
 
-// The sheet of the file at a place, as text.
-fn shown_at(rt: &impl Abort, alloc: Global, place: &str) -> String {
-    let setup = setup_of(alloc).expect(rt, "no memory");
-    let place = path(alloc, place).expect(rt, "no memory");
+// The definitions have 3 and 1 tokens, the computed targets 1, 4 and 1. A file found beside the source was walked to by 2 nodes,
+// and one found from the root by 5: the directory that a walk starts from, the root, /w, a directory and the file.
+#[test]
+fn a_memo_finds_a_sheet_that_was_published(rt: HostRuntime) {
+    let key = key_of(rt.alloc(), "/w/a.c").expect(&rt, "no memory");
+    let sheet = sheet_at(&rt, rt.alloc(), &key);
+    let weight = sheet.weight();
+    assert!(&rt; weight == 1 + 4 + 6 + 2 * 2 + 3 * 5, "{weight}");
+    check_memo(&rt, rt.alloc(), key, sheet);
+}
+
+fn check_memo(rt: &impl Abort, alloc: Global, key: SheetKey, sheet: Sheet) {
+    let mut memo = MemoState::<SheetMemo<Unnamed>>::new(alloc);
+    let other = key_of(alloc, "/w/b.h").expect(rt, "no memory");
+    let same = key.copy(alloc).expect(rt, "no memory");
+    assert!(rt; same == key && same != other, "keys");
+    let kept = memo.publish(0, key, sheet).expect(rt, "no memory");
+    assert!(rt; kept == Kept::New, "{kept:?}");
+    let none = memo.look(0, &other).expect(rt, "no memory");
+    assert!(rt; none.is_none(), "a sheet of another key");
+    let found = memo.look(0, &same).expect(rt, "no memory");
+    assert!(rt; found.is_some(), "no sheet");
+}
+
+// The key of the file at a place, as the source.
+fn key_of(alloc: Global, place: &str) -> Result<SheetKey, AllocError> {
     let visit = Visit {
-        place,
+        place: path(alloc, place)?,
         found: Found::Primary,
     };
-    let sheet = read_sheet(rt, alloc, &mut tree_of(rt, alloc), &setup, &visit);
-    let copy = sheet.copy().expect(rt, "too many copies");
+    Ok(SheetKey {
+        setup: setup_of(alloc)?,
+        visit,
+    })
+}
+
+fn sheet_at(rt: &impl Abort, alloc: Global, key: &SheetKey) -> Sheet {
+    read_sheet(rt, alloc, &mut tree_of(rt, alloc), &key.setup, &key.visit)
+}
+
+// The sheet of the file at a place, as text.
+fn shown_at(rt: &impl Abort, alloc: Global, place: &str) -> String {
+    let key = key_of(alloc, place).expect(rt, "no memory");
+    let copy = sheet_at(rt, alloc, &key)
+        .copy()
+        .expect(rt, "too many copies");
     shown(alloc, &copy).expect(rt, "no memory")
 }
 
