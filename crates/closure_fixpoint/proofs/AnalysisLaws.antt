@@ -26,7 +26,8 @@ use Rattle.closure_fixpoint.specs.Laws.{ClosuresExist}
 use Rattle.closure_fixpoint.specs.Analysis.{IsNodeOf, AreEntriesOf, Holds, NothingHolds, AnalysisHolds}
 use Rattle.closure_fixpoint.specs.Progress.{RefusedMeans}
 use Rattle.closure_fixpoint.specs.Told.{RefusalMeans}
-use Rattle.closure_fixpoint.specs.Driving.{is_large_in, IsDoneIn, IsRefusedIn}
+use Rattle.closure_fixpoint.specs.Driving.{is_large_in, IsDoneIn}
+use Rattle.closure_fixpoint.specs.Requested.{RefusalsHold}
 use Rattle.closure_fixpoint.specs.declared.entries.Gathered.TheVariants as gathered
 use Rattle.closure_fixpoint.specs.Gathering.{comes_before, AreGathered, HasLarge, is_over, IsGathered}
 use Rattle.closure_fixpoint.proofs.Orders.{in_order}
@@ -178,6 +179,31 @@ module _ (holds : HoldsOfLocated) (locates : SearchesLocate) (tree : FileTree) (
 
 -- REFUSALS
 
+-- a refusal that an analysis told holds
+pub refusals-hold : MoreKeepHeaders HeaderName → HoldsOfLocated → SearchesLocate → PlacesLocate → ClosuresExist → RefusalsHold
+refusals-hold keep holds locates places exist tree job budget heard why whole is_true means = by_why why means
+  where
+    closure : (visits : List Visit) × IsClosureOf tree job visits
+    closure = exist tree job whole
+
+    at_closure : (why : Refusal) → RefusedMeans job budget heard why → IsMetAtClosure why tree job budget
+    at_closure why means = record {
+      visits = closure.0;
+      closure = closure.1;
+      met = means (answers_of tree job) (is_large_in tree) is_true closure.0 closure.1.closed;
+    }
+
+    by_why : (why : Refusal) → RefusalMeans job budget heard why → Holds why tree job budget
+    by_why refusal.Budget means = at_closure refusal.Budget means
+    by_why refusal.Long means = at_closure refusal.Long means
+    by_why refusal.Presumed means = at_closure refusal.Presumed means
+    by_why refusal.Visits means = at_closure refusal.Visits means
+    by_why refusal.Large means =
+        let visit = means (answers_of tree job) (is_large_in tree) is_true closure.0 closure.1.closed in
+        large_node holds locates tree whole job closure.0 closure.1 keep places visit.0 visit.1 visit.2
+    by_why refusal.Request means = absurd (means (answers_of tree job) (is_large_in tree) is_true closure.0 closure.1.closed)
+    by_why refusal.NoSource means = means (answers_of tree job) (is_large_in tree) is_true closure.0 closure.1.closed
+
 module _ (keep : MoreKeepHeaders HeaderName) (long : MoreKeepLongRuns) (presumed : MoreKeepPresumedRuns) (many : MoreKeepManyRuns) where
   -- what is met at some visits is met at more
   met-more : (answers : Answers) (job : JobData) (budget : ℕ) (less more : List Visit) → Within less more → (why : Refusal) → IsMet why answers job budget less → IsMet why answers job budget more
@@ -195,32 +221,7 @@ module _ (keep : MoreKeepHeaders HeaderName) (long : MoreKeepLongRuns) (presumed
   met-more answers job budget less more within refusal.Request s = s
   met-more answers job budget less more within refusal.NoSource s = s
 
-  module _ (holds : HoldsOfLocated) (locates : SearchesLocate) (places : PlacesLocate) (exist : ClosuresExist) (tree : FileTree) (whole : IsTree tree) (job : Job) (budget : ℕ) where
-    -- a refusal that an analysis told holds
-    pub refused-holds : (why : Refusal) → IsRefusedIn tree job budget why → Holds why tree job budget
-    refused-holds why refused = by_why why refused.means
-      where
-        closure : (visits : List Visit) × IsClosureOf tree job visits
-        closure = exist tree job whole
-
-        at_closure : (why : Refusal) → RefusedMeans job budget refused.heard why → IsMetAtClosure why tree job budget
-        at_closure why means = record {
-          visits = closure.0;
-          closure = closure.1;
-          met = means (answers_of tree job) (is_large_in tree) refused.is_true closure.0 closure.1.closed;
-        }
-
-        by_why : (why : Refusal) → RefusalMeans job budget refused.heard why → Holds why tree job budget
-        by_why refusal.Budget means = at_closure refusal.Budget means
-        by_why refusal.Long means = at_closure refusal.Long means
-        by_why refusal.Presumed means = at_closure refusal.Presumed means
-        by_why refusal.Visits means = at_closure refusal.Visits means
-        by_why refusal.Large means =
-            let visit = means (answers_of tree job) (is_large_in tree) refused.is_true closure.0 closure.1.closed in
-            large_node holds locates tree whole job closure.0 closure.1 keep places visit.0 visit.1 visit.2
-        by_why refusal.Request means = absurd (means (answers_of tree job) (is_large_in tree) refused.is_true closure.0 closure.1.closed)
-        by_why refusal.NoSource means = means (answers_of tree job) (is_large_in tree) refused.is_true closure.0 closure.1.closed
-
+  module _ (holds : HoldsOfLocated) (locates : SearchesLocate) (tree : FileTree) (whole : IsTree tree) (job : Job) (budget : ℕ) where
     -- THE ANSWER
 
     module _ (visits : List Visit) (nodes : List Path) (done : IsDoneIn tree job budget visits nodes) where
@@ -237,7 +238,7 @@ module _ (keep : MoreKeepHeaders HeaderName) (long : MoreKeepLongRuns) (presumed
           (met-more (answers_of tree job) job budget met.visits visits (met.closure.least visits closure_is.closed) why met.met)
 
       module _ (entries : Entries) (given : AreGathered tree nodes entries) where
-        are : AreEntriesOf tree job entries
+        pub are : AreEntriesOf tree job entries
         are = are-sent holds locates tree whole job nodes is_node entries given
 
         none-large : (HasLarge entries → ⊥) → (path : Path) → IsNodeOf tree job path → IsTooLarge tree path → ⊥

@@ -9,7 +9,7 @@ use Rattle.search_path.specs.declared.asking.Visit.{Visit}
 use Rattle.job_words.specs.JobOf.{JobData}
 use Rattle.sheet_build.specs.Sheet.{SheetData}
 use Rattle.closure_fixpoint.specs.Closure.{first_definitions}
-use Rattle.closure_fixpoint.specs.Naming.{HasJust, definitions_in, targets_in, targets_of, Follows}
+use Rattle.closure_fixpoint.specs.Naming.{HasJust, definitions_in, targets_in, targets_of, IsRest, Follows}
 use Rattle.closure_fixpoint.specs.declared.naming.Naming.{Naming}
 use Rattle.closure_fixpoint.proofs.NamesLaws.{there_behind}
 
@@ -26,5 +26,11 @@ follows_more naming job sheets more follows = record {
         k.0,
         subst (λ (ts : List (Option Text × List Token)). slice_get ts number ≡ Some k.0) (sym (flat_map-append targets_in sheets more)) (there_behind (targets_of sheets) (targets_of more) number k.0 k.1),
         k.2,
+      );
+  left = λ rest is.
+      let longer : length (sheets ++ more) ≡ length sheets + length more = length-append sheets more in
+      let was = follows.left rest is in (
+        omega (arith, longer, was.0),
+        subst (λ (l : List (Visit × SheetData)). IsRest job l rest) (sym (take-append-le rest.told sheets more was.0)) was.1,
       );
 }

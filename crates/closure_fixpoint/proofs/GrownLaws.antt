@@ -3,7 +3,7 @@ use Rattle.std.proofs.Common.{◌≡◌, ◌⊎◌, ◌≤◌, ◌<◌, ◌+◌,
 use Rattle.std.specs.List.{list_any, slice_get}
 use Rattle.std.proofs.lemmas.List.{take_more, take-append-le, map-append, length-append}
 use Rattle.std.proofs.lemmas.Option.{slice_get_within, get_or_from_slice_get}
-use Rattle.base_types.specs.Members.{Member, EachOnce}
+use Rattle.base_types.specs.Members.{Member, Within, EachOnce}
 use Rattle.search_path.specs.Search.{Hit}
 use Rattle.search_path.specs.declared.asking.Visit.{Visit}
 use Rattle.sheet_build.specs.Sheet.{SheetData}
@@ -122,6 +122,22 @@ taken_apart (v ∷ found) (suc n) visit once at (inr m) = taken_apart found n vi
 pub next_is_new : (sheets : List (Visit × SheetData)) (found : List Visit) (visit : Visit) → EachOnce found → slice_get found (length sheets) ≡ Some visit
     → map (λ told. told.0) sheets ≡ take (length sheets) found → Member visit (map (λ told. told.0) sheets) → ⊥
 next_is_new sheets found visit once at is m = taken_apart found (length sheets) visit once at (subst (λ (l : List Visit). Member visit l) is m)
+
+-- a front in which all of a list stands is the whole list
+pub whole_front : (found : List Visit) (n : ℕ) → EachOnce found → Within found (take n found) → take n found ≡ found
+whole_front [] zero once within = refl
+whole_front [] (suc n) once within = refl
+whole_front (v ∷ found) zero once within = elim (within v (inl refl)) [ ]
+whole_front (v ∷ found) (suc n) once within = ap (λ (l : List Visit). v ∷ l) (whole_front found n once.1 (λ x m. behind x m (within x (inr m))))
+  where
+    behind : (x : Visit) → Member x found → Member x (v ∷ take n found) → Member x (take n found)
+    behind x m (inl same) = absurd (once.0 (subst (λ (w : Visit). Member w found) (sym same) m))
+    behind x m (inr there) = there
+
+-- where the sheet of each visit was told, the visits found are those of the sheets
+pub all_told : (sheets : List (Visit × SheetData)) (found : List Visit) → EachOnce found → Within found (map (λ told. told.0) sheets)
+    → map (λ told. told.0) sheets ≡ take (length sheets) found → found ≡ map (λ told. told.0) sheets
+all_told sheets found once within is = sym (whole_front found (length sheets) once (subst (λ (l : List Visit). Within found l) is within)) ∙ sym is
 
 -- PLAIN INCLUDES
 

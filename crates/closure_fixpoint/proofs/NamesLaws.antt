@@ -1,5 +1,5 @@
 -- What is kept of the definitions and answers that were told stays right.
-use Rattle.std.proofs.Common.{◌≡◌, ◌⊎◌, ◌<◌, ◌≤◌, ◌+◌, ℕ, zero, suc, ◌∷◌, ◌++◌, [], List, length, take, drop, Option, Some, Result, Ok, Err, true, false, inl, inr, refl, sym, ap, subst, ◌∙◌, map, arith, true≢false, append_assoc, append-nil, take_all, length-append, get_or}
+use Rattle.std.proofs.Common.{◌≡◌, ◌⊎◌, ◌<◌, ◌≤◌, ◌+◌, ℕ, zero, suc, ◌∷◌, ◌++◌, [], List, length, take, drop, Option, Some, None, Result, Ok, Err, true, false, inl, inr, refl, sym, ap, subst, ◌∙◌, map, arith, true≢false, append_assoc, append-nil, take_all, length-append, get_or}
 use Rattle.std.specs.Prelude.{Vec}
 use Rattle.std.specs.declared.alloc.Global.{Global}
 use Rattle.std.specs.List.{slice_get}
@@ -21,13 +21,17 @@ use Rattle.search_path.specs.declared.asking.Visit.{Visit}
 use Rattle.job_words.specs.JobOf.{JobData}
 use Rattle.sheet_build.specs.Sheet.{SheetData, ComputedAsk, named_pair}
 use Rattle.closure_fixpoint.specs.Closure.{first_definitions, sets_of, known_name}
-use Rattle.closure_fixpoint.specs.Targets.{RefusesNames, AreNames, NamesSeen}
+use Rattle.closure_fixpoint.specs.Targets.{heard_of, RefusesNames, AreNames, NamesSeen}
 use Rattle.closure_fixpoint.specs.declared.job_analysis.Refusal.{Refusal}
 use Rattle.closure_fixpoint.specs.declared.job_analysis.Refusal.TheVariants.{Budget, Long, Presumed, Visits, Large, Request, NoSource}
 use Rattle.closure_fixpoint.specs.declared.naming.Grown.{Grown}
 use Rattle.closure_fixpoint.specs.declared.naming.Kept.{Kept}
 use Rattle.closure_fixpoint.specs.declared.naming.Naming.{Naming}
-use Rattle.closure_fixpoint.specs.Naming.{HasJust, definitions_in, definitions_to, Grew, target_of, targets_of, NamesUnder, IsKept, NoneSince, Puts, IsAgain, IsAnew, AreKept, HoldsStill, Follows, IsUpToDate}
+use Rattle.closure_fixpoint.specs.Naming.{HasJust, definitions_in, definitions_to, Grew, target_of, targets_of, NamesUnder, IsKept, NoneSince, Puts, IsAgain, IsAnew, AreKept, HoldsStill, IsRest, IsLeft, rest_of, Follows, IsUpToDate}
+use Rattle.closure_fixpoint.specs.Progress.{IsTold}
+use Rattle.search_path.specs.Search.{Hit}
+use Rattle.search_path.specs.declared.asking.Ask.{Ask}
+use Rattle.closure_fixpoint.specs.declared.naming.Rest.{Rest}
 use Rattle.closure_fixpoint.proofs.MemberLaws.{Contains-from_Member, Member-from_Contains}
 use Rattle.closure_fixpoint.proofs.ProgressLaws.{sets-distinct}
 use Rattle.closure_fixpoint.proofs.SetsLaws.{named, just_more, others_same}
@@ -244,14 +248,15 @@ definitions_next job n sheets told below is =
     ∙ sym (flat_map_more (λ (t : Visit × SheetData). t.1.defs) (first_definitions job) (take n sheets) told)
 
 pub follows_next : (old new : Naming) (job : JobData) (sheets : List (Visit × SheetData)) (told : Visit × SheetData) → old.told < length sheets → told ≡ get_or sheets old.told told → Follows old job sheets → old.begun ≡ true
-    → Grew old.grown told.1.defs new.grown → new.told ≡ old.told + 1 → new.begun ≡ true → new.kept.items ≡ old.kept.items → Follows new job sheets
-follows_next old new job sheets told below is follows begun grew one begun_now same = record {
+    → Grew old.grown told.1.defs new.grown → new.told ≡ old.told + 1 → new.begun ≡ true → new.kept.items ≡ old.kept.items → new.rest ≡ old.rest → Follows new job sheets
+follows_next old new job sheets told below is follows begun grew one begun_now same rest_same = record {
   few = omega (arith, below, one);
   unread = λ never. absurd (cc);
   sets = λ yes_begun.
       subst (λ (n : ℕ). HasJust new.grown.sets (definitions_to job n sheets)) (sym one)
       (subst (HasJust new.grown.sets) (sym (definitions_next job old.told sheets told below is)) (grew.sets (definitions_to job old.told sheets) (follows.sets begun)));
   kept = subst (AreKept new.grown (targets_of sheets)) (sym same) (all_grown old.grown new.grown told.1.defs grew (targets_of sheets) old.kept.items follows.kept);
+  left = λ rest left. follows.left rest (sym rest_same ∙ left);
 }
 
 -- all sheets were told
@@ -263,23 +268,25 @@ up_to_date naming job sheets follows begun all = record {
 }
 
 -- the first definitions are read
-pub follows_first : (old new : Naming) (job : JobData) → old.begun ≡ false → HasJust new.grown.sets (first_definitions job) → new.told ≡ old.told → new.begun ≡ true → new.kept.items ≡ old.kept.items
+pub follows_first : (old new : Naming) (job : JobData) → old.begun ≡ false → HasJust new.grown.sets (first_definitions job) → new.told ≡ old.told → new.begun ≡ true → new.kept.items ≡ old.kept.items → new.rest ≡ old.rest
     → (sheets : List (Visit × SheetData)) → Follows old job sheets → Follows new job sheets
-follows_first old new job unread just told begun same sheets follows = record {
+follows_first old new job unread just told begun same rest_same sheets follows = record {
   few = omega (arith, follows.few, told);
   unread = λ never. absurd (cc);
   sets = λ yes_begun.
       subst (λ (n : ℕ). HasJust new.grown.sets (definitions_to job n sheets)) (sym (told ∙ (follows.unread unread).0))
       (subst (HasJust new.grown.sets) (sym (append-nil (first_definitions job))) just);
   kept = subst (AreKept new.grown (targets_of sheets)) (sym (same ∙ (follows.unread unread).1)) (λ number answer is. absurd (cc));
+  left = λ rest left. follows.left rest (sym rest_same ∙ left);
 }
 
-pub follows_nothing : (naming : Naming) → naming.begun ≡ false → naming.told ≡ 0 → naming.kept.items ≡ [] → (job : JobData) → Follows naming job []
-follows_nothing naming unread told none job = record {
+pub follows_nothing : (naming : Naming) → naming.begun ≡ false → naming.told ≡ 0 → naming.kept.items ≡ [] → naming.rest ≡ None → (job : JobData) → Follows naming job []
+follows_nothing naming unread told none no_rest job = record {
   few = omega (arith, told);
   unread = λ is. (told, none);
   sets = λ never. absurd (cc);
   kept = subst (AreKept naming.grown []) (sym none) (λ number answer is. absurd (cc));
+  left = λ rest left. absurd (cc);
 }
 
 -- ONE QUESTION
@@ -297,17 +304,18 @@ seen_again decides job budget sheets visit sheet c naming number mark new now th
 
 -- where no answers or others are kept
 follows_kept : (naming : Naming) (job : JobData) (sheets : List (Visit × SheetData)) (new : Vec Kept Global) → IsUpToDate naming job sheets → AreKept naming.grown (targets_of sheets) new.items
-    → Follows (record { begun = naming.begun; told = naming.told; grown = naming.grown; kept = new }) job sheets
+    → Follows (record { begun = naming.begun; told = naming.told; grown = naming.grown; kept = new; rest = naming.rest }) job sheets
 follows_kept naming job sheets new now kept_new = record {
   few = now.follows.few;
   unread = λ unread. absurd (true≢false (sym now.begun ∙ unread));
   sets = now.follows.sets;
   kept = kept_new;
+  left = now.follows.left;
 }
 
 pub follows_again : (budget : ℕ) (job : JobData) (sheets : List (Visit × SheetData)) (visit : Visit) (sheet : SheetData) (c : ComputedAsk) (naming : Naming) (number mark : ℕ) (new : Vec Kept Global) → IsUpToDate naming job sheets
     → slice_get (targets_of sheets) number ≡ Some (target_of visit sheet c) → (still : HoldsStill naming budget number) → mark ≡ length naming.grown.log.items
-    → (headers : List HeaderName) → IsAgain naming.kept.items number mark headers new.items → Follows (record { begun = naming.begun; told = naming.told; grown = naming.grown; kept = new }) job sheets
+    → (headers : List HeaderName) → IsAgain naming.kept.items number mark headers new.items → Follows (record { begun = naming.begun; told = naming.told; grown = naming.grown; kept = new; rest = naming.rest }) job sheets
 follows_again budget job sheets visit sheet c naming number mark new now there still is headers again =
     let same : IsAgain naming.kept.items number (length naming.grown.log.items) headers new.items = subst (λ (m : ℕ). IsAgain naming.kept.items number m headers new.items) is again in
     let answer : same.answer ≡ still.answer = one_answer same.was still.is in
@@ -320,6 +328,47 @@ follows_again budget job sheets visit sheet c naming number mark new now there s
 
 pub follows_anew : (budget : ℕ) (job : JobData) (sheets : List (Visit × SheetData)) (target : Option Text × List Token) (naming : Naming) (number : ℕ) (new : Vec Kept Global) → IsUpToDate naming job sheets
     → slice_get (targets_of sheets) number ≡ Some target → (names : Result (Vec HeaderName Global) Refusal) → IsAnew budget naming.grown target naming.kept.items number names new.items
-    → Follows (record { begun = naming.begun; told = naming.told; grown = naming.grown; kept = new }) job sheets
+    → Follows (record { begun = naming.begun; told = naming.told; grown = naming.grown; kept = new; rest = naming.rest }) job sheets
 follows_anew budget job sheets target naming number new now there names is =
     follows_kept naming job sheets new now (anew_kept budget naming.grown (targets_of sheets) target naming.kept.items new.items number now.follows.kept there names is)
+
+-- THE REST OF A TARGET
+
+-- without one
+pub follows_alone : (naming : Naming) (job : JobData) (sheets : List (Visit × SheetData)) → Follows naming job sheets → Follows (record naming { rest = None }) job sheets
+follows_alone naming job sheets follows = record {
+  few = follows.few;
+  unread = follows.unread;
+  sets = follows.sets;
+  kept = follows.kept;
+  left = λ rest left. absurd (cc);
+}
+
+-- with one
+pub follows_with : (naming : Naming) (job : JobData) (sheets : List (Visit × SheetData)) (rest : Rest) → Follows naming job sheets → IsLeft job sheets rest → Follows (record naming { rest = Some rest }) job sheets
+follows_with naming job sheets rest follows is = record {
+  few = follows.few;
+  unread = follows.unread;
+  sets = follows.sets;
+  kept = follows.kept;
+  left = λ other left. let same : rest ≡ other = cc in subst (λ (r : Rest). IsLeft job sheets r) same is;
+}
+
+-- with one of which some headers are done with
+pub follows_on : (naming : Naming) (job : JobData) (sheets : List (Visit × SheetData)) (rest : Rest) (next : ℕ) → Follows naming job sheets → naming.rest ≡ Some rest
+    → Follows (record naming { rest = Some (record rest { next = next }) }) job sheets
+follows_on naming job sheets rest next follows is =
+    let was = follows.left rest is in
+    follows_with naming job sheets (record rest { next = next }) follows
+    (was.0, record { sheet = was.1.sheet; c = was.1.c; is_told = was.1.is_told; form_is = was.1.form_is; include_is = was.1.include_is; may = was.1.may })
+
+-- with all headers of a target
+pub follows_aside : (naming : Naming) (job : JobData) (budget : ℕ) (searches : List (Ask × Option Hit)) (sheets : List (Visit × SheetData)) (visit : Visit) (sheet : SheetData) (c : ComputedAsk) (headers : Vec HeaderName Global)
+    → Follows naming job sheets → IsTold (heard_of searches sheets) visit sheet c → NamesSeen job budget sheets visit sheet c (Ok headers)
+    → Follows (record naming { rest = Some (rest_of (length sheets) visit c headers) }) job sheets
+follows_aside naming job budget searches sheets visit sheet c headers follows told names =
+    follows_with naming job sheets (rest_of (length sheets) visit c headers) follows (
+      omega arith,
+      subst (λ (l : List (Visit × SheetData)). IsRest job l (rest_of (length sheets) visit c headers)) (sym (take_all (length sheets) sheets (omega arith)))
+          (record { sheet = sheet; c = c; is_told = record { told = told.told; stands = told.stands }; form_is = refl; include_is = refl; may = names.may }),
+    )

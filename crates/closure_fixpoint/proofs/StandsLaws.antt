@@ -31,7 +31,7 @@ use Rattle.closure_fixpoint.specs.Naming.{Follows}
 use Rattle.closure_fixpoint.proofs.MemberLaws.{MappedBy, map-Member}
 use Rattle.closure_fixpoint.proofs.ProgressLaws.{keeps_nothing, done_means}
 use Rattle.closure_fixpoint.proofs.WorklistLaws.{keeps_visit, keeps_answered, keeps_unanswered, keeps_told, keeps_whole, keeps_large}
-use Rattle.closure_fixpoint.proofs.GrownLaws.{Grows, grows_visit, stands_at, next_is_new, grows_none, grows_visits, grows_hit, grows_as, still_there, still_in_order, next_in_order, still_plain, plain_of_sheet}
+use Rattle.closure_fixpoint.proofs.GrownLaws.{Grows, grows_visit, stands_at, next_is_new, grows_none, grows_visits, grows_hit, grows_as, still_there, still_in_order, next_in_order, still_plain, plain_of_sheet, all_told}
 use Rattle.closure_fixpoint.proofs.FollowsLaws.{follows_more}
 
 -- where no file is too large, what was told is searches and sheets
@@ -373,11 +373,12 @@ large_refused naming p by some = go p.heard.large refl some
 
 -- the answer that it is done
 pub done_by : MoreKeepHeaders HeaderName → MoreKeepLongRuns → MoreKeepPresumedRuns → MoreKeepManyRuns → (naming : Naming) (p : Progress) (closure : Closure) → StandsBy naming p
-    → IsEnough p.job p.heard p.found → IsAccepted p.job p.budget p.heard p.found → IsWhole (heard_of p.heard.searches p.heard.sheets) p.found closure
+    → p.broken ≡ false → IsEnough p.job p.heard p.found → IsAccepted p.job p.budget p.heard p.found → IsWhole (heard_of p.heard.searches p.heard.sheets) p.found closure
     → IsDone p closure.visits closure.nodes (record p { pending = NothingAsked; ended = Some Finished })
-done_by keep long presumed many naming p closure by enough accepted whole = record {
+done_by keep long presumed many naming p closure by calm enough accepted whole = record {
   means = subst (λ (l : List Visit). DoneMeans p.job p.budget p.heard l) (sym whole.all) (done_means keep long presumed many p.job p.budget p.heard p.found by.stands.keeps enough accepted);
   all = whole.all;
+  told = whole.all ∙ all_told p.heard.sheets p.found by.stands.keeps.once enough.sheets (by.stands.in_order calm);
   nodes_are = subst (λ (h : Heard). AreNodesOf (located_told h) closure.nodes) (sym (heard_is p.heard accepted.small)) whole.nodes_are;
   rising = whole.rising;
   canonical = whole.canonical;

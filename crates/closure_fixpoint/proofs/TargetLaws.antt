@@ -1,5 +1,5 @@
 -- What is wanted of a computed target.
-use Rattle.std.proofs.Common.{◌≡◌, ◌∙◌, ◌∷◌, ◌++◌, [], ℕ, List, Option, None, Some, Ok, Bool, true, false, not, inl, refl, sym, subst}
+use Rattle.std.proofs.Common.{◌≡◌, ◌∙◌, ◌∷◌, ◌++◌, [], ℕ, List, length, take_all, arith, Option, None, Some, Ok, Bool, true, false, not, inl, refl, sym, subst}
 use Rattle.base_types.specs.Members.{Member}
 use Rattle.directive_scan.specs.declared.HeaderName.{HeaderName}
 use Rattle.search_path.specs.Search.{Hit}
@@ -12,8 +12,13 @@ use Rattle.sheet_build.specs.Sheet.{SheetData, ComputedAsk}
 use Rattle.closure_fixpoint.specs.Closure.{computed_ask, known_name}
 use Rattle.closure_fixpoint.specs.Progress.{Heard, sets_told, IsTold, MayTold, ByComputed, ForTarget}
 use Rattle.closure_fixpoint.specs.Asked.{HasNoAnswer}
-use Rattle.closure_fixpoint.specs.Wanting.{WantsOfAsk, WantsOfHeaders}
-use Rattle.closure_fixpoint.specs.Targets.{AreNames, IsNextWant, IsDoneWith, WantsOr}
+use Rattle.closure_fixpoint.specs.Wanting.{named_ask, WantsOfAsk, WantsOfHeaders}
+use Rattle.closure_fixpoint.specs.Targets.{heard_of, AreNames, NamesSeen, IsNextWant, IsDoneWith, WantsOr}
+use Rattle.std.specs.Prelude.{Vec}
+use Rattle.std.specs.declared.alloc.Global.{Global}
+use Rattle.closure_fixpoint.specs.Naming.{IsRest, IsLeft}
+use Rattle.closure_fixpoint.specs.declared.naming.Rest.{Rest}
+use Rattle.search_path.specs.declared.asking.Form.{Form}
 use Rattle.closure_fixpoint.proofs.MemberLaws.{Member-append_right}
 
 not_false : (b : Bool) → not b ≡ true → b ≡ false
@@ -51,3 +56,24 @@ module _ (job : JobData) (budget : ℕ) (heard : Heard) (found : List Visit) (vi
       → WantsOfHeaders heard.searches found visit c.form (not c.probe) headers o → WantsOr job budget heard found (IsDoneWith job budget heard found visit sheet c) (Ok o)
   wants_or headers names None wants = done_with headers names wants
   wants_or headers names (Some w) wants = wanted_of headers names w wants
+
+-- what is wanted of the headers that are left of a target is wanted next, where no sheet was told since
+pub rest_wants : (job : JobData) (searches : List (Ask × Option Hit)) (sheets : List (Visit × SheetData)) (found : List Visit) (rest : Rest) → IsLeft job sheets rest → rest.told ≡ length sheets → (w : Want)
+    → WantsOfHeaders searches found rest.visit rest.form rest.include rest.headers.items (Some w) → IsNextWant job (heard_of searches sheets) found w
+rest_wants job searches sheets found rest left told w (header, m, wants) =
+    let now : IsRest job sheets rest = subst (λ (l : List (Visit × SheetData)). IsRest job l rest) (take_all rest.told sheets (omega (arith, told))) left.1 in
+    next_of_ask job 0 (heard_of searches sheets) found rest.visit now.sheet now.c (record { told = now.is_told.told; stands = now.is_told.stands }) header (now.may header m) w
+    (subst (λ (b : Bool). WantsOfAsk searches found (computed_ask rest.visit now.c header) b (Some w)) now.include_is
+    (subst (λ (f : Form). WantsOfAsk searches found (named_ask rest.visit f header) rest.include (Some w)) now.form_is wants))
+
+-- what is wanted of a computed target, with its headers as code has them
+pub target_wants : (job : JobData) (budget : ℕ) (searches : List (Ask × Option Hit)) (sheets : List (Visit × SheetData)) (found : List Visit) (visit : Visit) (sheet : SheetData) (c : ComputedAsk)
+    → IsTold (heard_of searches sheets) visit sheet c → (headers : Vec HeaderName Global) → NamesSeen job budget sheets visit sheet c (Ok headers)
+    → (form : Form) (probe : Bool) (list : List HeaderName) (want o : Option Want) → form ≡ c.form → probe ≡ c.probe → list ≡ headers.items
+    → WantsOfHeaders searches found visit form (not probe) list want → want ≡ o → WantsOr job budget (heard_of searches sheets) found (IsDoneWith job budget (heard_of searches sheets) found visit sheet c) (Ok o)
+target_wants job budget searches sheets found visit sheet c told headers names form probe list want o form_is probe_is list_is wants is =
+    wants_or job budget (heard_of searches sheets) found visit sheet c told headers.items names o
+    (subst (λ (x : Option Want). WantsOfHeaders searches found visit c.form (not c.probe) headers.items x) is
+    (subst (λ (l : List HeaderName). WantsOfHeaders searches found visit c.form (not c.probe) l want) list_is
+    (subst (λ (b : Bool). WantsOfHeaders searches found visit c.form (not b) list want) probe_is
+    (subst (λ (f : Form). WantsOfHeaders searches found visit f (not probe) list want) form_is wants))))

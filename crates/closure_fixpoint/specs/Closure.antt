@@ -136,6 +136,10 @@ answers_of tree job = record { find = search tree job.setup; sheet = sheet_of tr
 abbrev pub IsClosureOf : FileTree → JobData → List Visit → Type 0
 IsClosureOf tree job visits = IsClosureFor (answers_of tree job) job visits
 
+-- the visit is in the closure of the job
+abbrev pub InClosure : FileTree → JobData → Visit → Type 0
+InClosure tree job visit = (visits : List Visit) × IsClosureOf tree job visits × Member visit visits
+
 -- ---- the searches that are known ----
 
 -- a search that succeeded and that the analysis knows of: for the source or a file in front of it, for an include, or for a

@@ -5,6 +5,7 @@
 --     Laws         each job has one closure
 --     Progress     what an analysis was told so far, and what its answers mean
 --     Told         what is asked for next, and what is told
+--     Requested    what is made of its end: the request of a closure
 --     Seen, Worklist, Asked, AskKeys, Wanting, Targets, Naming, Plan, Gathering, Driving      helpers of the code
 pub mod Closed
 pub mod Closure
@@ -22,3 +23,4 @@ pub mod Naming
 pub mod Plan
 pub mod Gathering
 pub mod Driving
+pub mod Requested

@@ -1,5 +1,5 @@
 -- What is known of the headers that computed targets may name.
-use Rattle.std.specs.Prelude.{◌≡◌, ◌↔◌, ◌⊎◌, ◌≤◌, ℕ, true, false, List, [], ◌++◌, ◌+◌, length, map, take, drop, Contains, Option, Some, Result, Ok, Err, Vec}
+use Rattle.std.specs.Prelude.{◌≡◌, ◌↔◌, ◌⊎◌, ◌≤◌, ℕ, true, false, not, List, [], ◌++◌, ◌+◌, length, map, take, drop, Contains, Option, Some, Result, Ok, Err, Vec}
 use Rattle.std.specs.declared.alloc.Global.{Global}
 use Rattle.std.specs.List.{flat_map, slice_get}
 use Rattle.std.specs.List.Sorted.{IsStrictlySortedBy}
@@ -20,11 +20,13 @@ use Rattle.search_path.specs.declared.asking.Visit.{Visit}
 use Rattle.job_words.specs.JobOf.{JobData}
 use Rattle.sheet_build.specs.Sheet.{SheetData, ComputedAsk}
 use Rattle.closure_fixpoint.specs.Closure.{first_definitions, sets_of, known_name}
-use Rattle.closure_fixpoint.specs.Targets.{RefusesNames}
+use Rattle.closure_fixpoint.specs.Progress.{IsTold, MayTold}
+use Rattle.closure_fixpoint.specs.Targets.{RefusesNames, heard_of}
 use Rattle.closure_fixpoint.specs.declared.job_analysis.Refusal.{Refusal}
 use Rattle.closure_fixpoint.specs.declared.naming.Grown.{Grown}
 use Rattle.closure_fixpoint.specs.declared.naming.Kept.{Kept}
 use Rattle.closure_fixpoint.specs.declared.naming.Naming.{Naming}
+use Rattle.closure_fixpoint.specs.declared.naming.Rest.{Rest}
 
 -- ---- definitions ----
 
@@ -121,6 +123,23 @@ abbrev pub AreKept : Grown → List (Option Text × List Token) → List Kept �
 AreKept grown targets answers = (number : ℕ) (answer : Kept) → slice_get answers number ≡ Some answer →
     (target : Option Text × List Token) × (slice_get targets number ≡ Some target) × IsKept grown.sets grown.log.items target answer
 
+-- what is left of a computed target: its headers, each of which it may name under these sheets
+pub record IsRest (job : JobData) (sheets : List (Visit × SheetData)) (rest : Rest) : Type 0 where
+  pub sheet : SheetData
+  pub c : ComputedAsk
+  pub is_told : IsTold (heard_of [] sheets) rest.visit sheet c
+  pub form_is : rest.form ≡ c.form
+  pub include_is : rest.include ≡ not c.probe
+  pub may : (header : HeaderName) → Member header rest.headers.items → MayTold job (heard_of [] sheets) rest.visit sheet c header
+
+-- the same of the sheets that were told by then
+abbrev pub IsLeft : JobData → List (Visit × SheetData) → Rest → Type 0
+IsLeft job sheets rest = (rest.told ≤ length sheets) × IsRest job (take rest.told sheets) rest
+
+-- all headers of a target, of which something is wanted
+abbrev pub rest_of : ℕ → Visit → ComputedAsk → Vec HeaderName Global → Rest
+rest_of told visit c headers = record { told = told; visit = visit; form = c.form; include = not c.probe; headers = headers; next = 0 }
+
 -- nothing is kept until a first computed target comes; then the definitions are those of the job and of some of the sheets that
 -- were told, and the answers are those of the first of their targets
 pub record Follows (naming : Naming) (job : JobData) (sheets : List (Visit × SheetData)) : Type 0 where
@@ -128,6 +147,7 @@ pub record Follows (naming : Naming) (job : JobData) (sheets : List (Visit × Sh
   pub unread : naming.begun ≡ false → (naming.told ≡ 0) × (naming.kept.items ≡ [])
   pub sets : naming.begun ≡ true → HasJust naming.grown.sets (definitions_to job naming.told sheets)
   pub kept : AreKept naming.grown (targets_of sheets) naming.kept.items
+  pub left : (rest : Rest) → naming.rest ≡ Some rest → IsLeft job sheets rest
 
 -- an answer that is kept for a target holds still within a budget
 pub record HoldsStill (naming : Naming) (budget number : ℕ) : Type 0 where

@@ -64,6 +64,7 @@ AsksSheet old visit new =
 pub record IsDone (old : Progress) (visits : List Visit) (nodes : List Path) (new : Progress) : Type 0 where
   pub means : DoneMeans old.job old.budget old.heard visits
   pub all : visits ≡ old.found
+  pub told : visits ≡ visits_told old.heard
   pub nodes_are : AreNodesOf (located_told old.heard) nodes
   pub rising : IsTrue (are_rising nodes)
   pub canonical : All IsCanonical nodes

@@ -145,7 +145,8 @@ impl Fixpoint {
 
     // The answer of an analysis that ended so.
     fn again(&mut self, end: End) -> Next
-        requires { self.old.ended ≡ Some (end_of end) }
+        requires calm { IsFalse self.old.broken }
+        requires ended { self.old.ended ≡ Some (end_of end) }
         ensures means { NextMeans self.old result self.new }
         ensures says { Says (end_of end) result }
         ensures large { (visit : Visit) → self.old.heard.large ≡ Some visit → SaysLarge result }
@@ -269,6 +270,7 @@ impl Fixpoint {
 
     // Ends the analysis with what was found.
     fn finish(&mut self) -> Next
+        requires calm { IsFalse self.old.broken }
         requires enough { IsEnough self.old.job self.old.heard self.old.found }
         requires accepted { IsAccepted self.old.job self.old.budget self.old.heard self.old.found }
         ensures means { NextMeans self.old result self.new }

@@ -5,15 +5,16 @@ ghost use Rattle.base_types.specs.Causes.{HasCause};
 ghost use Rattle.search_path.specs.Search.{NeedsFrom};
 ghost use Rattle.closure_fixpoint.specs.Analysis.{AnalysisHolds};
 ghost use Rattle.closure_fixpoint.specs.Told.{OfSearch, OfSheet};
-ghost use Rattle.closure_fixpoint.specs.Driving.{IsOfTree, GoesOn, StepsSo, EndsSo, HasCanonicalNodes};
+ghost use Rattle.closure_fixpoint.specs.Driving.{IsOfTree, GoesOn, StepsSo, EndsSo, IsDoneIn, HasCanonicalNodes};
+ghost use Rattle.closure_fixpoint.specs.Requested.{ReadsEntries};
 
-use crate::{Closure, Fixpoint, Gathered, Next, closures, gather};
+use crate::{Closure, Fixpoint, Gathered, Next, gather, refusals_hold};
 use base_types::Bytes;
 use directive_scan::HeaderName;
 use job_frames::write_request;
 use job_words::Job;
 use search_path::{Ask, Visit, search, searches_locate};
-use sheet_build::{places_locate, sheet};
+use sheet_build::sheet;
 use std::alloc::Global;
 use symbolic_expand::more_definitions;
 use tree_model::{Tree, TreeError, walked_law};
@@ -56,16 +57,31 @@ pub fn analyse<T: Tree>(
     ensures cause { HasCause TreeError.Fault (T.faults tree.old) (T.faults tree.new) result }
     ensures never_large { IsErrOf result TreeError.Large → ⊥ }
 {
-    closures();
-    places_locate();
+    refusals_hold();
+    match ending_of(alloc, tree, job, budget)? {
+        Ending::Done(closure) => request_of(alloc, tree, job, &closure),
+        Ending::Refused(refusal) => Ok(Analysed::Refused(refusal)),
+    }
+}
+
+/// The request of a closure, with which an analysis of the job over this tree was done, or why there is none: `Large` and
+/// `Request`, as `gather` says.
+pub fn request_of<T: Tree>(
+    alloc: Global,
+    tree: &mut T,
+    job: &Job,
+    closure: &Closure,
+) -> Result<Analysed, TreeError>
+    ensures same { T.told tree.new ≡ T.told tree.old }
+    ensures answer { ForSome (T.told tree.old) (λ told. IfOk result (λ answer. (budget : ℕ) → IsDoneIn told job.now budget closure.now.visits closure.now.nodes → AnalysisHolds told job.now budget answer)) }
+    ensures reads { ForSome (T.told tree.old) (λ told. IfOk result (λ answer. (budget : ℕ) → IsDoneIn told job.now budget closure.now.visits closure.now.nodes → ReadsEntries told job.now (T.reads tree.old) (T.reads tree.new) answer)) }
+    ensures cause { HasCause TreeError.Fault (T.faults tree.old) (T.faults tree.new) result }
+    ensures never_large { IsErrOf result TreeError.Large → ⊥ }
+{
     walked_law();
     searches_locate();
     more_definitions::<HeaderName>();
-    let closure = match ending_of(alloc, tree, job, budget)? {
-        Ending::Done(closure) => closure,
-        Ending::Refused(refusal) => return Ok(Analysed::Refused(refusal)),
-    };
-    let entries = match gather(alloc, tree, job, &closure)? {
+    let entries = match gather(alloc, tree, job, closure)? {
         Gathered::Entries(entries) => entries,
         Gathered::Refused(refusal) => return Ok(Analysed::Refused(refusal)),
     };

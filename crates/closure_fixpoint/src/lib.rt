@@ -18,5 +18,5 @@ mod worklist;
 
 pub use entries::{Gathered, gather};
 pub use fixpoint::{Closure, Fixpoint, Next};
-pub use job_analysis::{Analysed, Refusal, analyse};
-pub use law::{closures, gathered_are_sent};
+pub use job_analysis::{Analysed, Refusal, analyse, request_of};
+pub use law::{closures, gathered_are_sent, refusals_hold};

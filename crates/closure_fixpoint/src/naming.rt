@@ -15,7 +15,7 @@ use base_types::Bytes;
 use directive_scan::HeaderName;
 use job_words::{Job, MacroWord};
 use macro_defs::{Definition, MacroTable};
-use search_path::Visit;
+use search_path::{Form, Visit};
 use sheet_build::{Computed, Sheet};
 use std::alloc::{AllocError, Global};
 use std::cmp::Ordering;
@@ -38,14 +38,27 @@ pub struct Kept {
     pub mark: usize,
 }
 
+// The headers of a computed target of which something is wanted, which were found when `told` sheets were told. Nothing more is wanted of
+// those before `next` while no further sheet is told.
+#[derive(Drop)]
+pub struct Rest {
+    pub told: usize,
+    pub visit: Visit,
+    pub form: Form,
+    pub include: bool,
+    pub headers: Vec<HeaderName>,
+    pub next: usize,
+}
+
 // The definitions of a job and of the first `told` sheets, and what was found for the first computed targets of these sheets. Nothing is
-// read until a computed target comes.
+// read until a computed target comes. `rest` is what is left of the target at hand.
 #[derive(Drop)]
 pub struct Naming {
     pub begun: bool,
     pub told: usize,
     pub grown: Grown,
     pub kept: Vec<Kept>,
+    pub rest: Option<Rest>,
 }
 
 impl Grown {
@@ -97,6 +110,7 @@ impl Naming {
                 log: Vec::new(alloc),
             },
             kept: Vec::new(alloc),
+            rest: None,
         }
     }
 }

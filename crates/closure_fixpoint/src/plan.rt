@@ -9,7 +9,7 @@ ghost use Rattle.closure_fixpoint.specs.Targets.{heard_of};
 use crate::Refusal;
 use crate::naming::Naming;
 use crate::searches::{AskKey, Searches};
-use crate::targets::of_sheets;
+use crate::targets::{of_rest, of_sheets};
 use crate::visits::Visits;
 use crate::wanting::{Want, of_first};
 use base_types::Bytes;
@@ -82,6 +82,10 @@ pub fn make_plan(
     }
     if sheets.len() < found.len() {
         return Ok(Plan::Sheet);
+    }
+    match of_rest(alloc, naming, searches, sheets, found)? {
+        Some(want) => return Ok(Plan::Want(want)),
+        None => (),
     }
     match of_sheets(alloc, naming, job, budget, searches, sheets, found)? {
         Ok(Some(want)) => Ok(Plan::Want(want)),

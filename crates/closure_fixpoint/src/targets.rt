@@ -1,21 +1,83 @@
 // What is wanted of the computed targets of the sheets that were told.
-ghost use Rattle.std.specs.Prelude.{◌≡◌, ◌<◌, ◌+◌, ◌^◌, length, Some, IfOk, OnOk};
+ghost use Rattle.std.specs.Prelude.{◌≡◌, ◌<◌, ◌+◌, ◌^◌, length, Some, IfOk, IfSome, OnOk};
 ghost use Rattle.std.specs.List.{slice_get};
-ghost use Rattle.closure_fixpoint.specs.Naming.{Follows, HasTargetsAt, targets_of, target_of};
+ghost use Rattle.closure_fixpoint.specs.Naming.{Follows, HasTargetsAt, targets_of, target_of, rest_of};
 ghost use Rattle.base_types.specs.Members.{Member};
+ghost use Rattle.job_words.specs.JobOf.{JobData};
 ghost use Rattle.closure_fixpoint.specs.Progress.{IsTold};
-ghost use Rattle.closure_fixpoint.specs.Targets.{heard_of, NamesSeen, WantsOr, IsDoneWith, DoneWithAll, DoneWithSheets};
+ghost use Rattle.closure_fixpoint.specs.Targets.{heard_of, NamesSeen, WantsOr, IsNextWant, IsDoneWith, DoneWithAll, DoneWithSheets};
 
 use crate::Refusal;
-use crate::naming::{Naming, names_of};
+use crate::naming::{Naming, Rest, names_of};
 use crate::searches::Searches;
 use crate::visits::Visits;
-use crate::wanting::{Want, of_headers};
+use crate::wanting::{Want, of_headers, of_headers_from};
 use directive_scan::HeaderName;
 use job_words::Job;
 use search_path::Visit;
 use sheet_build::{Computed, Sheet};
 use std::alloc::{AllocError, Global};
+
+// Sets the headers of a target aside, so that the next question doesn't begin with the first of them.
+fn set_aside(
+    alloc: Global,
+    naming: &mut Naming,
+    told: usize,
+    visit: &Visit,
+    target: &Computed,
+    headers: Vec<HeaderName>,
+) -> Result<(), AllocError>
+    ensures { OnOk result (naming.new ≡ record naming.old { rest = Some (rest_of told visit.now target.now headers) }) }
+{
+    let visit = visit.copy(alloc)?;
+    let include = !target.is_probe();
+    naming.rest = Some(Rest {
+        told,
+        visit,
+        form: target.form(),
+        include,
+        headers,
+        next: 0,
+    });
+    Ok(())
+}
+
+// What is wanted of the headers that were set aside, unless a sheet was told since.
+pub fn of_rest(
+    alloc: Global,
+    naming: &mut Naming,
+    searches: &Searches,
+    sheets: &[(Visit, Sheet)],
+    found: &Visits,
+) -> Result<Option<Want>, AllocError>
+    ensures want { (job : JobData) → Follows naming.old job sheets.now → IfOk result (λ want. IfSome want (IsNextWant job (heard_of searches.now sheets.now) found.now)) }
+    ensures follows { (job : JobData) → Follows naming.old job sheets.now → OnOk result (Follows naming.new job sheets.now) }
+{
+    let mut rest = match naming.rest.take() {
+        Some(rest) => rest,
+        None => return Ok(None),
+    };
+    if rest.told != sheets.len() {
+        return Ok(None);
+    }
+    match of_headers_from(
+        alloc,
+        searches,
+        found,
+        &rest.visit,
+        rest.form,
+        rest.include,
+        &rest.headers,
+        rest.next,
+    )? {
+        None => Ok(None),
+        Some((next, want)) => {
+            rest.next = next;
+            naming.rest = Some(rest);
+            Ok(Some(want))
+        }
+    }
+}
 
 // What is wanted of a computed target with a number among those of all sheets.
 fn of_target(
@@ -52,7 +114,13 @@ fn of_target(
                 !target.is_probe(),
                 &headers,
             )?;
-            Ok(Ok(want))
+            match want {
+                None => Ok(Ok(None)),
+                Some(want) => {
+                    set_aside(alloc, naming, sheets.len(), visit, target, headers)?;
+                    Ok(Ok(Some(want)))
+                }
+            }
         }
     }
 }

@@ -1,5 +1,5 @@
 // What an analysis wants next.
-ghost use Rattle.std.specs.Prelude.{◌≡◌, ◌∷◌, map, IfOk};
+ghost use Rattle.std.specs.Prelude.{◌≡◌, ◌∷◌, map, IfOk, IfSome, Some};
 ghost use Rattle.closure_fixpoint.specs.Wanting.{named_ask, WantsOfFile, WantsOfHit, WantsOfAsk, WantsOfHeaders, WantsOfEach};
 ghost use Rattle.closure_fixpoint.specs.Closure.{with_angle, first_asks};
 ghost use Rattle.search_path.specs.Asks.{forced_ask};
@@ -110,6 +110,30 @@ pub fn of_headers(
         match of_ask(alloc, searches, found, ask, include)? {
             Some(want) => return Ok(Some(want)),
             None => (),
+        }
+    }
+    Ok(None)
+}
+
+// The first of the headers of a computed target of which something is wanted, from a number on, with its number.
+pub fn of_headers_from(
+    alloc: Global,
+    searches: &Searches,
+    found: &Visits,
+    visit: &Visit,
+    form: Form,
+    include: bool,
+    headers: &[HeaderName],
+    first: usize,
+) -> Result<Option<(usize, Want)>, AllocError>
+    ensures { IfOk result (λ got. IfSome got (λ next. WantsOfHeaders searches.now found.now visit.now form include headers.now (Some next.1))) }
+{
+    let mut number = first;
+    while number < headers.len() {
+        let ask = ask_for(alloc, visit, form, &headers[number])?;
+        match of_ask(alloc, searches, found, ask, include)? {
+            Some(want) => return Ok(Some((number, want))),
+            None => number += 1,
         }
     }
     Ok(None)

@@ -10,10 +10,10 @@ pub loop-naming-preserved : goal.loop-naming-preserved
 loop-naming-preserved c = record {
   follows =
       follows_next c.loop-naming.naming
-      (record { begun = c.loop-naming.naming.begun; told = c.loop-naming.naming.told + 1; grown = c.add_all.new.self; kept = c.loop-naming.naming.kept })
+      (record { begun = c.loop-naming.naming.begun; told = c.loop-naming.naming.told + 1; grown = c.add_all.new.self; kept = c.loop-naming.naming.kept; rest = c.loop-naming.naming.rest })
       c.args.job.now c.args.sheets.now c.index-sheets-naming.result c.loop-naming-test.true c.index-sheets-naming.is c.loop-naming.invariant.follows c.loop-naming.invariant.begun
       (subst (λ (t : Visit × SheetData). Grew c.loop-naming.naming.grown t.1.defs c.add_all.new.self) (sym c.index-sheets-naming.is)
-      (subst (λ (l : List Named). Grew c.loop-naming.naming.grown l c.add_all.new.self) c.defs.ensures c.in_ok-add_all.ensures)) refl c.loop-naming.invariant.begun refl;
+      (subst (λ (l : List Named). Grew c.loop-naming.naming.grown l c.add_all.new.self) c.defs.ensures c.in_ok-add_all.ensures)) refl c.loop-naming.invariant.begun refl refl;
   begun = c.loop-naming.invariant.begun;
 }
 

@@ -30,7 +30,7 @@ returns-clause-follows c =
     IfOk-weaker c.anew.result
     (λ names. IsAnew c.args.budget c.catch_up.new.naming.grown (target_of c.args.visit.now c.args.sheet.now c.args.target.now) c.catch_up.new.naming.kept.items c.args.number names c.anew.new.kept.items)
     (λ names.
-    Follows (record { begun = c.catch_up.new.naming.begun; told = c.catch_up.new.naming.told; grown = c.catch_up.new.naming.grown; kept = c.anew.new.kept }) c.args.job.now c.args.sheets.now)
+    Follows (record { begun = c.catch_up.new.naming.begun; told = c.catch_up.new.naming.told; grown = c.catch_up.new.naming.grown; kept = c.anew.new.kept; rest = c.catch_up.new.naming.rest }) c.args.job.now c.args.sheets.now)
     (λ names is.
     follows_anew c.args.budget c.args.job.now c.args.sheets.now (target_of c.args.visit.now c.args.sheet.now c.args.target.now) c.catch_up.new.naming c.args.number c.anew.new.kept
     c.in_ok-catch_up.ensures c.requires.number names is)

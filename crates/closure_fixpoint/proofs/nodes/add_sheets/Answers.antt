@@ -1,5 +1,4 @@
 use Rattle.std.proofs.Common.{◌<◌, ◌++◌, List, length, ◌∙◌, ap, arith}
-use Rattle.tree_model.specs.Paths.{Path}
 use Rattle.tree_model.specs.declared.walk.Located.{Located}
 use Rattle.search_path.specs.Search.{Hit}
 use Rattle.search_path.specs.declared.asking.Visit.{Visit}

@@ -1,6 +1,4 @@
-use Rattle.std.proofs.Common.{◌++◌, List, Ok, Err, Result, Vec, ◌∙◌, ap}
-use Rattle.std.specs.Prelude.{IfOk, IsTrue, ◌↔◌}
-use Rattle.base_types.specs.Members.{Member}
+use Rattle.std.proofs.Common.{◌++◌, List, ◌∙◌, ap}
 use Rattle.tree_model.specs.Paths.{Path}
 use Rattle.closure_fixpoint.specs.Targets.{heard_of}
 use Rattle.closure_fixpoint.specs.Gathering.{searched_nodes, sheets_nodes}

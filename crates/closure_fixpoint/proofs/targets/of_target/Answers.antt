@@ -1,21 +1,29 @@
-use Rattle.std.proofs.Common.{subst, List, Bool, not, Result, Vec}
+use Rattle.std.proofs.Common.{sym, subst, None, Some, Result, Vec}
 use Rattle.std.specs.declared.alloc.Global.{Global}
 use Rattle.directive_scan.specs.declared.HeaderName.{HeaderName}
-use Rattle.search_path.specs.declared.asking.Form.{Form}
 use Rattle.closure_fixpoint.specs.declared.job_analysis.Refusal.{Refusal}
-use Rattle.closure_fixpoint.specs.Wanting.{WantsOfHeaders}
-use Rattle.closure_fixpoint.specs.Targets.{heard_of, NamesSeen}
-use Rattle.closure_fixpoint.proofs.TargetLaws.{wants_or}
+use Rattle.closure_fixpoint.specs.declared.naming.Naming.{Naming}
+use Rattle.closure_fixpoint.specs.Naming.{Follows}
+use Rattle.closure_fixpoint.specs.Targets.{NamesSeen}
+use Rattle.closure_fixpoint.proofs.NamesLaws.{follows_aside}
+use Rattle.closure_fixpoint.proofs.TargetLaws.{target_wants}
 use Rattle.closure_fixpoint.proofs.targets.of_target.Goals as goal
 
-pub returns-in_ok-want-in-Ok-clause-want : goal.returns-in_ok-want-in-Ok-clause-want
-returns-in_ok-want-in-Ok-clause-want c =
-    let names = subst (λ (r : Result (Vec HeaderName Global) Refusal). NamesSeen c.args.job.now c.args.budget c.args.sheets.now c.args.visit.now c.args.sheet.now c.args.target.now r) c.in-Ok.is
-    c.in_ok-refusal.ensures.names in
-    wants_or c.args.job.now c.args.budget (heard_of c.args.searches.now c.args.sheets.now) c.args.found.now c.args.visit.now c.args.sheet.now c.args.target.now c.requires.told
-    c.in-Ok.headers.items names c.in_ok-want-in-Ok.want
-    (subst (λ (list : List HeaderName). WantsOfHeaders c.args.searches.now c.args.found.now c.args.visit.now c.args.target.now.form (not c.args.target.now.probe) list c.in_ok-want-in-Ok.want)
-    c.deref.ensures.value
-    (subst (λ (b : Bool). WantsOfHeaders c.args.searches.now c.args.found.now c.args.visit.now c.args.target.now.form (not b) c.deref.result.now c.in_ok-want-in-Ok.want) c.is_probe.ensures
-    (subst (λ (f : Form). WantsOfHeaders c.args.searches.now c.args.found.now c.args.visit.now f (not c.is_probe.result) c.deref.result.now c.in_ok-want-in-Ok.want) c.form.ensures
-    c.in_ok-want-in-Ok.ensures)))
+pub returns-in-None-clause-want : goal.returns-in-None-clause-want
+returns-in-None-clause-want c =
+    target_wants c.args.job.now c.args.budget c.args.searches.now c.args.sheets.now c.args.found.now c.args.visit.now c.args.sheet.now c.args.target.now c.requires.told c.in-Ok.headers
+    (subst (λ (r : Result (Vec HeaderName Global) Refusal). NamesSeen c.args.job.now c.args.budget c.args.sheets.now c.args.visit.now c.args.sheet.now c.args.target.now r) c.in-Ok.is c.in_ok-refusal.ensures.names)
+    c.form.result c.is_probe.result c.deref.result.now c.in_ok-want-in-Ok.want None c.form.ensures c.is_probe.ensures c.deref.ensures.value c.in_ok-want-in-Ok.ensures c.in-None.is
+
+pub returns-in_ok-set_aside-in-Some-clause-want : goal.returns-in_ok-set_aside-in-Some-clause-want
+returns-in_ok-set_aside-in-Some-clause-want c =
+    target_wants c.args.job.now c.args.budget c.args.searches.now c.args.sheets.now c.args.found.now c.args.visit.now c.args.sheet.now c.args.target.now c.requires.told c.in-Ok.headers
+    (subst (λ (r : Result (Vec HeaderName Global) Refusal). NamesSeen c.args.job.now c.args.budget c.args.sheets.now c.args.visit.now c.args.sheet.now c.args.target.now r) c.in-Ok.is c.in_ok-refusal.ensures.names)
+    c.form.result c.is_probe.result c.deref.result.now c.in_ok-want-in-Ok.want (Some c.in-Some.want) c.form.ensures c.is_probe.ensures c.deref.ensures.value c.in_ok-want-in-Ok.ensures c.in-Some.is
+
+pub returns-in_ok-set_aside-in-Some-clause-follows : goal.returns-in_ok-set_aside-in-Some-clause-follows
+returns-in_ok-set_aside-in-Some-clause-follows c =
+    subst (λ (n : Naming). Follows n c.args.job.now c.args.sheets.now) (sym c.in_ok-set_aside-in-Some.ensures)
+    (follows_aside c.names_of.new.naming c.args.job.now c.args.budget c.args.searches.now c.args.sheets.now c.args.visit.now c.args.sheet.now c.args.target.now c.in-Ok.headers c.in_ok-refusal.ensures.follows
+    c.requires.told
+    (subst (λ (r : Result (Vec HeaderName Global) Refusal). NamesSeen c.args.job.now c.args.budget c.args.sheets.now c.args.visit.now c.args.sheet.now c.args.target.now r) c.in-Ok.is c.in_ok-refusal.ensures.names))

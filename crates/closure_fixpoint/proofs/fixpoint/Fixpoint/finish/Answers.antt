@@ -1,4 +1,4 @@
-use Rattle.std.proofs.Common.{sym, subst, List, Some}
+use Rattle.std.proofs.Common.{◌∙◌, sym, ap, subst, List, Some}
 use Rattle.search_path.specs.declared.asking.Visit.{Visit}
 use Rattle.sheet_build.specs.Sheet.{SheetData}
 use Rattle.closure_fixpoint.specs.Progress.{IsEnough, IsAccepted}
@@ -23,6 +23,7 @@ returns-in-Ok-clause-means c =
     subst (λ (q : Progress). IsDone q c.in-Ok.closure.visits c.in-Ok.closure.nodes (record p { pending = NothingAsked; ended = Some Finished })) c.self.view_is
     (done_by c.more_definitions.ensures.headers c.more_definitions.ensures.long c.more_definitions.ensures.presumed c.more_definitions.ensures.many c.self.inside.naming p c.in-Ok.closure
     c.self.invariant
+    (ap (λ (q : Progress). q.broken) c.self.view_is ∙ c.requires.calm)
     (subst (λ (q : Progress). IsEnough q.job q.heard q.found) (sym c.self.view_is) c.requires.enough)
     (subst (λ (q : Progress). IsAccepted q.job q.budget q.heard q.found) (sym c.self.view_is) c.requires.accepted)
     (subst (λ (l : List (Visit × SheetData)). IsWhole (heard_of p.heard.searches l) p.found c.in-Ok.closure) c.deref.ensures.value c.in-Ok.ensures))
