@@ -105,30 +105,32 @@ outcome-on known job exchanges put from before now way P end.Memory tree outs gi
 module _ (known : Known) (job : Job) (host : Host) (n client : ℕ) (from before now : EndSeen) where
   concluded : (r : Replied) (P : Outcome → Type 0) (result : JobOutcome) (was : IsSettled known job host r from before) (ends : EndsWith job P result before now)
       → ((o : Outcome) → P o → Gives known job (deeds_of was.exchanges ends.put from now) (way_of r) o) → (way_of r ≡ Broken → ⊥)
-      → DidJob known job host (record { job = n; client = client; outcome = result; way = way_of r }) from now
+      → (did : DidJob known job host (record { job = n; client = client; outcome = result; way = way_of r }) from now) × (did.exchanges ≡ was.exchanges)
   concluded r P result was ends gives never =
       let first = was.did in
-      let le : from.wire_faults ≤ from.wire_faults = omega arith in
-      record {
-        exchanges = was.exchanges;
-        put = ends.put;
-        did = did-nothing-after was.exchanges ends.put from before now first ends.did;
-        recorded = record {
-          way = way-on known job was.exchanges [] ends.put from from before now r le ends.did.wire was.way;
-          outcome = outcome-on known job was.exchanges ends.put from before now (way_of r) P result first.tree first.outs gives ends.outcome_is;
-          broken = λ e. elim (never e) [ ];
-        };
-        host_is = was.host_is;
-      }
+      let le : from.wire_faults ≤ from.wire_faults = omega arith in (
+        record {
+          exchanges = was.exchanges;
+          put = ends.put;
+          did = did-nothing-after was.exchanges ends.put from before now first ends.did;
+          recorded = record {
+            way = way-on known job was.exchanges [] ends.put from from before now r le ends.did.wire was.way;
+            outcome = outcome-on known job was.exchanges ends.put from before now (way_of r) P result first.tree first.outs gives ends.outcome_is;
+            broken = λ e. elim (never e) [ ];
+          };
+          host_is = was.host_is;
+        },
+        refl,
+      )
 
-  pub text-concluded : (text : List ℕ) (result : JobOutcome) → IsSettled known job host (Text text) from before → PutsText job text before now result
-      → DidJob known job host (record { job = n; client = client; outcome = result; way = Remote }) from now
+  pub text-concluded : (text : List ℕ) (result : JobOutcome) (was : IsSettled known job host (Text text) from before) → PutsText job text before now result
+      → (did : DidJob known job host (record { job = n; client = client; outcome = result; way = Remote }) from now) × (did.exchanges ≡ was.exchanges)
   text-concluded text result was puts =
       concluded (Text text) (λ o. o ≡ outcome.Text text) result was puts
       (λ o e. subst (λ (x : Outcome). Gives known job (deeds_of was.exchanges puts.put from now) Remote x) (sym e) was.gives) (λ e. absurd (cc))
 
-  pub local-concluded : (why : Cause) (result : JobOutcome) → IsSettled known job host (Failed why) from before → EndsWith job (λ o. ForSome known.named (λ tree. known.gives tree job ≡ o)) result before now
-      → DidJob known job host (record { job = n; client = client; outcome = result; way = Local why }) from now
+  pub local-concluded : (why : Cause) (result : JobOutcome) (was : IsSettled known job host (Failed why) from before) → EndsWith job (λ o. ForSome known.named (λ tree. known.gives tree job ≡ o)) result before now
+      → (did : DidJob known job host (record { job = n; client = client; outcome = result; way = Local why }) from now) × (did.exchanges ≡ was.exchanges)
   local-concluded why result was does =
       concluded (Failed why) (λ o. ForSome known.named (λ tree. known.gives tree job ≡ o)) result was does (λ o h. h) (λ e. absurd (cc))
 
@@ -136,8 +138,8 @@ did-nothing : (e : EndSeen) → Did [] [] e e
 did-nothing e = record { talk = added-nil e.talk; kept = added-nil e.kept; told = refl; tree = omega arith; wire = omega arith; outs = omega arith }
 
 -- a diagnostic ends a job with nothing put
-pub diag-concluded : (known : Known) (job : Job) (host : Host) (n client : ℕ) (from now : EndSeen) (words : List ℕ) → IsSettled known job host (Diag words) from now
-    → DidJob known job host (record { job = n; client = client; outcome = end.Diag words; way = Remote }) from now
+pub diag-concluded : (known : Known) (job : Job) (host : Host) (n client : ℕ) (from now : EndSeen) (words : List ℕ) (was : IsSettled known job host (Diag words) from now)
+    → (did : DidJob known job host (record { job = n; client = client; outcome = end.Diag words; way = Remote }) from now) × (did.exchanges ≡ was.exchanges)
 diag-concluded known job host n client from now words was =
     concluded known job host n client from now now (Diag words) (λ o. o ≡ outcome.Diag words) (end.Diag words) was (record { put = []; did = did-nothing now; outcome_is = (refl, refl) })
     (λ o e. subst (λ (x : Outcome). Gives known job (deeds_of was.exchanges [] from now) Remote x) (sym e) was.gives) (λ e. absurd (cc))
@@ -179,4 +181,11 @@ pub asked-then-concluded : (named : Option FileTree) (budget : ℕ) (job : Job) 
     → DidJob (known named budget) job host done from now
 asked-then-concluded named budget job host request sent r done from prepared_at asked_at now same prepares asks concludes =
     let is : IsRequest (known named budget) job sent = subst (λ (l : List ℕ). IsRequest (known named budget) job l) (sym same) prepares.holds.0 in
-    concludes budget host from (settled-from (known named budget) job host r from prepared_at asked_at prepares.did (asks (known named budget) job is prepares.holds.1))
+    (concludes budget host from (settled-from (known named budget) job host r from prepared_at asked_at prepares.did (asks (known named budget) job is prepares.holds.1))).0
+
+-- how a job ends, by an equation of its reply
+pub by-reply : (known : Known) (job : Job) (host : Host) (done : Done) (from before now : EndSeen) (r s : Replied) → r ≡ s
+    → ((was : IsSettled known job host s from before) → (did : DidJob known job host done from now) × (did.exchanges ≡ was.exchanges))
+    → (was : IsSettled known job host r from before) → (did : DidJob known job host done from now) × (did.exchanges ≡ was.exchanges)
+by-reply known job host done from before now r s e ends =
+    subst (λ (x : Replied). (was : IsSettled known job host x from before) → (did : DidJob known job host done from now) × (did.exchanges ≡ was.exchanges)) (sym e) ends

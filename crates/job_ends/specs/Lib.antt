@@ -4,10 +4,12 @@
 --     Record      what a record of a job says of its client's end
 --     Steps       what the steps of a job leave there
 --     Agree       what a record says of the whole tree, where hosts answer as daemons do
+--     Looks       a job's calls on the memo of sheets
 --     Works       the works of a run: records beside what the ends of the clients have of them
 pub mod Outside
 pub mod Exchange
 pub mod Record
 pub mod Steps
 pub mod Agree
+pub mod Looks
 pub mod Works

@@ -127,7 +127,8 @@ PutsText job text from now result = EndsWith job (λ o. o ≡ outcome.Text text)
 abbrev pub DoesLocally : Option FileTree → Job → EndSeen → EndSeen → JobOutcome → Type 0
 DoesLocally named job from now result = EndsWith job (λ o. ForSome named (λ tree. outcome_over tree job ≡ o)) result from now
 
--- The end of a job whose exchanges are settled: whatever moment it began at, it is done with this host.
+-- The end of a job whose exchanges are settled: whatever moment it began at, it is done with this host, and with no exchange more.
 abbrev pub Concludes : Option FileTree → Job → Replied → EndSeen → EndSeen → Done → Type 0
 Concludes named job replied before now done =
-    (budget : ℕ) (host : Host) (from : EndSeen) → IsSettled (known named budget) job host replied from before → DidJob (known named budget) job host done from now
+    (budget : ℕ) (host : Host) (from : EndSeen) (was : IsSettled (known named budget) job host replied from before)
+    → (did : DidJob (known named budget) job host done from now) × (did.exchanges ≡ was.exchanges)

@@ -1,13 +1,15 @@
 -- The works of a run: what is recorded of each job beside what it did at its client's end, and what the ends of the clients
 -- have of them.
-use Rattle.std.specs.Prelude.{◌≡◌, ℕ, suc, ◌+◌, ◌-◌, ◌^◌, ◌≤◌, ◌⊎◌, List, [], ◌∷◌, ◌++◌, Bool, true, false, Some, ◌==◌}
-use Rattle.std.specs.List.{flat_map, filter, count_by, AllByRecursion}
+use Rattle.std.specs.Prelude.{◌≡◌, ℕ, suc, ◌+◌, ◌-◌, ◌^◌, ◌≤◌, ◌⊎◌, List, [], ◌∷◌, ◌++◌, Bool, true, false, Some, IfSome, ◌==◌}
+use Rattle.std.specs.List.{flat_map, filter, count_by, sum_by, AllByRecursion}
 use Rattle.base_types.specs.Causes.{Rose}
+use Rattle.base_types.specs.Members.{Member}
 use Rattle.base_types.specs.Told.{added}
 use Rattle.tree_model.specs.Trees.{FileTree}
 use Rattle.job_words.specs.declared.job.Job.{Job}
 use Rattle.io_edges.specs.declared.wire.Exchange.{Exchange}
 use Rattle.io_edges.specs.declared.wire.Host.{Host}
+use Rattle.io_edges.specs.declared.wire.LinkState.TheVariants.{Closed}
 use Rattle.daemon_cpp.specs.Prep.{outcome_over}
 use Rattle.job_ends.specs.declared.record.Done.{Done}
 use Rattle.job_ends.specs.declared.record.Way.{Way}
@@ -18,11 +20,15 @@ use Rattle.job_ends.specs.declared.record.JobOutcome.TheVariants as end
 use Rattle.job_ends.specs.Outside.{EndSeen}
 use Rattle.job_ends.specs.Record.{Counts, Deeds, Known, IsRecord, counts_of}
 use Rattle.job_ends.specs.Agree.{AreServed, AreStill, AgreesWith, IsCalm, is_peer}
+use Rattle.job_ends.specs.Looks.{SheetCall, LooksFor}
 
--- a job of the run: what is recorded of it, and what it did at its client's end
+-- a job of the run: what is recorded of it, what it did at its client's end, its calls on the memo of sheets, and a bound on its
+-- reads of the tree
 pub record Work : Type 0 where
   pub done : Done
   pub deeds : Deeds
+  pub calls : List SheetCall
+  pub reads : ℕ
 
 -- ---- tests of ways and outcomes ----
 
@@ -65,6 +71,15 @@ is_diag end.Memory = false
 
 -- ---- the ends ----
 
+-- an end that wasn't used yet
+pub record IsFresh (seen : EndSeen) : Type 0 where
+  pub closed : seen.state ≡ Closed
+  pub no_talk : IfSome seen.talk (λ talk. talk ≡ [])
+  pub no_outs : IfSome seen.kept (λ kept. kept ≡ [])
+  pub no_tree_fault : seen.tree_faults ≡ 0
+  pub no_wire_fault : seen.wire_faults ≡ 0
+  pub no_outs_fault : seen.outs_faults ≡ 0
+
 -- the jobs of one client, in order of job number
 abbrev pub works_of : ℕ → List Work → List Work
 works_of client works = filter (λ (w : Work). w.done.client == client) works
@@ -84,7 +99,8 @@ abbrev pub Chain : Counts → List Work → Counts → Type 0
 Chain from [] now = NotBelow from now
 Chain from (w ∷ works) now = NotBelow from w.deeds.before × (NotBelow w.deeds.before w.deeds.after × Chain w.deeds.after works now)
 
--- one client's end: its outs and its talk are what its jobs added, in order, and its counts bound its faults
+-- one client's end: its outs and its talk are what its jobs added, in order, its counts bound its faults, and its tree was read
+-- at most as often as its jobs may have read it
 pub record EndHolds (works : List Work) (before after : EndSeen) : Type 0 where
   pub outs : after.kept ≡ added (flat_map (λ (w : Work). w.deeds.put) works) before.kept
   pub talk : after.talk ≡ added (flat_map (λ (w : Work). w.deeds.exchanges) works) before.talk
@@ -93,6 +109,7 @@ pub record EndHolds (works : List Work) (before after : EndSeen) : Type 0 where
   pub tree_bound : AtMost (count_by (λ (w : Work). is_tree_fault w.done.outcome) works) before.tree_faults after.tree_faults
   pub outs_bound : AtMost (count_by (λ (w : Work). is_out_fault w.done.outcome) works) before.outs_faults after.outs_faults
   pub chain : Chain (counts_of before) works (counts_of after)
+  pub reads : after.reads ≤ before.reads + sum_by (λ (w : Work). w.reads) works
 
 -- each end by its number, from client on
 abbrev pub EachEnd : ℕ → List Work → List EndSeen → List EndSeen → Type 0
@@ -103,7 +120,7 @@ EachEnd client works (old ∷ before) (now ∷ after) = EndHolds (works_of clien
 
 -- each exchange went to one of the hosts
 abbrev pub ToHosts : List Host → List Work → Type 0
-ToHosts hosts works = AllByRecursion (λ (w : Work). AllByRecursion (λ (e : Exchange). (early : List Host) × (late : List Host) × (hosts ≡ early ++ e.host ∷ late)) w.deeds.exchanges) works
+ToHosts hosts works = AllByRecursion (λ (w : Work). AllByRecursion (λ (e : Exchange). Member e.host hosts) w.deeds.exchanges) works
 
 -- ---- the records ----
 
@@ -113,6 +130,12 @@ EachRecord known k [] [] = Unit {0}
 EachRecord known k [] (w ∷ works) = ⊥
 EachRecord known k (job ∷ jobs) [] = ⊥
 EachRecord known k (job ∷ jobs) (w ∷ works) = (w.done.job ≡ k) × (IsRecord known job w.done w.deeds × EachRecord known (suc k) jobs works)
+
+-- each job's calls on the memo, and its reads, are those of its way
+abbrev pub EachLooks : Known → List Job → List Work → Type 0
+EachLooks known (job ∷ jobs) (w ∷ works) = LooksFor known job w.calls w.reads w.deeds.exchanges w.done.way × EachLooks known jobs works
+EachLooks known [] works = Unit {0}
+EachLooks known (job ∷ jobs) [] = Unit {0}
 
 -- ---- where hosts answer as daemons do ----
 

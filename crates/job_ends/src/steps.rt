@@ -2,7 +2,7 @@
 ghost use Rattle.std.specs.Prelude.{◌≡◌};
 ghost use Rattle.job_ends.specs.Outside.{seen_end};
 ghost use Rattle.job_ends.specs.Record.{known};
-ghost use Rattle.job_ends.specs.Steps.{Prepares, PutsText, DoesLocally, Concludes};
+ghost use Rattle.job_ends.specs.Steps.{Prepares, PutsText, DoesLocally, Concludes, way_of};
 
 use crate::asking::Replied;
 use crate::{Cause, Done, End, JobOutcome, Way};
@@ -94,6 +94,8 @@ pub fn conclude<T: Tree, W: Wire, O: Outs>(
     ensures client { result.client ≡ client }
     ensures did { let seen = seen_end T.told T.Tree.faults T.reads W.talk W.state W.Wire.faults O.kept O.Outs.faults in
         Concludes T.Of.named job.now replied (seen end.old) (seen end.new) result }
+    ensures way { result.way ≡ way_of replied }
+    ensures tree { result.way ≡ Way.Remote → end.new.tree ≡ end.old.tree }
     ensures wire { end.new.wire ≡ end.old.wire }
 {
     match replied {
