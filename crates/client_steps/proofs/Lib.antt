@@ -1,0 +1,7 @@
+mod Ends
+mod Going
+mod Judged
+mod Ledgers
+mod Answered
+mod Worked
+mod Puts
