@@ -1,0 +1,14 @@
+//! Clients that take turns on one thread: runs by any order of turns, and what every run keeps.
+#![tactic(auto)]
+
+mod bounds;
+mod merging;
+mod order;
+mod outcomes;
+mod starting;
+mod totals;
+mod turns;
+
+pub use bounds::runs_are_bounded;
+pub use order::run_order;
+pub use totals::Totals;
