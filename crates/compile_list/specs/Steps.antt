@@ -1,25 +1,25 @@
 -- What reading a list comes to, and what the code has of it on the way.
-use Rattle.std.specs.Prelude.{◌≡◌, ◌≢◌, ℕ, List, [], ◌∷◌, ◌++◌, length, map, take, nat_lt, bytes_eq, Option, Some, Result, Ok, Err}
+use Rattle.std.specs.Prelude.{◌≡◌, ◌≤◌, ℕ, List, [], ◌∷◌, ◌++◌, length, map, take, nat_lt, bytes_eq, Option, Some, Result, Ok, Err}
 use Rattle.std.specs.HashSet.{HashSet, contains_by}
-use Rattle.std.specs.List.{filter}
+use Rattle.std.specs.List.{filter, AllByRecursion}
 use Rattle.std.specs.Option.{ForSome}
 use Rattle.base_types.specs.Causes.{Rose}
 use Rattle.tree_model.specs.Paths.{Text}
 use Rattle.job_words.specs.declared.job.Job.{Job}
 use Rattle.job_words.specs.Words.{IsJob}
 use Rattle.compile_list.specs.declared.line.LineWords.{LineWords}
-use Rattle.compile_list.specs.declared.listed.NoJob.{NoJob}
-use Rattle.compile_list.specs.declared.listed.NoJob.TheVariants as no_job
+use Rattle.compile_list.specs.declared.listed.NoJobs.{NoJobs}
+use Rattle.compile_list.specs.declared.listed.NoJobs.TheVariants as no_jobs
 use Rattle.compile_list.specs.Listed.{jobs_of, is_taken, unit_words}
 
--- A list of these bytes, of which those are left afterwards, gives its one job and was read to its end; or it is refused,
--- or has no job or several, of which nothing is built, or the count of its faults rose, or there was no memory.
-abbrev pub ListGives : Option (List ℕ) → Option (List ℕ) → ℕ → ℕ → Result Job NoJob → Type 0
-ListGives before now from to (Ok job) = IsJob job × (ForSome before (λ bytes. jobs_of bytes ≡ Ok (job ∷ [])) × ForSome now (λ rest. rest ≡ []))
-ListGives before now from to (Err (no_job.Refused error)) = ForSome before (λ bytes. jobs_of bytes ≡ Err error)
-ListGives before now from to (Err no_job.NotBuilt) = ForSome before (λ bytes. (jobs : List Job) × (jobs_of bytes ≡ Ok jobs) × (length jobs ≢ 1))
-ListGives before now from to (Err no_job.Fault) = Rose from to
-ListGives before now from to (Err no_job.Memory) = Unit {0}
+-- A list of these bytes, of which those are left afterwards, gives its jobs, at most 20,000, and was read to its end; or it is refused, or
+-- the count of its faults rose, or there was no memory.
+abbrev pub ListGives : Option (List ℕ) → Option (List ℕ) → ℕ → ℕ → Result (List Job) NoJobs → Type 0
+ListGives before now from to (Ok jobs) =
+    AllByRecursion IsJob jobs × ((length jobs ≤ 20000) × (ForSome before (λ bytes. jobs_of bytes ≡ Ok jobs) × ForSome now (λ rest. rest ≡ [])))
+ListGives before now from to (Err (no_jobs.Refused error)) = ForSome before (λ bytes. jobs_of bytes ≡ Err error)
+ListGives before now from to (Err no_jobs.Fault) = Rose from to
+ListGives before now from to (Err no_jobs.Memory) = Unit {0}
 
 -- ---- on the way ----
 

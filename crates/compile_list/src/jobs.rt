@@ -1,5 +1,5 @@
 // The jobs of the lines so far.
-ghost use Rattle.std.specs.Prelude.{◌≡◌, ◌⊎◌, ℕ, [], IfOk, IfErr, OnOk, Ok, Err};
+ghost use Rattle.std.specs.Prelude.{◌≡◌, ◌<◌, ◌≤◌, ◌⊎◌, ℕ, [], length, IfOk, IfErr, OnOk, Ok, Err};
 ghost use Rattle.std.specs.List.{AllByRecursion};
 ghost use Rattle.job_words.specs.Words.{IsJob};
 ghost use Rattle.compile_list.specs.Listed.{begins_comment, with_line, with_read};
@@ -37,9 +37,11 @@ impl ReadJobs {
     pub fn add_line(&mut self, alloc: Global, line: &[u8]) -> Result<(), ListWhy>
         requires outputs { HasOutputs self.old.outputs self.old.jobs }
         requires each { AllByRecursion IsJob self.old.jobs }
+        requires few { length self.old.jobs ≤ 20000 }
         ensures jobs { OnOk result (with_line self.old.jobs line.now ≡ Ok self.new.jobs) }
         ensures outputs { OnOk result (HasOutputs self.new.outputs self.new.jobs) }
         ensures each { OnOk result (AllByRecursion IsJob self.new.jobs) }
+        ensures few { OnOk result (length self.new.jobs ≤ 20000) }
         ensures why { IfErr result (λ why. (why ≡ ListWhy.Memory) ⊎ (with_line self.old.jobs line.now ≡ Err why)) }
     {
         if begins_comment(line) {
@@ -64,9 +66,11 @@ impl ReadJobs {
     fn add_job(&mut self, alloc: Global, job: Job) -> Result<(), ListWhy>
         requires outputs { HasOutputs self.old.outputs self.old.jobs }
         requires each { AllByRecursion IsJob self.old.jobs }
+        requires few { length self.old.jobs < 20000 }
         ensures jobs { OnOk result (with_read self.old.jobs (Ok job) ≡ Ok self.new.jobs) }
         ensures outputs { OnOk result (HasOutputs self.new.outputs self.new.jobs) }
         ensures each { OnOk result (AllByRecursion IsJob self.new.jobs) }
+        ensures few { OnOk result (length self.new.jobs ≤ 20000) }
         ensures why { IfErr result (λ why. (why ≡ ListWhy.Memory) ⊎ (with_read self.old.jobs (Ok job) ≡ Err why)) }
     {
         job.is_reading();

@@ -1,4 +1,4 @@
-//! The compile list: the jobs that its bytes ask for, and the one job of a list that is read from any source.
+//! The compile list: the jobs that its bytes ask for, also of a list that is read from any source.
 #![tactic(auto)]
 
 mod bytes;
@@ -11,6 +11,6 @@ mod refused;
 mod tests;
 
 pub use line::words_of_line;
-pub use listed::{NoJob, listed_job};
+pub use listed::{NoJobs, listed_jobs};
 pub use lists::read_list;
 pub use refused::{ListError, ListWhy};

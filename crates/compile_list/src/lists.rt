@@ -1,5 +1,5 @@
 // The jobs of a list.
-ghost use Rattle.std.specs.Prelude.{◌≡◌, ◌<◌, ◌++◌, ◌⊎◌, ℕ, List, length, IfOk, IfErr, Ok, Err};
+ghost use Rattle.std.specs.Prelude.{◌≡◌, ◌<◌, ◌≤◌, ◌++◌, ◌⊎◌, ℕ, List, length, IfOk, IfErr, Ok, Err};
 ghost use Rattle.std.specs.List.{AllByRecursion};
 ghost use Rattle.job_words.specs.Words.{IsJob};
 ghost use Rattle.compile_list.specs.Listed.{jobs_of, too_long};
@@ -23,6 +23,7 @@ pub const LIST_LIMIT: usize = 16_777_216;
 pub fn read_list(alloc: Global, bytes: &[u8]) -> Result<List<Job>, ListError>
     ensures jobs { IfOk result (λ jobs. jobs_of bytes.now ≡ Ok jobs) }
     ensures each { IfOk result (λ jobs. AllByRecursion IsJob jobs) }
+    ensures few { IfOk result (λ jobs. length jobs ≤ 20000) }
     ensures why { IfErr result (λ error. (error.why ≡ ListWhy.Memory) ⊎ (jobs_of bytes.now ≡ Err error)) }
 {
     if bytes.len() > LIST_LIMIT {

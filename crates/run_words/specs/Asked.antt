@@ -1,60 +1,80 @@
 -- What the words of the top call ask for.
-use Rattle.std.specs.Prelude.{ℕ, List, [], ◌∷◌, length, Bool, ◌&&◌, ◌||◌, ◌==◌, not, if◌then◌else◌, nat_le, bytes_eq, codes, slice_index, Option, None, Some}
-use Rattle.std.specs.List.{list_all}
-use Rattle.std.specs.Option.{option_map, option_and_then, unwrap_or}
+use Rattle.std.specs.Prelude.{ℕ, List, [], ◌∷◌, length, Bool, ◌&&◌, ◌||◌, ◌==◌, if◌then◌else◌, nat_le, nat_lt, bytes_eq, codes, slice_index, Option, None, Some, Result, Ok, Err}
+use Rattle.std.specs.List.{list_all, slice_split}
+use Rattle.std.specs.Option.{option_and_then, unwrap_or}
 use Rattle.std.specs.Char.{is_ascii_digit}
 use Rattle.std.specs.Str.Parse.{digits_value}
 use Rattle.tree_model.specs.Paths.{Text}
 use Rattle.io_edges.specs.declared.wire.Host.{Host}
+use Rattle.host_slots.specs.declared.hosts.HostError.{HostError}
+use Rattle.host_slots.specs.Hosts.{hosts_of}
 
--- what the words ask for: the order of the clients' steps, the hosts, the number of clients, and the budget of an analysis
+-- what the words ask for: the order of the clients' first steps, the hosts, the number of clients, and the budget of an analysis
 pub record Settings : Type 0 where
   pub order : List ℕ
   pub hosts : List Host
   pub clients : ℕ
   pub budget : ℕ
 
--- ---- hosts ----
+-- ---- numbers ----
 
--- a letter, a digit, `.` or `-`
-abbrev pub is_host_byte : ℕ → Bool
-is_host_byte b = (nat_le 97 b && nat_le b 122) || ((nat_le 65 b && nat_le b 90) || ((nat_le 48 b && nat_le b 57) || (nat_le 45 b && nat_le b 46)))
+-- decimal digits without a sign, and without a zero in front of others
+abbrev pub is_number : Text → Bool
+is_number word = nat_lt 0 (length word) && (list_all is_ascii_digit word && ((length word == 1) || (nat_lt 48 (slice_index word 0))))
 
--- 1 to 255 such bytes
-unfoldable pub is_host_name : Text → Bool
-is_host_name name = nat_le 1 (length name) && (nat_le (length name) 255 && list_all is_host_byte name)
+-- a number within these limits
+unfoldable pub number_in : ℕ → ℕ → Text → Option ℕ
+number_in least most word = if is_number word && (nat_le least (digits_value 10 word) && nat_le (digits_value 10 word) most) then Some (digits_value 10 word) else None
 
--- a host by its name: distcc's port, and two slots at a time on the own machine, else four
-abbrev pub host_of : Text → Host
-host_of name = record { name = name; port = 3632; limit = if bytes_eq name (codes "localhost") then 2 else 4 }
+-- ---- the order ----
+
+-- a number in front of others
+abbrev pub with_number : Option ℕ → Option (List ℕ) → Option (List ℕ)
+with_number None numbers = None
+with_number (Some n) None = None
+with_number (Some n) (Some numbers) = Some (n ∷ numbers)
+
+-- the numbers of clients that words name
+unfoldable pub numbers_in : List Text → Option (List ℕ)
+numbers_in [] = Some []
+numbers_in (word ∷ words) = with_number (number_in 0 63 word) (numbers_in words)
+
+-- at most 1,000,000 of them
+abbrev pub few_in : List Text → Option (List ℕ)
+few_in words = if nat_le (length words) 1000000 then numbers_in words else None
+
+-- `-` for no order, or numbers of clients with a `,` between them
+unfoldable pub order_in : Text → Option (List ℕ)
+order_in word = if bytes_eq word (codes "-") then Some [] else few_in (slice_split (λ b. b == 44) word)
 
 -- ---- the word behind each flag ----
 
-abbrev pub host_in : Text → Option Text
-host_in word = if is_host_name word then Some word else None
+abbrev pub hosts_read : Result (List Host) HostError → Option (List Host)
+hosts_read (Ok hosts) = Some hosts
+hosts_read (Err why) = None
 
--- one client, the only number so far
+-- the hosts that a text names
+abbrev pub hosts_in : Text → Option (List Host)
+hosts_in word = hosts_read (hosts_of word)
+
+-- 1 to 64 clients
 abbrev pub clients_in : Text → Option ℕ
-clients_in word = if bytes_eq word (codes "1") then Some 1 else None
+clients_in word = number_in 1 64 word
 
--- decimal digits without a sign or a zero in front
-abbrev pub is_number : Text → Bool
-is_number word = list_all is_ascii_digit word && not (slice_index word 0 == 48)
-
--- a number from 1 to 65,536
-unfoldable pub budget_in : Text → Option ℕ
-budget_in word = if is_number word && (nat_le 1 (digits_value 10 word) && nat_le (digits_value 10 word) 65536) then Some (digits_value 10 word) else None
+-- a budget from 1 to 65,536
+abbrev pub budget_in : Text → Option ℕ
+budget_in word = number_in 1 65536 word
 
 -- ---- the flags ----
 
 -- what flags gave: None of a flag that didn't stand there
 pub record Given : Type 0 where
-  pub host : Option Text
+  pub hosts : Option (List Host)
   pub clients : Option ℕ
   pub budget : Option ℕ
 
 abbrev pub nothing_given : Given
-nothing_given = record { host = None; clients = None; budget = None }
+nothing_given = record { hosts = None; clients = None; budget = None }
 
 -- what is given by a flag that didn't stand there before, where its word says something
 abbrev pub once : {A : Type 0} → Option A → Option A → (A → Given) → Option Given
@@ -62,8 +82,8 @@ once None (Some said) given = Some (given said)
 once None None given = None
 once (Some before) word given = None
 
-abbrev pub with_host : Given → Text → Option Given
-with_host given word = once given.host (host_in word) (λ name. record given { host = Some name })
+abbrev pub with_hosts : Given → Text → Option Given
+with_hosts given word = once given.hosts (hosts_in word) (λ hosts. record given { hosts = Some hosts })
 
 abbrev pub with_clients : Given → Text → Option Given
 with_clients given word = once given.clients (clients_in word) (λ clients. record given { clients = Some clients })
@@ -74,7 +94,7 @@ with_budget given word = once given.budget (budget_in word) (λ budget. record g
 -- what is given with one flag more; None where it stood there before, is unknown, or its word says nothing
 unfoldable pub with_flag : Given → Text → Text → Option Given
 with_flag given flag word =
-    if bytes_eq flag (codes "--hosts") then with_host given word
+    if bytes_eq flag (codes "--hosts") then with_hosts given word
     else if bytes_eq flag (codes "-j") then with_clients given word
     else if bytes_eq flag (codes "--budget") then with_budget given word
     else None
@@ -88,29 +108,27 @@ with_flags (flag ∷ word ∷ words) (Some given) = with_flags words (with_flag 
 
 -- ---- all words ----
 
--- what is given by words in the grammar `order -` and flags
-abbrev pub given_in : List Text → Option Given
-given_in [] = None
-given_in (order ∷ []) = None
-given_in (order ∷ steps ∷ words) =
-    if bytes_eq order (codes "order") && bytes_eq steps (codes "-") then with_flags words (Some nothing_given) else None
+-- the settings of an order and of what flags gave, for so many ends: hosts must be given, the other flags may be left out; there are
+-- no more clients than ends, and the order names none beyond them
+abbrev pub settings_with : ℕ → List ℕ → List Host → ℕ → ℕ → Option Settings
+settings_with ends order hosts clients budget =
+    if nat_le clients ends && list_all (λ client. nat_lt client clients) order
+    then Some (record { order = order; hosts = hosts; clients = clients; budget = budget })
+    else None
 
-abbrev pub settings_with : Text → ℕ → ℕ → Settings
-settings_with name clients budget = record { order = []; hosts = host_of name ∷ []; clients = clients; budget = budget }
+abbrev pub settings_given : ℕ → List ℕ → Given → Option Settings
+settings_given ends order given =
+    option_and_then (λ hosts. settings_with ends order hosts (unwrap_or given.clients ends) (unwrap_or given.budget 4096)) given.hosts
 
--- the settings of what is given: a host must be, the other flags may be left out
-abbrev pub settings_given : Given → Option Settings
-settings_given given = option_map (λ name. settings_with name (unwrap_or given.clients 1) (unwrap_or given.budget 4096)) given.host
+abbrev pub settings_by : ℕ → Option (List ℕ) → Option Given → Option Settings
+settings_by ends None given = None
+settings_by ends (Some order) None = None
+settings_by ends (Some order) (Some given) = settings_given ends order given
 
--- the settings of words in the grammar, and none else
-unfoldable pub settings_in : List Text → Option Settings
-settings_in words = option_and_then settings_given (given_in words)
-
--- settings whose clients have an end each
-abbrev pub within_ends : ℕ → Option Settings → Option Settings
-within_ends ends None = None
-within_ends ends (Some settings) = if nat_le settings.clients ends then Some settings else None
-
--- what the words ask of so many ends; nothing where they aren't in the grammar, or ask for more clients than there are ends
-abbrev pub settings_of : ℕ → List Text → Option Settings
-settings_of ends words = within_ends ends (settings_in words)
+-- What words in the grammar `order ORDER` and flags ask of so many ends; nothing where they aren't in it, ask for more clients than
+-- there are ends, or name a client that there isn't.
+unfoldable pub settings_of : ℕ → List Text → Option Settings
+settings_of ends [] = None
+settings_of ends (command ∷ []) = None
+settings_of ends (command ∷ order ∷ words) =
+    if bytes_eq command (codes "order") then settings_by ends (order_in order) (with_flags words (Some nothing_given)) else None

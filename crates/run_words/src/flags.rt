@@ -1,132 +1,138 @@
 // The flags of the top call, each with a word behind it.
-ghost use Rattle.std.specs.Prelude.{◌≡◌, ◌&&◌, not, ◌==◌, if◌then◌else◌, nat_le, map, slice_index, Some, None};
-ghost use Rattle.std.specs.List.{list_all};
+ghost use Rattle.std.specs.Prelude.{◌≡◌, ◌≤◌, length, map, Some, IfOk, IfSome};
+ghost use Rattle.std.specs.List.{All};
 ghost use Rattle.std.specs.Option.{option_map};
-ghost use Rattle.std.specs.Char.{is_ascii_digit};
-ghost use Rattle.run_words.specs.Asked.{with_host, with_clients, with_budget, with_flag, with_flags, nothing_given, budget_in, is_number};
-ghost use Rattle.run_words.specs.Flagged.{given_by};
+ghost use Rattle.host_slots.specs.Slots.{HasSlots};
+ghost use Rattle.run_words.specs.Asked.{with_hosts, with_clients, with_budget, with_flag, with_flags, nothing_given, hosts_in};
+ghost use Rattle.run_words.specs.Flagged.{given_by, Fits};
 
-use crate::hosts::is_host_name;
+use crate::numbers::number_in;
+use host_slots::{HostError, read_hosts};
+use io_edges::Host;
+use std::alloc::{AllocError, Global};
+
+// The greatest number of clients.
+const CLIENTS: u32 = 64;
 
 // The greatest budget of an analysis.
 const GREATEST: u32 = 65_536;
 
-/// What flags give, each of which may stand there once: the name of a host, one client, and a budget.
-#[derive(Clone, Copy)]
-pub struct Flags<'a> {
-    pub host: Option<&'a str>,
-    pub one_client: bool,
+/// What flags give, each of which may stand there once: hosts, how many clients there are, and a budget.
+#[derive(Drop)]
+pub struct Flags {
+    pub hosts: Option<Vec<Host>>,
+    pub clients: Option<u32>,
     pub budget: Option<u32>,
 }
 
 /// What pairs of a flag and its word give, or None where they give nothing.
 #[tactic(auto, unfolding(crate::specs::Asked::with_flags))]
-pub fn flags_in<'a>(words: &[&'a str]) -> Option<Flags<'a>>
-    ensures { option_map given_by result ≡ with_flags (map (λ word. word.now) words.now) (Some nothing_given) }
+pub fn flags_in(alloc: Global, words: &[&str]) -> Result<Option<Flags>, AllocError>
+    ensures flags { IfOk result (λ flags. option_map given_by flags ≡ with_flags (map (λ word. word.now) words.now) (Some nothing_given)) }
+    ensures fits { IfOk result (λ flags. IfSome flags Fits) }
 {
     let mut flags = Flags {
-        host: None,
-        one_client: false,
+        hosts: None,
+        clients: None,
         budget: None,
     };
     let mut rest = words;
-    while let [flag, word, more @ ..] = rest {
-        flags = with_flag(flags, flag, word)?;
-        rest = more;
+    while let [flag, word, behind @ ..] = rest {
+        match with_flag(alloc, flags, flag, word) {
+            Ok(Some(given)) => flags = given,
+            Ok(None) => return Ok(None),
+            Err(error) => return Err(error),
+        }
+        rest = behind;
     }
-    if rest.is_empty() { Some(flags) } else { None }
+    if rest.is_empty() {
+        Ok(Some(flags))
+    } else {
+        Ok(None)
+    }
 }
 
 // What is given with one flag more.
 #[tactic(auto, unfolding(crate::specs::Asked::with_flag))]
-fn with_flag<'a>(flags: Flags<'a>, flag: &str, word: &'a str) -> Option<Flags<'a>>
-    ensures { option_map given_by result ≡ with_flag (given_by flags.entry) flag.now word.now }
+fn with_flag(
+    alloc: Global,
+    flags: Flags,
+    flag: &str,
+    word: &str,
+) -> Result<Option<Flags>, AllocError>
+    requires { Fits flags }
+    ensures flags { IfOk result (λ more. option_map given_by more ≡ with_flag (given_by flags) flag.now word.now) }
+    ensures fits { IfOk result (λ more. IfSome more Fits) }
 {
     match flag {
-        "--hosts" => with_host(flags, word),
-        "-j" => with_clients(flags, word),
-        "--budget" => with_budget(flags, word),
-        _ => None,
+        "--hosts" => with_hosts(alloc, flags, word),
+        "-j" => Ok(with_clients(flags, word)),
+        "--budget" => Ok(with_budget(flags, word)),
+        _ => Ok(None),
     }
 }
 
-fn with_host<'a>(flags: Flags<'a>, word: &'a str) -> Option<Flags<'a>>
-    ensures { option_map given_by result ≡ with_host (given_by flags.entry) word.now }
+fn with_hosts(alloc: Global, flags: Flags, word: &str) -> Result<Option<Flags>, AllocError>
+    requires { Fits flags }
+    ensures flags { IfOk result (λ more. option_map given_by more ≡ with_hosts (given_by flags) word.now) }
+    ensures fits { IfOk result (λ more. IfSome more Fits) }
 {
-    if flags.host.is_some() || !is_host_name(word.as_bytes()) {
-        return None;
+    if flags.hosts.is_some() {
+        return Ok(None);
     }
-    Some(Flags {
-        host: Some(word),
-        ..flags
-    })
+    match hosts_in(alloc, word) {
+        Ok(Some(hosts)) => Ok(Some(Flags {
+            hosts: Some(hosts),
+            ..flags
+        })),
+        Ok(None) => Ok(None),
+        Err(error) => Err(error),
+    }
 }
 
-fn with_clients<'a>(flags: Flags<'a>, word: &str) -> Option<Flags<'a>>
-    ensures { option_map given_by result ≡ with_clients (given_by flags.entry) word.now }
+// The hosts that a word names.
+fn hosts_in(alloc: Global, word: &str) -> Result<Option<Vec<Host>>, AllocError>
+    ensures hosts { IfOk result (λ hosts. option_map (λ hosts. hosts.items) hosts ≡ hosts_in word.now) }
+    ensures few { IfOk result (λ hosts. IfSome hosts (λ hosts. (1 ≤ length hosts.items) × (length hosts.items ≤ 64))) }
+    ensures slots { IfOk result (λ hosts. IfSome hosts (λ hosts. All HasSlots hosts.items)) }
 {
-    if flags.one_client || word != "1" {
-        return None;
+    match read_hosts(alloc, word.as_bytes()) {
+        Ok(hosts) => Ok(Some(hosts)),
+        Err(HostError::Memory) => Err(AllocError),
+        Err(_) => Ok(None),
     }
-    Some(Flags {
-        one_client: true,
-        ..flags
-    })
 }
 
-fn with_budget<'a>(flags: Flags<'a>, word: &str) -> Option<Flags<'a>>
-    ensures { option_map given_by result ≡ with_budget (given_by flags.entry) word.now }
+fn with_clients(flags: Flags, word: &str) -> Option<Flags>
+    requires { Fits flags }
+    ensures flags { option_map given_by result ≡ with_clients (given_by flags) word.now }
+    ensures fits { IfSome result Fits }
 {
-    if flags.budget.is_some() {
+    if flags.clients.is_some() {
         return None;
     }
-    match budget_in(word) {
-        Some(budget) => Some(Flags {
-            budget: Some(budget),
+    match number_in(word, 1, CLIENTS) {
+        Some(clients) => Some(Flags {
+            clients: Some(clients),
             ..flags
         }),
         None => None,
     }
 }
 
-// The budget that a word says.
-fn budget_in(word: &str) -> Option<u32>
-    ensures { result ≡ budget_in word.now }
+fn with_budget(flags: Flags, word: &str) -> Option<Flags>
+    requires { Fits flags }
+    ensures flags { option_map given_by result ≡ with_budget (given_by flags) word.now }
+    ensures fits { IfSome result Fits }
 {
-    if !is_number(word.as_bytes()) {
+    if flags.budget.is_some() {
         return None;
     }
-    match word.parse::<u32>() {
-        Ok(number) => in_range(number),
-        Err(_) => None,
+    match number_in(word, 1, GREATEST) {
+        Some(budget) => Some(Flags {
+            budget: Some(budget),
+            ..flags
+        }),
+        None => None,
     }
-}
-
-fn in_range(number: u32) -> Option<u32>
-    ensures { result ≡ (if nat_le 1 number && nat_le number 65536 then Some number else None) }
-{
-    if 1 <= number && number <= GREATEST {
-        Some(number)
-    } else {
-        None
-    }
-}
-
-// Decimal digits without a sign or a zero in front.
-fn is_number(word: &[u8]) -> bool
-    ensures { result ≡ is_number word.now }
-{
-    has_digits(word) && !has_zero_in_front(word)
-}
-
-fn has_digits(word: &[u8]) -> bool
-    ensures { result ≡ list_all is_ascii_digit word.now }
-{
-    word.iter().all(|b| b.is_ascii_digit())
-}
-
-fn has_zero_in_front(word: &[u8]) -> bool
-    ensures { result ≡ (slice_index word.now 0 == 48) }
-{
-    matches!(word, [b'0', ..])
 }

@@ -3,7 +3,9 @@
 
 mod asked;
 mod flags;
-mod hosts;
+mod numbers;
+mod order;
+#[cfg(test)]
+mod tests;
 
 pub use asked::{Asked, asked_in};
-pub use hosts::named_host;

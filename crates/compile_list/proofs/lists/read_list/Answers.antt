@@ -22,6 +22,7 @@ loop-line-preserved c =
       numbers = omega (arith, rest, c.loop-line.invariant.numbers);
       outputs = c.in_default.ensures.outputs;
       each = c.in_default.ensures.each;
+      few = c.in_default.ensures.few;
     }
 
 pub returns-clause-jobs : goal.returns-clause-jobs

@@ -11,4 +11,5 @@ invariant-loop-line l = record {
   numbers : l.number + length l.line-iterator ≤ 16777216;
   outputs : HasOutputs l.read.outputs l.read.jobs;
   each : AllByRecursion IsJob l.read.jobs;
+  few : length l.read.jobs ≤ 20000;
 }

@@ -1,14 +1,18 @@
-use Rattle.std.proofs.Common.{ap, ◌∙◌}
+use Rattle.std.proofs.Common.{sym, ap, ◌∙◌}
 use Rattle.std.specs.Option.{option_map}
 use Rattle.run_words.specs.Flagged.{given_by}
 use Rattle.run_words.proofs.Pairs.{more-flags, no-flags}
 use Rattle.run_words.proofs.flags.flags_in.Goals as goal
 
-pub returns-in_err-flags : goal.returns-in_err-flags
-returns-in_err-flags c =
-    ap (λ o. option_map given_by o) c.from_residual.ensures
-    ∙ no-flags (λ word. word.now) _ _ c.loop-rest.rest.now c.loop-rest.flags c.with_flag.result _ c.in-len2-up.len_at_least c.with_flag.ensures c.loop-rest.invariant c.in_err-flags.was
+pub returns-in-Ok-None-clause-flags : goal.returns-in-Ok-None-clause-flags
+returns-in-Ok-None-clause-flags c =
+    no-flags (λ word. word.now) _ _ c.loop-rest.rest.now (given_by c.loop-rest.flags) _ c.in-len2-up.len_at_least c.loop-rest.invariant.given
+    (sym (ap (λ o. option_map given_by o) c.in-Ok-None.field-0-is) ∙ c.in-Ok-None.ensures.flags)
 
 pub loop-rest-preserved : goal.loop-rest-preserved
-loop-rest-preserved c =
-    more-flags (λ word. word.now) _ _ c.loop-rest.rest.now c.loop-rest.flags c.with_flag.result _ c.in-len2-up.len_at_least c.with_flag.ensures c.loop-rest.invariant c.in_ok-flags.flags c.in_ok-flags.was
+loop-rest-preserved c = record {
+  given =
+      more-flags (λ word. word.now) _ _ c.loop-rest.rest.now (given_by c.loop-rest.flags) _ c.in-len2-up.len_at_least c.loop-rest.invariant.given (given_by c.in-Ok-Some.given)
+      (sym (ap (λ o. option_map given_by o) c.in-Ok-Some.field-0-is) ∙ c.in-Ok-Some.ensures.flags);
+  fits = rw c.in-Ok-Some.field-0-is at c.in-Ok-Some.ensures.fits;
+}
