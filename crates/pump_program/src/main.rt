@@ -12,12 +12,13 @@ mod test_folder;
 mod told;
 mod wrong_list;
 
-ghost use Rattle.std.specs.Prelude.{◌≡◌, IfOk};
+ghost use Rattle.std.specs.Prelude.{◌≡◌, ◌≤◌, ◌+◌, length, IfOk, OnOk};
+ghost use Rattle.std.specs.List.{All};
 ghost use Rattle.std.specs.IoError.{error_kind};
 ghost use Rattle.std.specs.Process.{exit_status};
 ghost use Rattle.command_line.specs.Failures.{failure_status};
 ghost use Rattle.job_ends.specs.Outside.{seen_end};
-ghost use Rattle.pump_run.specs.Run.{IsFresh};
+ghost use Rattle.job_ends.specs.Works.{IsFresh};
 
 use command_line::{ended, show, words_of};
 use daemon_serve::{MemWire, ServePeer};
@@ -34,28 +35,38 @@ use std::{env, io};
 use told::{NAME, tell_faults, tell_status, tell_stream};
 use tree_model::{Cached, Tree};
 
-const HELP: &str = "usage: pump_program order - --hosts HOST [-j 1] [--budget N] < LIST
+const HELP: &str = "usage: pump_program order ORDER --hosts HOSTS [-j N] [--budget N] < LIST
 
-A line of LIST asks for a job, and so far one line does: a working directory,
-and the words of a compile command without the compiler's name, with one C
-source in them; a `\\` makes the byte behind it one of a word, and a line that
-begins with # is passed over. Of the options -I, -iquote, -isystem,
--idirafter, -include, -D, -U, -o and -trigraphs are read, and those without
-effect on preprocessing passed over. The source is preprocessed as `cc -E`
-would, by a daemon that gets just the files that it may include, or else here.
-So far the daemon is in this process: HOST is read and not dialed. N, 1 to
-65536 or else 4096, is how many choices of definitions a computed include may
-have; with more, the job is done here. The text is written below the folder
+A line of LIST asks for a job: a working directory, and the words of a compile
+command without the compiler's name, with one C source in them; a `\\` makes the
+byte behind it one of a word, and a line that begins with # is passed over. Of
+the options -I, -iquote, -isystem, -idirafter, -include, -D, -U, -o and
+-trigraphs are read, and those without effect on preprocessing passed over.
+Each source is preprocessed as `cc -E` would, by a daemon that gets just the
+files that it may include, or else here. Its text is written below the folder
 `out`, under the name of -o, also where that begins with `/`, or the source's
-with `.i`. A report is written to standard output, and a line on what failed,
-and why, to standard error.
+with `.i`; no two jobs of a list may have the same. A report is written to
+standard output, and a line on what failed, and why, to standard error.
 
-status: 0 a text, 1 a diagnostic, 2 wrong words, 3 a wrong list, 4 a failed
-read, write or start, 5 out of memory, 6 a failed read of the tree";
+As many clients as -j says, 1 to 64 or else 64, do the jobs in turns, and share
+what they learn of the files. ORDER is whose turns come first: the numbers of
+clients from 0, with a `,` between them, or `-` for none; then turns go round
+and round. HOSTS is 1 to 64 words with blanks between them, each HOST[:PORT]
+with [/LIMIT] behind it, how many jobs the host may have at a time. So far the
+daemon is in this process, and no host is dialed. --budget, 1 to 65536 or else
+4096, is how many choices of definitions a computed include may have; a job
+with more is done here.
+
+status: 0 a text of each job, 1 a diagnostic, 2 wrong words, 3 a wrong list, 4 a
+failed read, write or start, 5 out of memory, 6 a failed read of the tree; where
+several hold, it is the first of 5, 4, 6, 1";
 
 type HostTree = Cached<Folder<HostRuntime>>;
 
 type HostEnd = End<HostTree, MemWire<ServePeer>, FolderOuts<HostRuntime>>;
+
+// The most clients that words may ask for.
+const CLIENTS: usize = 64;
 
 fn main(rt: HostRuntime) -> ExitCode {
     match answer(&rt, &rt) {
@@ -92,11 +103,18 @@ fn run<H: Threads + Wait + Sync>(
     rt: &HostRuntime,
     words: &[&str],
 ) -> io::Result<ExitCode> {
-    let end = new_end(rt)?;
+    let mut ends = new_ends(rt)?;
     let mut list = Kept::over(rt.alloc(), StdSource::new(rt));
     let mut report = StdSink::new(rt.clone()?);
-    let (status, end) = run_over(handles, rt.alloc(), words, end, &mut list, &mut report)?;
-    if let Some(end) = end {
+    let status = run_over(
+        handles,
+        rt.alloc(),
+        words,
+        &mut ends,
+        &mut list,
+        &mut report,
+    );
+    for end in ends {
         tell_end(rt, end);
     }
     tell_stream(rt, "standard input", list.source().last_error());
@@ -111,29 +129,58 @@ fn tell_end(rt: &HostRuntime, end: HostEnd) {
     tell_faults(rt, &tree.into_inner(), &outs);
 }
 
-// Runs the words over one end, as one client has, and answers the status and the end as it is then.
-fn run_over<
-    T: Tree + Drop,
-    W: Wire + Drop,
-    O: Outs + Drop,
-    S: Source,
-    K: Sink,
-    H: Threads + Wait + Sync,
->(
+// Runs the words over these ends, one for each client that there may be, and answers the status.
+fn run_over<T: Tree, W: Wire, O: Outs, S: Source, K: Sink, H: Threads + Wait + Sync>(
     handles: &H,
     alloc: Global,
     words: &[&str],
-    end: End<T, W, O>,
+    ends: &mut Vec<End<T, W, O>>,
     list: &mut S,
     report: &mut K,
-) -> Result<(u8, Option<End<T, W, O>>), AllocError>
-    requires { IsFresh (seen_end T.told T.Tree.faults T.reads W.talk W.state W.Wire.faults O.kept O.Outs.faults end) }
+) -> u8
+    requires some { 1 ≤ length ends.old.items }
+    requires few { length ends.old.items ≤ 64 }
+    requires fresh { All (λ end. IsFresh (seen_end T.told T.Tree.faults T.reads W.talk W.state W.Wire.faults O.kept O.Outs.faults end)) ends.old.items }
 {
-    let mut ends = Vec::new(alloc);
-    ends.push(end)?;
     let mut spawner = MemSpawner::new(alloc, Vec::new(alloc));
-    let status = pump(handles, alloc, words, list, &mut ends, &mut spawner, report);
-    Ok((status, ends.pop()))
+    pump(handles, alloc, words, list, ends, &mut spawner, report)
+}
+
+// As many ends as there may be clients.
+fn new_ends(rt: &HostRuntime) -> io::Result<Vec<HostEnd>>
+    ensures number { IfOk result (λ ends. length ends.items ≡ 64) }
+    ensures fresh { IfOk result (λ ends. All (λ end. IsFresh (seen_end ⟦<Cached<Folder<HostRuntime>> as Tree>⟧.told ⟦<Cached<Folder<HostRuntime>> as Tree>⟧.faults ⟦<Cached<Folder<HostRuntime>> as Tree>⟧.reads ⟦<MemWire<ServePeer> as Wire>⟧.talk ⟦<MemWire<ServePeer> as Wire>⟧.state ⟦<MemWire<ServePeer> as Wire>⟧.faults ⟦<FolderOuts<HostRuntime> as Outs>⟧.kept ⟦<FolderOuts<HostRuntime> as Outs>⟧.faults end)) ends.items) }
+{
+    more_ends(rt, Vec::new(rt.alloc()), CLIENTS)
+}
+
+// These ends, and so many more.
+fn more_ends(rt: &HostRuntime, ends: Vec<HostEnd>, more: usize) -> io::Result<Vec<HostEnd>>
+    requires few { length ends.items + more ≤ 64 }
+    requires fresh { All (λ end. IsFresh (seen_end ⟦<Cached<Folder<HostRuntime>> as Tree>⟧.told ⟦<Cached<Folder<HostRuntime>> as Tree>⟧.faults ⟦<Cached<Folder<HostRuntime>> as Tree>⟧.reads ⟦<MemWire<ServePeer> as Wire>⟧.talk ⟦<MemWire<ServePeer> as Wire>⟧.state ⟦<MemWire<ServePeer> as Wire>⟧.faults ⟦<FolderOuts<HostRuntime> as Outs>⟧.kept ⟦<FolderOuts<HostRuntime> as Outs>⟧.faults end)) ends.items }
+    ensures number { IfOk result (λ all. length all.items ≡ length ends.items + more) }
+    ensures fresh { IfOk result (λ all. All (λ end. IsFresh (seen_end ⟦<Cached<Folder<HostRuntime>> as Tree>⟧.told ⟦<Cached<Folder<HostRuntime>> as Tree>⟧.faults ⟦<Cached<Folder<HostRuntime>> as Tree>⟧.reads ⟦<MemWire<ServePeer> as Wire>⟧.talk ⟦<MemWire<ServePeer> as Wire>⟧.state ⟦<MemWire<ServePeer> as Wire>⟧.faults ⟦<FolderOuts<HostRuntime> as Outs>⟧.kept ⟦<FolderOuts<HostRuntime> as Outs>⟧.faults end)) all.items) }
+{
+    let mut ends = ends;
+    if more == 0 {
+        return Ok(ends);
+    }
+    add_end(&mut ends, new_end(rt)?)?;
+    more_ends(rt, ends, more - 1)
+}
+
+// Adds an end that wasn't used yet to others.
+fn add_end<T: Tree + Drop, W: Wire + Drop, O: Outs + Drop>(
+    ends: &mut Vec<End<T, W, O>>,
+    end: End<T, W, O>,
+) -> Result<(), AllocError>
+    requires fresh { All (λ e. IsFresh (seen_end T.told T.Tree.faults T.reads W.talk W.state W.Wire.faults O.kept O.Outs.faults e)) ends.old.items }
+    requires one_fresh { IsFresh (seen_end T.told T.Tree.faults T.reads W.talk W.state W.Wire.faults O.kept O.Outs.faults end) }
+    ensures number { OnOk result (length ends.new.items ≡ length ends.old.items + 1) }
+    ensures fresh { OnOk result (All (λ e. IsFresh (seen_end T.told T.Tree.faults T.reads W.talk W.state W.Wire.faults O.kept O.Outs.faults e)) ends.new.items) }
+{
+    ends.push(end)?;
+    Ok(())
 }
 
 // An end that wasn't used yet: the host's files, whose nodes are remembered, a daemon in this process, and the folder of outputs.

@@ -1,4 +1,4 @@
-// What is wrong with a list that isn't one of one job, in words.
+// What is wrong with a list that is refused, in words.
 use base_types::Bytes;
 use bstr::ByteSlice;
 use compile_list::{ListError, ListWhy, read_list, words_of_line};
@@ -23,10 +23,10 @@ impl WrongList {
     }
 }
 
-/// What is wrong with a list; None where it has one job. An error is want of memory.
+/// What is wrong with a list; None where nothing is. An error is want of memory.
 pub fn wrong_list(alloc: Global, list: &[u8]) -> Result<Option<WrongList>, AllocError> {
     let ListError { line, why } = match read_list(alloc, list) {
-        Ok(jobs) => return Ok(wrong_count(jobs.len())),
+        Ok(_) => return Ok(None),
         Err(error) => error,
     };
     match why {
@@ -34,15 +34,6 @@ pub fn wrong_list(alloc: Global, list: &[u8]) -> Result<Option<WrongList>, Alloc
         ListWhy::Limit => Ok(Some(WrongList::of(line, limit(line)))),
         ListWhy::Words(_) | ListWhy::Output => wrong_job(alloc, line, line_at(list, line)),
         ListWhy::Memory => Err(AllocError),
-    }
-}
-
-// What is wrong with so many jobs.
-fn wrong_count(jobs: usize) -> Option<WrongList> {
-    match jobs {
-        0 => Some(WrongList::of(0, "no job is in it")),
-        1 => None,
-        _ => Some(WrongList::of(0, "more than one job isn't built")),
     }
 }
 

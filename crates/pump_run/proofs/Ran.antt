@@ -1,122 +1,120 @@
--- A run whose one job was done.
-use Rattle.std.proofs.Common.{◌≡◌, ℕ, List, [], ◌∷◌, ◌++◌, Option, None, Some, IfSome, Ok, refl, sym, ap, ◌∙◌, subst, inl, inr, ◌⊎◌, arith}
-use Rattle.std.specs.List.{AllByRecursion}
+-- A run whose jobs were done.
+use Rattle.std.proofs.Common.{◌≡◌, ℕ, ◌≤◌, ◌⊎◌, inl, inr, List, [], ◌∷◌, length, map, Bool, true, false, cond, Option, Some, Ok, refl, sym, ap, ◌∙◌, subst, arith}
+use Rattle.std.specs.Prelude.{◌||◌, if◌then◌else◌}
 use Rattle.base_types.specs.Causes.{Rose}
-use Rattle.base_types.specs.Told.{added}
-use Rattle.tree_model.specs.Trees.{FileTree}
-use Rattle.io_edges.specs.declared.wire.Exchange.{Exchange}
-use Rattle.io_edges.specs.declared.wire.Host.{Host}
 use Rattle.job_words.specs.declared.job.Job.{Job}
 use Rattle.job_ends.specs.declared.record.Done.{Done}
-use Rattle.job_ends.specs.declared.record.Way.{Way}
 use Rattle.job_ends.specs.declared.record.JobOutcome.{JobOutcome}
-use Rattle.job_ends.specs.declared.record.JobOutcome.TheVariants as end
-use Rattle.job_ends.specs.Agree.{RecordsAgree, NoPeers, RecordsAreCalm, Served, AreServed}
 use Rattle.job_ends.specs.Outside.{EndSeen}
-use Rattle.job_ends.specs.Record.{known, Deeds, IsRecord}
-use Rattle.run_words.specs.Asked.{settings_with, host_of}
-use Rattle.pump_run.specs.Report.{Ran}
-use Rattle.pump_run.specs.Run.{IsRun, Outside, Given, IsFresh, EachAnsweredBy, StatusIs, asked_for}
-use Rattle.job_ends.specs.Works.{EachServed, EachCalm, EachEnd, Work}
-use Rattle.pump_run.specs.Steps.{FirstDid, JobIsTold, status_for}
+use Rattle.job_ends.specs.Record.{known}
+use Rattle.job_ends.specs.Works.{Work, EachEnd, is_memory, is_out_fault, is_tree_fault, is_diag}
+use Rattle.client_order.specs.declared.totals.Totals.{Totals}
+use Rattle.run_words.specs.Asked.{Settings}
 use Rattle.compile_list.specs.Steps.{ListGives}
-use Rattle.pump_run.proofs.Still.{fresh-answered}
-use Rattle.pump_run.proofs.OneEnd.{first_deeds, first_work, first-ends}
+use Rattle.pump_run.specs.Report.{Ran, run_text}
+use Rattle.pump_run.specs.Run.{IsRun, Outside, Given, IsPut, OutsideRose, StatusIs, some_outcome, asked_for}
+use Rattle.pump_run.specs.Steps.{ClientsDid, JobsAreTold, some_record, status_for}
+use Rattle.pump_run.proofs.Beyond.{all-ends}
+use Rattle.pump_run.proofs.Calm.{all-calm, first-served}
 
--- exchanges with one host went to one of the hosts
-to-hosts : (host : Host) (exchanges : List Exchange) → AllByRecursion (λ (e : Exchange). e.host ≡ host) exchanges
-    → AllByRecursion (λ (e : Exchange). (early : List Host) × (late : List Host) × (host ∷ [] ≡ early ++ e.host ∷ late)) exchanges
-to-hosts host [] is = tt
-to-hosts host (e ∷ exchanges) is = (([], [], ap (λ (h : Host). h ∷ []) (sym is.0)), to-hosts host exchanges is.1)
+-- ---- the status ----
 
--- what holds of a told talk holds of the exchanges that were added to an empty one
-of-added : (P : List Exchange → Type 0) (exchanges talk : List Exchange) (before now : Option (List Exchange)) → IfSome before (λ talk. talk ≡ [])
-    → now ≡ added exchanges before → now ≡ Some talk → P talk → P exchanges
-of-added P exchanges talk None now empty is told p = absurd (let both : None ≡ Some talk = sym is ∙ told in cc)
-of-added P exchanges talk (Some []) now empty is told p = let both : Some exchanges ≡ Some talk = sym is ∙ told in let same : talk ≡ exchanges = cc in subst P same p
-of-added P exchanges talk (Some (e ∷ more_before)) now empty is told p = absurd (cc)
+abbrev pub done_of : Work → Done
+done_of w = w.done
 
--- the status of a run of one job
-status-of : (before after : Outside) (number client status : ℕ) (way : Way) (deeds : Deeds) (outcome : JobOutcome)
-    → (status ≡ 5) ⊎ ((status ≡ status_for outcome) ⊎ ((status ≡ 4) × Rose before.counts.report after.counts.report)) → (status_for outcome ≡ 5 → status ≡ 5)
-    → (status ≡ 5) ⊎ StatusIs before after (Ran (record { done = record { job = number; client = client; outcome = outcome; way = way }; deeds = deeds } ∷ [])) status
-status-of before after number client status way deeds outcome (inl five) memory = inl five
-status-of before after number client status way deeds (end.Text n) (inr (inl wanted)) memory = inr (refl, inr wanted)
-status-of before after number client status way deeds (end.Text n) (inr (inr (four, rose))) memory = inr (refl, inl (four, inr (inr rose)))
-status-of before after number client status way deeds (end.Diag words) (inr (inl wanted)) memory = inr (refl, inr wanted)
-status-of before after number client status way deeds (end.Diag words) (inr (inr (four, rose))) memory = inr (refl, inl (four, inr (inr rose)))
-status-of before after number client status way deeds end.TreeFault (inr (inl wanted)) memory = inr (refl, inr wanted)
-status-of before after number client status way deeds end.TreeFault (inr (inr (four, rose))) memory = inr (refl, inl (four, inr (inr rose)))
-status-of before after number client status way deeds end.OutFault (inr (inl wanted)) memory = inr (refl, wanted)
-status-of before after number client status way deeds end.OutFault (inr (inr (four, rose))) memory = inr (refl, four)
-status-of before after number client status way deeds end.Memory (inr other) memory = inl (memory refl)
+-- an outcome among the works is one among their records
+same-outcomes : (test : JobOutcome → Bool) (works : List Work) → some_record test (map done_of works) ≡ some_outcome test works
+same-outcomes test [] = refl
+same-outcomes test (w ∷ works) = ap (λ (others : Bool). test w.done.outcome || others) (same-outcomes test works)
 
-module _ (given : Given) (before : Outside) (fresh : AllByRecursion IsFresh before.ends) (left report : Option (List ℕ)) (ends : List EndSeen) (list count status : ℕ)
-    (name : List ℕ) (budget : ℕ) (job : Job) (done : Done) (did : FirstDid given.named given.peer budget job (host_of name) done before.ends ends) where
-  -- the outside after the job was done and the report was put
+-- the status by four tests
+abbrev status_by : Bool → Bool → Bool → Bool → ℕ
+status_by memory unput lost told = if memory then 5 else if unput then 4 else if lost then 6 else if told then 1 else 0
+
+status-tests : (works : List Work) → status_for (map done_of works) ≡ status_by (some_outcome is_memory works) (some_outcome is_out_fault works) (some_outcome is_tree_fault works) (some_outcome is_diag works)
+unfolding status_for
+status-tests works = rw (same-outcomes is_memory works, same-outcomes is_out_fault works, same-outcomes is_tree_fault works, same-outcomes is_diag works) refl
+
+status-cases : (R S : Type 0) (status : ℕ) (memory unput lost told : Bool) → (R → S)
+    → (status ≡ 5) ⊎ ((status ≡ status_by memory unput lost told) ⊎ ((status ≡ 4) × R)) → (status_by memory unput lost told ≡ 5 → status ≡ 5)
+    → (status ≡ 5) ⊎ ((memory ≡ false) × cond unput (status ≡ 4) (((status ≡ 4) × S) ⊎ (status ≡ (if lost then 6 else if told then 1 else 0))))
+status-cases R S status memory unput lost told rose (inl five) starved = inl five
+status-cases R S status true unput lost told rose (inr other) starved = inl (starved refl)
+status-cases R S status false true lost told rose (inr (inl wanted)) starved = inr (refl, wanted)
+status-cases R S status false true lost told rose (inr (inr (four, r))) starved = inr (refl, four)
+status-cases R S status false false lost told rose (inr (inl wanted)) starved = inr (refl, inr wanted)
+status-cases R S status false false lost told rose (inr (inr (four, r))) starved = inr (refl, inl (four, rose r))
+
+-- ---- the run ----
+
+module _ (given : Given) (before : Outside) (left report : Option (List ℕ)) (ends : List EndSeen) (list count status : ℕ)
+    (settings : Settings) (jobs : List Job) (records : List Done) (totals : Totals)
+    (did : ClientsDid given.named given.peer settings.budget settings.clients jobs settings.hosts records totals before.ends ends) where
+  -- the outside after the jobs were done and the report was put
   abbrev pub after : Outside
   after = record before { ends = ends; left = left; report = report; counts = record { list = list; spawner = before.counts.spawner; report = count } }
 
-  abbrev deeds : Deeds
-  deeds = first_deeds given.named budget job (host_of name) done did.first did.now did.did
-
   abbrev works : List Work
-  works = first_work given.named budget job (host_of name) done did.first did.now did.did ∷ []
-
-  fresh_first : AllByRecursion IsFresh (did.first ∷ did.rest)
-  fresh_first = subst (λ (l : List EndSeen). AllByRecursion IsFresh l) did.was fresh
-
-  served-deeds : EachServed ends → AreServed deeds.exchanges
-  served-deeds served =
-      let now = (subst (λ (l : List EndSeen). EachServed l) did.is served).0 in
-      of-added AreServed deeds.exchanges now.talk did.first.talk did.now.talk fresh_first.0.no_talk did.did.did.talk now.told now.served
-
-  over-tree : EachServed ends → (tree : FileTree) → given.named ≡ Some tree → ListGives before.left left before.counts.list list (Ok job) → Served tree budget job done deeds
-  over-tree served tree named gives = record {
-    whole = did.whole tree named;
-    job_is = gives.0;
-    recorded = subst (λ (n : Option FileTree). IsRecord (known n budget) job done deeds) named did.did.recorded;
-    served = served-deeds served;
-  }
+  works = did.ran.works
 
   ran-ends : EachEnd 0 works before.ends ends
-  ran-ends = subst (λ (l : List EndSeen). EachEnd 0 works l ends) (sym did.was)
-      (subst (λ (l : List EndSeen). EachEnd 0 works (did.first ∷ did.rest) l) (sym did.is) (first-ends given.named budget job (host_of name) done did.first did.now did.did did.client did.rest))
+  ran-ends = all-ends settings.clients 0 settings.clients works before.ends ends (omega arith) did.ran.by_clients did.ran.ends did.rest
 
-  answered : EachAnsweredBy given.peer ends
-  answered = subst (λ (l : List EndSeen). EachAnsweredBy given.peer l) (sym did.is) (did.answered, fresh-answered given.peer did.rest fresh_first.1)
+  status-of : JobsAreTold records totals before.report report before.counts.report count status → (status ≡ 5) ⊎ StatusIs before after (Ran works totals) status
+  status-of told =
+      let same : status_for records ≡ status_by (some_outcome is_memory works) (some_outcome is_out_fault works) (some_outcome is_tree_fault works) (some_outcome is_diag works) =
+      ap status_for (sym did.ran.records_are) ∙ status-tests works in
+      status-cases (Rose before.counts.report count) (OutsideRose before after) status (some_outcome is_memory works) (some_outcome is_out_fault works) (some_outcome is_tree_fault works) (some_outcome is_diag works)
+      (λ rose. inr (inr rose)) (rw same at told.status_is) (rw same at told.no_memory)
 
-  calm-first : EachCalm before.ends ends → EachCalm (did.first ∷ did.rest) (did.now ∷ did.rest)
-  calm-first calm = subst (λ (l : List EndSeen). EachCalm (did.first ∷ did.rest) l) did.is (subst (λ (l : List EndSeen). EachCalm l ends) did.was calm)
-
-  pub ran-run : RecordsAgree → NoPeers → RecordsAreCalm → asked_for given before ≡ Some (settings_with name 1 budget) → ListGives before.left left before.counts.list list (Ok job)
-      → JobIsTold done before.report report before.counts.report count status → IsRun given before after status
-  ran-run agree no_peers calm asked gives told = record {
-    ending = Ran works;
+  pub ran-run : asked_for given before ≡ Some settings → settings.clients ≤ length before.ends → ListGives before.left left before.counts.list list (Ok jobs)
+      → JobsAreTold records totals before.report report before.counts.report count status → IsRun given before after status
+  ran-run asked few gives told = record {
+    ending = Ran works totals;
     cause = record {
-      settings = settings_with name 1 budget;
+      settings = settings;
       asked = asked;
-      jobs = job ∷ [];
-      listed = gives.1.0;
-      read = gives.1.1;
-      records = (did.number, (did.did.recorded, tt));
-      clients = (omega (arith, did.client), tt);
-      hosts = (to-hosts (host_of name) deeds.exchanges did.did.host_is, tt);
-      agrees = λ served tree named. (
-        let over = over-tree served tree named gives in
-            record {
-              outcome = agree tree budget job done deeds over;
-              no_peer = no_peers tree budget job done deeds over;
-              calm = calm tree budget job done deeds over;
-            },
-        tt,
-      );
+      jobs = jobs;
+      listed = gives.1.1.0;
+      read = gives.1.1.1;
+      ran = record {
+        works = works;
+        records_are = refl;
+        each = did.ran.each;
+        ends = did.ran.ends;
+        by_clients = did.ran.by_clients;
+        to_hosts = did.ran.to_hosts;
+        looked = did.ran.looked;
+        tallies = did.ran.tallies;
+        agrees = did.ran.agrees;
+      };
+      works_are = refl;
     };
     ends = ran-ends;
-    report = told.text_is;
-    status_is = status-of before after done.job done.client status done.way deeds done.outcome told.status_is told.no_memory;
+    report = subst (λ (l : List Done). IsPut (run_text l totals) status before.report report before.counts.report count) (sym did.ran.records_are) told.text_is;
+    status_is = status-of told;
     daemons = record { begun = refl; running = refl; asked = refl };
-    answered = answered;
-    complete = λ served tree named settings asks bytes left_is one lists still.
-        (let ends_still = calm-first still.ends in calm tree budget job done deeds (over-tree served tree named gives) (record { tree = ends_still.0; wire = ends_still.1.0; outs = ends_still.1.1.0 }), tt);
+    answered = did.answered;
+    complete = λ served tree named other asks bytes left_is listed lists still.
+        all-calm (known given.named settings.budget) tree jobs works settings.clients before.ends ends few did.ran.by_clients did.ran.each
+        (did.ran.agrees (first-served settings.clients ends served) tree named) ran-ends still.ends;
   }
+
+-- the same over ends that are seen, where what was asked for, shown and told is written in other words
+pub whole-run : {E : Type 0} (seen : E → EndSeen) (olds shown news now : List E) (given : Given) (before : Outside) (left report : Option (List ℕ)) (list count status : ℕ)
+    (settings : Settings) (listed jobs : List Job) (told_records records : List Done) (totals : Totals)
+    → before.ends ≡ map seen olds → shown ≡ olds → now ≡ news → listed ≡ jobs → told_records ≡ records
+    → ClientsDid given.named given.peer settings.budget settings.clients listed settings.hosts records totals (map seen shown) (map seen news)
+    → asked_for given before ≡ Some settings → settings.clients ≤ length before.ends → ListGives before.left left before.counts.list list (Ok jobs)
+    → JobsAreTold told_records totals before.report report before.counts.report count status
+    → IsRun given before (record before { ends = map seen now; left = left; report = report; counts = record { list = list; spawner = before.counts.spawner; report = count } }) status
+whole-run seen olds shown news now given before left report list count status settings listed jobs told_records records totals were same is jobs_are records_are did asked few gives told =
+    let from_before : ClientsDid given.named given.peer settings.budget settings.clients listed settings.hosts records totals before.ends (map seen news) =
+    subst (λ (ends : List EndSeen). ClientsDid given.named given.peer settings.budget settings.clients listed settings.hosts records totals ends (map seen news)) (ap (λ (es : List _). map seen es) same ∙ sym were) did in
+    let to_now : ClientsDid given.named given.peer settings.budget settings.clients listed settings.hosts records totals before.ends (map seen now) =
+    subst (λ (ends : List EndSeen). ClientsDid given.named given.peer settings.budget settings.clients listed settings.hosts records totals before.ends ends) (ap (λ (es : List _). map seen es) (sym is)) from_before in
+    let of_jobs : ClientsDid given.named given.peer settings.budget settings.clients jobs settings.hosts records totals before.ends (map seen now) =
+    subst (λ (js : List Job). ClientsDid given.named given.peer settings.budget settings.clients js settings.hosts records totals before.ends (map seen now)) jobs_are to_now in
+    let told_so : JobsAreTold records totals before.report report before.counts.report count status =
+    subst (λ (rs : List Done). JobsAreTold rs totals before.report report before.counts.report count status) records_are told in
+    ran-run given before left report (map seen now) list count status settings jobs records totals of_jobs asked few gives told_so

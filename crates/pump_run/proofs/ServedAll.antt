@@ -1,19 +1,14 @@
--- Where hosts are daemons, and the entries of a job are enough.
-use Rattle.std.proofs.Common.{◌≡◌, ℕ, List, [], ◌∷◌, ◌++◌, Option, None, Some, IsSome, refl, ap, inl, inr, ◌⊎◌}
+-- Where hosts are daemons.
+use Rattle.std.proofs.Common.{◌≡◌, ℕ, List, [], ◌∷◌, ◌++◌, Option, None, Some, IsSome, refl, inl, inr, ◌⊎◌}
 use Rattle.std.specs.List.{AllByRecursion}
 use Rattle.io_edges.specs.declared.wire.Exchange.{Exchange}
 use Rattle.io_edges.specs.Talk.{IsAnswered, EachAnswered}
 use Rattle.job_frames.specs.Daemon.{Daemon}
-use Rattle.mirror_soundness.specs.Mirror.{EntriesMakeTree, MirrorIsEnough, NothingHoldsAnalysed}
 use Rattle.daemon_answers.specs.Answers.{Answers}
-use Rattle.job_ends.specs.Agree.{AreServed, EntriesAreEnough}
+use Rattle.job_ends.specs.Agree.{AreServed}
 use Rattle.job_ends.specs.Outside.{EndSeen}
 use Rattle.pump_run.specs.Run.{EachTells, EachAnsweredBy, IsDaemon, ServedByDaemon}
 use Rattle.job_ends.specs.Works.{IsServed, EachServed}
-
-pub entries-are-enough : EntriesMakeTree → MirrorIsEnough → NothingHoldsAnalysed → EntriesAreEnough
-entries-are-enough make enough analysed tree job budget entries is_tree none are =
-    ((make tree job entries is_tree are).0, ap (λ run. run.outcome) (enough tree job entries is_tree are (analysed tree job budget none)))
 
 module _ (peer : List ℕ → List ℕ → Type 0) (daemon : IsDaemon peer) where
   so-far : (e : Exchange) → (e.received ≡ []) ⊎ ((rest : List ℕ) × peer e.sent (e.received ++ rest)) → (e.received ≡ []) ⊎ ((rest : List ℕ) × Daemon Answers e.sent (e.received ++ rest))

@@ -4,7 +4,8 @@ use Rattle.std.specs.List.{AllByRecursion}
 use Rattle.io_edges.specs.declared.wire.Exchange.{Exchange}
 use Rattle.io_edges.specs.Talk.{EachAnswered}
 use Rattle.job_ends.specs.Outside.{EndSeen}
-use Rattle.pump_run.specs.Run.{IsFresh, EachAnsweredBy}
+use Rattle.job_ends.specs.Works.{IsFresh}
+use Rattle.pump_run.specs.Run.{EachAnsweredBy}
 use Rattle.job_ends.specs.Works.{EachEnd, EndHolds}
 use Rattle.pump_run.proofs.Lines.{added-nil}
 
@@ -17,6 +18,7 @@ still-end e = record {
   tree_bound = inl (omega arith);
   outs_bound = inl (omega arith);
   chain = record { tree = omega arith; wire = omega arith; outs = omega arith };
+  reads = omega arith;
 }
 
 pub still-ends : (client : ℕ) (ends : List EndSeen) → EachEnd client [] ends ends

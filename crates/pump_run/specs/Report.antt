@@ -11,6 +11,7 @@ use Rattle.job_ends.specs.declared.record.Cause.TheVariants as cause
 use Rattle.job_ends.specs.declared.record.JobOutcome.{JobOutcome}
 use Rattle.job_ends.specs.declared.record.JobOutcome.TheVariants as end
 use Rattle.job_ends.specs.Works.{Work}
+use Rattle.client_order.specs.declared.totals.Totals.{Totals}
 use Rattle.job_words.specs.declared.reading.WordError.{WordError}
 use Rattle.job_words.specs.declared.reading.WordError.TheVariants as word
 use Rattle.compile_list.specs.declared.refused.ListError.{ListError}
@@ -21,11 +22,10 @@ use Rattle.compile_list.specs.declared.refused.ListWhy.TheVariants as list
 pub data Ending : Type 0 where
   Usage : Ending
   ListRefused : ListError → Ending
-  ListNotBuilt : Ending
   ListFault : Ending
   SpawnFault : Ending
   NoMemory : Ending
-  Ran : List Work → Ending
+  Ran : List Work → Totals → Ending
 
 abbrev pub refusal_text : Refusal → List ℕ
 refusal_text refusal.Budget = codes "A1"
@@ -91,6 +91,16 @@ totals_text records =
 unfoldable pub jobs_text : List Done → List ℕ
 jobs_text records = flat_map job_text records ++ totals_text records
 
+-- the line of what the memo of sheets did
+unfoldable pub looks_text : Totals → List ℕ
+looks_text totals =
+    codes "looks " ++ (decimal totals.looks ++ (codes " hits " ++ (decimal totals.hits ++ (codes " kept " ++ (decimal totals.kept
+    ++ (codes " already " ++ (decimal totals.already ++ (codes " full " ++ (decimal totals.full ++ 10 ∷ [])))))))))
+
+-- the report of a run whose jobs were run
+abbrev pub run_text : List Done → Totals → List ℕ
+run_text records totals = jobs_text records ++ looks_text totals
+
 -- the number of the reason why words give no job
 abbrev pub word_number : WordError → List ℕ
 word_number word.NoSource = codes "1"
@@ -114,8 +124,7 @@ why_text list.Memory = codes "memory"
 abbrev pub report_text : Ending → List ℕ
 report_text Usage = codes "pump: usage" ++ 10 ∷ []
 report_text (ListRefused error) = codes "pump: list " ++ decimal error.line ++ codes ": " ++ why_text error.why ++ 10 ∷ []
-report_text ListNotBuilt = codes "pump: list 0: not built" ++ 10 ∷ []
 report_text ListFault = codes "pump: list read fault" ++ 10 ∷ []
 report_text SpawnFault = codes "pump: spawn fault" ++ 10 ∷ []
 report_text NoMemory = codes "pump: memory" ++ 10 ∷ []
-report_text (Ran works) = jobs_text (map (λ (w : Work). w.done) works)
+report_text (Ran works totals) = run_text (map (λ (w : Work). w.done) works) totals

@@ -1,23 +1,25 @@
 -- The clause on pump: its run, from the words and the list to the ends, the report and the status.
 --
 --     what is claimed of a run                               the field of `IsRun`               its definition
---     each outcome is that of preprocessing the whole tree   cause: JobsRan.agrees              JobAgrees.outcome (job_ends, Works)
+--     each outcome is that of preprocessing the whole tree   cause: ClientsRan.agrees           JobAgrees.outcome (job_ends, Works)
 --         its premise, where the hosts are daemons           answered, with served_by_daemon    EachServed (job_ends, Works)
---     a job that was sent was sent exactly its files         cause: JobsRan.records             WayHolds (job_ends, Record)
---     a job is done locally for a reason that holds          cause: JobsRan.records             WayHolds (job_ends, Record)
---         and never for what a daemon answered               cause: JobsRan.agrees              JobAgrees.no_peer, JobAgrees.calm
+--     a job that was sent was sent exactly its files         cause: ClientsRan.each             WayHolds (job_ends, Record)
+--     a job is done locally for a reason that holds          cause: ClientsRan.each             WayHolds (job_ends, Record)
+--         and never for what a daemon answered               cause: ClientsRan.agrees           JobAgrees.no_peer, JobAgrees.calm
+--     whatever the order of the clients' steps               cause: JobsRan.ran                 ClientsRan (client_order, Ran)
+--     each sheet is looked for once, and built where none
+--         was found; the totals are those of one history     cause: ClientsRan.looked, .tallies LooksFor (job_ends, Looks), Tallies
 --     the jobs are those of the list, read to its end        cause: JobsRan.listed, .read       jobs_of (compile_list, Listed)
 --     outputs, talks and counts are those of the jobs        ends                               EndHolds (job_ends, Works)
 --     the report and the status say what happened            report, status_is                  report_text (Report), StatusIs
 --     nothing stands in the way but want of memory,          complete                           IsComplete
 --         where nothing failed
-use Rattle.std.specs.Prelude.{◌≡◌, ◌≢◌, Ok, Err, ℕ, ◌<◌, ◌⊎◌, List, [], ◌∷◌, length, take, Bool, true, false, cond, Option, None, Some, IfSome, IsSome, if◌then◌else◌}
+use Rattle.std.specs.Prelude.{◌≡◌, Ok, Err, ℕ, ◌⊎◌, List, [], length, map, take, Bool, false, cond, Option, None, Some, IsSome, if◌then◌else◌}
 use Rattle.std.specs.List.{list_any, AllByRecursion}
 use Rattle.std.specs.Option.{ForSome}
 use Rattle.tree_model.specs.Trees.{FileTree}
 use Rattle.job_words.specs.declared.job.Job.{Job}
 use Rattle.io_edges.specs.declared.wire.Host.{Host}
-use Rattle.io_edges.specs.declared.wire.LinkState.TheVariants.{Closed}
 use Rattle.base_types.specs.Causes.{Rose}
 use Rattle.base_types.specs.Told.{added}
 use Rattle.io_edges.specs.Talk.{EachAnswered}
@@ -27,10 +29,12 @@ use Rattle.job_ends.specs.declared.record.JobOutcome.{JobOutcome}
 use Rattle.job_ends.specs.Agree.{IsCalm}
 use Rattle.job_ends.specs.Outside.{EndSeen}
 use Rattle.job_ends.specs.Record.{known}
-use Rattle.job_ends.specs.Works.{Work, EachEnd, ToHosts, EachRecord, EachServed, EachAgrees, EachCalm, is_memory, is_out_fault, is_tree_fault, is_diag}
+use Rattle.job_ends.specs.Works.{Work, EachEnd, EachServed, EachCalm, is_memory, is_out_fault, is_tree_fault, is_diag}
+use Rattle.client_order.specs.Ran.{ClientsRan}
+use Rattle.client_order.specs.declared.totals.Totals.{Totals}
 use Rattle.compile_list.specs.Listed.{jobs_of}
 use Rattle.run_words.specs.Asked.{Settings, settings_of}
-use Rattle.pump_run.specs.Report.{Ending, Usage, ListRefused, ListNotBuilt, ListFault, SpawnFault, NoMemory, Ran, report_text}
+use Rattle.pump_run.specs.Report.{Ending, Usage, ListRefused, ListFault, SpawnFault, NoMemory, Ran, report_text}
 
 -- ---- the outside before the call and after it ----
 
@@ -54,15 +58,6 @@ pub record Given : Type 1 where
   pub peer : List ℕ → List ℕ → Type 0
   pub words : List (List ℕ)
 
--- an end that wasn't used yet
-pub record IsFresh (seen : EndSeen) : Type 0 where
-  pub closed : seen.state ≡ Closed
-  pub no_talk : IfSome seen.talk (λ talk. talk ≡ [])
-  pub no_outs : IfSome seen.kept (λ kept. kept ≡ [])
-  pub no_tree_fault : seen.tree_faults ≡ 0
-  pub no_wire_fault : seen.wire_faults ≡ 0
-  pub no_outs_fault : seen.outs_faults ≡ 0
-
 -- what the words ask of the ends that there are
 abbrev pub asked_for : Given → Outside → Option Settings
 asked_for given before = settings_of (length before.ends) given.words
@@ -71,11 +66,10 @@ asked_for given before = settings_of (length before.ends) given.words
 abbrev pub ran : Ending → List Work
 ran Usage = []
 ran (ListRefused error) = []
-ran ListNotBuilt = []
 ran ListFault = []
 ran SpawnFault = []
 ran NoMemory = []
-ran (Ran works) = works
+ran (Ran works totals) = works
 
 -- ---- the headline's premises ----
 
@@ -97,18 +91,15 @@ ServedByDaemon peer = IsDaemon peer → (ends : List EndSeen) → EachTells ends
 
 -- ---- how the run ended ----
 
--- the jobs were run: they are those of the list, which was read to its end, and each has its record; where each exchange
--- was answered as the daemon answers, each agrees with preprocessing over the whole tree
-pub record JobsRan (given : Given) (before after : Outside) (works : List Work) : Type 0 where
+-- the jobs were run: they are those of the list, which was read to its end, and the first ends had a client each, which did them
+pub record JobsRan (given : Given) (before after : Outside) (works : List Work) (totals : Totals) : Type 0 where
   pub settings : Settings
   pub asked : asked_for given before ≡ Some settings
   pub jobs : List Job
   pub listed : ForSome before.left (λ bytes. jobs_of bytes ≡ Ok jobs)
   pub read : ForSome after.left (λ rest. rest ≡ [])
-  pub records : EachRecord (known given.named settings.budget) 0 jobs works
-  pub clients : AllByRecursion (λ (w : Work). w.done.client < settings.clients) works
-  pub hosts : ToHosts settings.hosts works
-  pub agrees : EachServed after.ends → ForSome given.named (λ tree. EachAgrees tree jobs works)
+  pub ran : ClientsRan (known given.named settings.budget) jobs settings.hosts settings.clients false (take settings.clients before.ends) (take settings.clients after.ends) (map (λ (w : Work). w.done) works) totals
+  pub works_are : ran.works ≡ works
 
 -- the words are in the grammar, and ask for no more clients than there are ends
 abbrev pub AsksSomething : Given → Outside → Type 0
@@ -122,11 +113,10 @@ Readable before = ForSome before.left (λ bytes. (jobs : List Job) × (jobs_of b
 abbrev pub HasEnding : Given → Outside → Outside → Ending → Type 0
 HasEnding given before after Usage = asked_for given before ≡ None
 HasEnding given before after (ListRefused error) = AsksSomething given before × ForSome before.left (λ bytes. jobs_of bytes ≡ Err error)
-HasEnding given before after ListNotBuilt = AsksSomething given before × ForSome before.left (λ bytes. (jobs : List Job) × (jobs_of bytes ≡ Ok jobs) × (length jobs ≢ 1))
 HasEnding given before after ListFault = AsksSomething given before × Rose before.counts.list after.counts.list
 HasEnding given before after SpawnFault = AsksSomething given before × (Readable before × Rose before.counts.spawner after.counts.spawner)
 HasEnding given before after NoMemory = Unit {0}
-HasEnding given before after (Ran works) = JobsRan given before after works
+HasEnding given before after (Ran works totals) = JobsRan given before after works totals
 
 -- ---- the report and the status ----
 
@@ -155,11 +145,10 @@ OutsideRose before after =
 abbrev pub StatusIs : Outside → Outside → Ending → ℕ → Type 0
 StatusIs before after Usage status = status ≡ 2
 StatusIs before after (ListRefused error) status = status ≡ 3
-StatusIs before after ListNotBuilt status = status ≡ 3
 StatusIs before after ListFault status = status ≡ 4
 StatusIs before after SpawnFault status = status ≡ 4
 StatusIs before after NoMemory status = ⊥
-StatusIs before after (Ran works) status =
+StatusIs before after (Ran works totals) status =
     (some_outcome is_memory works ≡ false)
     × (cond (some_outcome is_out_fault works) (status ≡ 4) (((status ≡ 4) × OutsideRose before after) ⊎ (status ≡ by_outcomes works)))
 
@@ -180,12 +169,11 @@ pub record NoFaults (before after : Outside) : Type 0 where
   pub report : Rose before.counts.report after.counts.report → ⊥
   pub ends : EachCalm before.ends after.ends
 
--- where the words and the list are in their grammars, the list has one job and nothing failed, it was run, and only want of memory stood in the way
+-- where the words and the list are in their grammars and nothing failed, the jobs were run, and only want of memory stood in the way
 abbrev pub IsComplete : Given → Outside → Outside → Ending → ℕ → Type 0
-IsComplete given before after (Ran works) status = AllByRecursion (λ (w : Work). IsCalm w.done.way w.done.outcome) works
+IsComplete given before after (Ran works totals) status = AllByRecursion (λ (w : Work). IsCalm w.done.way w.done.outcome) works
 IsComplete given before after Usage status = ⊥
 IsComplete given before after (ListRefused error) status = ⊥
-IsComplete given before after ListNotBuilt status = ⊥
 IsComplete given before after ListFault status = ⊥
 IsComplete given before after SpawnFault status = ⊥
 IsComplete given before after NoMemory status = status ≡ 5
@@ -200,7 +188,7 @@ pub record IsRun (given : Given) (before after : Outside) (status : ℕ) : Type 
   pub status_is : (status ≡ 5) ⊎ StatusIs before after ending status
   pub daemons : DaemonsHold given ending status before after
   pub answered : EachAnsweredBy given.peer after.ends
-  pub complete : EachServed after.ends → ForSome given.named (λ tree. (settings : Settings) → asked_for given before ≡ Some settings → (bytes : List ℕ) → before.left ≡ Some bytes → (job : Job) → jobs_of bytes ≡ Ok (job ∷ []) → NoFaults before after → IsComplete given before after ending status)
+  pub complete : EachServed after.ends → ForSome given.named (λ tree. (settings : Settings) → asked_for given before ≡ Some settings → (bytes : List ℕ) → before.left ≡ Some bytes → (jobs : List Job) → jobs_of bytes ≡ Ok jobs → NoFaults before after → IsComplete given before after ending status)
 
 -- what contracts see of the outside, from the members of the bounds
 abbrev pub outside : List EndSeen → Option (List ℕ) → ℕ → List (ℕ × Host) → List Host → Bool → ℕ → Option (List ℕ) → ℕ → Outside

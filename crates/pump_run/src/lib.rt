@@ -1,8 +1,8 @@
 //! The top call: words and a compile list in, outputs, a report and a status out.
 #![tactic(auto)]
 
+mod clients;
 mod ending;
-mod first;
 mod laws;
 mod report;
 mod top;

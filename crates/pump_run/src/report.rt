@@ -1,26 +1,52 @@
 // The report of the jobs.
 ghost use Rattle.std.specs.Prelude.{◌≡◌, ◌++◌, [], ◌∷◌, count_by, codes, IfOk, OnOk};
 ghost use Rattle.pump_run.specs.Steps.{refusal_text_of};
-ghost use Rattle.pump_run.specs.Report.{why_text, word_number, jobs_text, job_text, totals_text, outcome_text, after_text, way_text, refusal_text, is_remote, is_local, is_broken};
+ghost use Rattle.pump_run.specs.Report.{why_text, word_number, run_text, jobs_text, job_text, totals_text, looks_text, outcome_text, after_text, way_text, refusal_text, is_remote, is_local, is_broken};
 
 use base_types::Bytes;
-use build_clients::{Cause, Done, JobOutcome, Way};
+use build_clients::{Cause, Done, JobOutcome, Totals, Way};
 use closure_fixpoint::Refusal;
 use compile_list::{ListError, ListWhy};
 use job_words::WordError;
 use std::alloc::{AllocError, Global};
 
-/// The report of these jobs: their lines, and the line of how many were done where.
-#[tactic(auto, unfolding(crate::specs::Report::jobs_text))]
-pub fn report_of(alloc: Global, records: &[Done]) -> Result<Bytes, AllocError>
-    ensures { IfOk result (λ text. text ≡ jobs_text records.now) }
+/// The report of these jobs: their lines, the line of how many were done where, and that of what the memo of sheets did.
+pub fn report_of(alloc: Global, records: &[Done], totals: Totals) -> Result<Bytes, AllocError>
+    ensures { IfOk result (λ text. text ≡ run_text records.now totals) }
 {
     let mut text = Vec::new(alloc);
-    for done in records {
-        add_job(alloc, &mut text, done)?;
-    }
-    add_totals(alloc, &mut text, records)?;
+    add_jobs(alloc, &mut text, records)?;
+    add_looks(alloc, &mut text, totals)?;
     Ok(Bytes::of(text))
+}
+
+// Adds the lines of the jobs, and the line of how many were done where.
+#[tactic(auto, unfolding(crate::specs::Report::jobs_text))]
+fn add_jobs(alloc: Global, text: &mut Vec<u8>, records: &[Done]) -> Result<(), AllocError>
+    ensures { OnOk result (text.new.items ≡ text.old.items ++ jobs_text records.now) }
+{
+    for done in records {
+        add_job(alloc, text, done)?;
+    }
+    add_totals(alloc, text, records)
+}
+
+// Adds the line of what the memo of sheets did.
+#[tactic(auto, unfolding(crate::specs::Report::looks_text))]
+fn add_looks(alloc: Global, text: &mut Vec<u8>, totals: Totals) -> Result<(), AllocError>
+    ensures { OnOk result (text.new.items ≡ text.old.items ++ looks_text totals) }
+{
+    let Totals {
+        looks,
+        hits,
+        kept,
+        already,
+        full,
+    } = totals;
+    let line = format!(in alloc;
+        "looks {looks} hits {hits} kept {kept} already {already} full {full}\n"
+    )?;
+    text.extend_from_slice(line.as_bytes())
 }
 
 /// The line that says why a list is refused.

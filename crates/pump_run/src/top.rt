@@ -2,30 +2,32 @@
 ghost use Rattle.std.specs.Prelude.{◌≡◌, ◌<◌, ◌≤◌, [], length, map};
 ghost use Rattle.std.specs.List.{AllByRecursion};
 ghost use Rattle.job_ends.specs.Outside.{seen_end};
-ghost use Rattle.pump_run.specs.Run.{IsRun, IsFresh, outside, given};
+ghost use Rattle.job_ends.specs.Works.{IsFresh};
+ghost use Rattle.pump_run.specs.Run.{IsRun, outside, given};
 
+use crate::clients::{number_of, run_clients};
 use crate::ending::{FAULT, NO_MEMORY, REFUSED, USAGE, refuse, tell};
-use crate::first::{number_of, run_first};
-use crate::laws::outcomes_agree;
 use crate::report::refusal_line;
 use build_clients::End;
-use compile_list::{NoJob, listed_job};
+use compile_list::{NoJobs, listed_jobs};
 use io_edges::{Outs, Sink, Source, Spawner, Wire};
-use run_words::{asked_in, named_host};
+use run_words::asked_in;
 use std::alloc::Global;
 use std::sync::Wait;
 use std::thread::Threads;
 use tree_model::Tree;
 
-/// Does the jobs of a compile list: reads the words `order - --hosts HOST`, with `-j 1` and `--budget N` or without, and the list, of which only one with one job
-/// is built so far; does its job at the first of the ends, puts the job's text on that end's outs, and writes the report: a
-/// line for the job and one of totals, or one line that says why nothing was done. The ends weren't
-/// used before, and there are as many as clients at least. The spawner isn't called: hosts are given by name.
+/// Does the jobs of a compile list. It reads the words, `order ORDER --hosts TEXT` with `-j N` and `--budget N` or without, in
+/// any order of the flags (`run_words::asked_in`), and then the list to its end (`compile_list::listed_jobs`); has a client at
+/// each of the first ends do the jobs, whose steps go in turns, those of ORDER first (`client_order::run_order`); puts each
+/// job's text on its client's outs; and writes the report: the lines of each job, one of totals and one of what the memo of
+/// sheets did, or one line that says why nothing was done. The ends weren't used before. The spawner isn't called: hosts are
+/// given by name.
 ///
 /// The status is the first of these that holds:
 /// - 5: there was no memory, for a job or outside the jobs;
 /// - 2: the words aren't in their grammar, or ask for more clients than there are ends;
-/// - 3: the list is refused, or has no job or several;
+/// - 3: the list is refused;
 /// - 4: the list, the outs or the report failed;
 /// - 6: the tree failed in some job;
 /// - 1: some job has a diagnostic;
@@ -51,29 +53,27 @@ pub fn pump<T: Tree, W: Wire, O: Outs, P: Spawner, S: Source, K: Sink, R: Thread
         (outside (map seen ends.new.items) (S.left list.new) (S.faults list.new) (P.begun spawner.new) (P.running spawner.new) (P.asked spawner.new) (P.faults spawner.new) (K.held report.new) (K.faults report.new))
         result }
 {
-    outcomes_agree();
-    let Some(asked) = asked_in(number_of(ends), words) else {
-        return refuse(report, b"pump: usage\n".as_slice(), USAGE);
+    let asked = match asked_in(alloc, number_of(ends), words) {
+        Ok(Some(asked)) => asked,
+        Ok(None) => return refuse(report, b"pump: usage\n".as_slice(), USAGE),
+        Err(_) => return refuse(report, b"pump: memory\n".as_slice(), NO_MEMORY),
     };
-    let job = match listed_job(alloc, list) {
-        Ok(job) => job,
-        Err(NoJob::Refused(error)) => {
+    let jobs = match listed_jobs(alloc, list) {
+        Ok(jobs) => jobs,
+        Err(NoJobs::Refused(error)) => {
             let Ok(line) = refusal_line(alloc, error) else {
                 return refuse(report, b"pump: memory\n".as_slice(), NO_MEMORY);
             };
             return refuse(report, line.as_slice(), REFUSED);
         }
-        Err(NoJob::NotBuilt) => {
-            return refuse(report, b"pump: list 0: not built\n".as_slice(), REFUSED);
-        }
-        Err(NoJob::Fault) => {
+        Err(NoJobs::Fault) => {
             return refuse(report, b"pump: list read fault\n".as_slice(), FAULT);
         }
-        Err(NoJob::Memory) => return refuse(report, b"pump: memory\n".as_slice(), NO_MEMORY),
+        Err(NoJobs::Memory) => return refuse(report, b"pump: memory\n".as_slice(), NO_MEMORY),
     };
-    let Ok(host) = named_host(alloc, asked.host) else {
+    let Ok((records, totals)) = run_clients(alloc, ends.as_mut_slice(), &asked, jobs.as_slice())
+    else {
         return refuse(report, b"pump: memory\n".as_slice(), NO_MEMORY);
     };
-    let done = run_first(alloc, ends, asked.budget, &job, &host);
-    tell(alloc, done, report)
+    tell(alloc, records.as_slice(), totals, report)
 }

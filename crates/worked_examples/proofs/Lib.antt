@@ -1,5 +1,9 @@
 -- Lemmas.
---     OneClient   the words of a run ask for one client
---     OneRan      what a run of one job says where its status is 0 or 1
-pub mod OneClient
+--     FewClients    the words of a run ask for no more clients than there are ends
+--     OneRan        what a run of one job says where its status is 0 or 1
+--     Ends          ends that weren't used, and one more
+--     SeveralRan    what a run of several jobs says where its status is 0
+pub mod FewClients
 pub mod OneRan
+pub mod Ends
+pub mod SeveralRan

@@ -1,6 +1,6 @@
 -- What a run of one job at one end over a named tree says, where its status is 0 or 1.
-use Rattle.std.specs.Prelude.{◌≡◌, ◌⊎◌, ℕ, ◌<◌, ◌≤◌, List, [], ◌∷◌, ◌++◌, length, map, false, cond, if◌then◌else◌, Option, Some, IsSome, Ok, Err, Result}
-use Rattle.std.specs.List.{list_any}
+use Rattle.std.specs.Prelude.{◌≡◌, ◌⊎◌, ℕ, zero, suc, ◌<◌, ◌≤◌, List, [], ◌∷◌, ◌++◌, length, map, take, false, cond, if◌then◌else◌, Option, Some, IsSome, Ok, Err, Result}
+use Rattle.std.specs.List.{list_any, AllByRecursion}
 use Rattle.std.proofs.Common.{refl, sym, ap, subst, ◌∙◌, inl, inr, arith, append-nil}
 use Rattle.std.proofs.lemmas.List.{length-map}
 use Rattle.tree_model.specs.Trees.{FileTree}
@@ -16,22 +16,25 @@ use Rattle.job_ends.specs.Outside.{EndSeen}
 use Rattle.job_ends.specs.Record.{Known, known}
 use Rattle.job_ends.specs.Works.{Work, EachEnd, EndHolds, EachRecord, EachServed, EachAgrees, JobAgrees, works_of, is_memory, is_out_fault, is_tree_fault, is_diag}
 use Rattle.compile_list.specs.Listed.{jobs_of}
-use Rattle.pump_run.specs.Report.{Ending, Usage, ListRefused, ListNotBuilt, ListFault, SpawnFault, NoMemory, Ran, report_text, jobs_text}
+use Rattle.pump_run.specs.Report.{Ending, Usage, ListRefused, ListFault, SpawnFault, NoMemory, Ran, report_text, run_text}
 use Rattle.pump_run.specs.Run.{Outside, IsRun, JobsRan, StatusIs, HasEnding, Reports, OutsideRose, ServedByDaemon, IsDaemon, EachTells, ran, given}
-use Rattle.worked_examples.proofs.OneClient.{one_client}
+use Rattle.client_order.specs.declared.totals.Totals.{Totals}
+use Rattle.worked_examples.proofs.FewClients.{few_clients}
 
 -- the one job that was run, and what is known of it
 pub record OneRan (tree : FileTree) (job : Job) (status : ℕ) (before after : Outside) (now : EndSeen) : Type 0 where
   pub work : Work
+  pub totals : Totals
   pub agrees : JobAgrees tree job work
-  pub status_is : StatusIs before after (Ran (work ∷ [])) status
-  pub told : Reports (report_text (Ran (work ∷ []))) status before after
+  pub status_is : StatusIs before after (Ran (work ∷ []) totals) status
+  pub told : Reports (report_text (Ran (work ∷ []) totals)) status before after
   pub put : now.kept ≡ Some work.deeds.put
 
 -- ---- records ----
 
-the_jobs : (jobs : List Job) (job : Job) (bytes : List ℕ) → jobs_of bytes ≡ Ok jobs → jobs_of bytes ≡ Ok (job ∷ []) → jobs ≡ job ∷ []
-the_jobs jobs job bytes one other = go jobs (job ∷ []) (sym one ∙ other)
+-- a list has the jobs of one reading
+pub jobs_are_those : (jobs others : List Job) (bytes : List ℕ) → jobs_of bytes ≡ Ok jobs → jobs_of bytes ≡ Ok others → jobs ≡ others
+jobs_are_those jobs others bytes one other = go jobs others (sym one ∙ other)
   where
     go : {E : Type 0} (xs ys : List Job) → ◌≡◌ {A = Result (List Job) E} (Ok xs) (Ok ys) → xs ≡ ys
     go xs ys e = ap (λ o. elim o [ Ok zs ↦ zs | Err why ↦ xs ]) e
@@ -54,49 +57,58 @@ one_after works e [] each = absurd each
 one_after works e (now ∷ []) each = refl
 one_after works e (now ∷ other ∷ more) (holds, rest) = absurd rest
 
+-- the first of served ends are served
+pub first_served : (n : ℕ) (ends : List EndSeen) → EachServed ends → EachServed (take n ends)
+first_served zero ends served = tt
+first_served (suc n) [] served = tt
+first_served (suc n) (e ∷ ends) served = (served.0, first_served n ends served.1)
+
 -- ---- the one job ----
 
 module _ (tree : FileTree) (peer : List ℕ → List ℕ → Type 0) (words : List (List ℕ)) (before after : Outside) (status : ℕ) (e now : EndSeen) (bytes : List ℕ) (job : Job)
-    (small : status ≤ 1) (served : EachServed after.ends) (fresh : e.kept ≡ Some []) (told : before.left ≡ Some bytes) (listed : jobs_of bytes ≡ Ok (job ∷ [])) where
-  of_one : (w : Work) → JobsRan (given (Some tree) peer words) before after (w ∷ []) → EachAgrees tree (job ∷ []) (w ∷ [])
-      → EachEnd 0 (w ∷ []) (e ∷ []) (now ∷ []) → StatusIs before after (Ran (w ∷ [])) status → Reports (report_text (Ran (w ∷ []))) status before after
+    (small : status ≤ 1) (served : EachServed after.ends) (fresh : e.kept ≡ Some []) (told : before.left ≡ Some bytes) (listed : jobs_of bytes ≡ Ok (job ∷ [])) (one_before : length before.ends ≡ 1) where
+  of_one : (w : Work) (totals : Totals) → EachAgrees tree (job ∷ []) (w ∷ []) → w.done.client < 1
+      → EachEnd 0 (w ∷ []) (e ∷ []) (now ∷ []) → StatusIs before after (Ran (w ∷ []) totals) status → Reports (report_text (Ran (w ∷ []) totals)) status before after
       → OneRan tree job status before after now
-  of_one w j agrees each status_is report =
-      let clients : j.settings.clients ≡ 1 = one_client (length before.ends) words j.settings j.asked in
-      let below : w.done.client < j.settings.clients = j.clients.0 in
-      let first : w.done.client ≡ 0 = omega (clients, below, arith) in
+  of_one w totals agrees below each status_is report =
+      let first : w.done.client ≡ 0 = omega (below, arith) in
       let holds : EndHolds (w ∷ []) e now = subst (λ (ws : List Work). EndHolds ws e now) (works_first w first) (at_one_end (w ∷ []) e now each) in
       record {
         work = w;
+        totals = totals;
         agrees = agrees.0;
         status_is = status_is;
         told = report;
         put = holds.outs ∙ ap (λ k. added (w.deeds.put ++ []) k) fresh ∙ ap (λ (p : List (List ℕ × List ℕ)). Some p) (append-nil w.deeds.put);
       }
 
-  of_ran : (works : List Work) → JobsRan (given (Some tree) peer words) before after works → EachEnd 0 works (e ∷ []) (now ∷ [])
-      → StatusIs before after (Ran works) status → Reports (report_text (Ran works)) status before after → OneRan tree job status before after now
-  of_ran works j each status_is report =
+  of_ran : (works : List Work) (totals : Totals) → JobsRan (given (Some tree) peer words) before after works totals → EachEnd 0 works (e ∷ []) (now ∷ [])
+      → StatusIs before after (Ran works totals) status → Reports (report_text (Ran works totals)) status before after → OneRan tree job status before after now
+  of_ran works totals j each status_is report =
       let the_known : Known = known (Some tree) j.settings.budget in
-      let jobs_are : j.jobs ≡ job ∷ [] = the_jobs j.jobs job bytes (j.listed bytes told) listed in
-      let one = one_work the_known job works (subst (λ (js : List Job). EachRecord the_known 0 js works) jobs_are j.records) in
-      let agrees : EachAgrees tree (job ∷ []) works = subst (λ (js : List Job). EachAgrees tree js works) jobs_are (j.agrees served tree refl) in
-      of_one one.0
-      (subst (λ (ws : List Work). JobsRan (given (Some tree) peer words) before after ws) one.1 j)
+      let jobs_are : j.jobs ≡ job ∷ [] = jobs_are_those j.jobs (job ∷ []) bytes (j.listed bytes told) listed in
+      let recorded : EachRecord the_known 0 j.jobs works = subst (λ (ws : List Work). EachRecord the_known 0 j.jobs ws) j.works_are j.ran.each in
+      let clients : AllByRecursion (λ (w : Work). w.done.client < j.settings.clients) works = subst (λ (ws : List Work). AllByRecursion (λ (w : Work). w.done.client < j.settings.clients) ws) j.works_are j.ran.by_clients in
+      let agreed : EachAgrees tree j.jobs works = subst (λ (ws : List Work). EachAgrees tree j.jobs ws) j.works_are (j.ran.agrees (first_served j.settings.clients after.ends served) tree refl) in
+      let one = one_work the_known job works (subst (λ (js : List Job). EachRecord the_known 0 js works) jobs_are recorded) in
+      let agrees : EachAgrees tree (job ∷ []) works = subst (λ (js : List Job). EachAgrees tree js works) jobs_are agreed in
+      let own = subst (λ (ws : List Work). AllByRecursion (λ (w : Work). w.done.client < j.settings.clients) ws) one.1 clients in
+      let few : j.settings.clients ≤ 1 = subst (λ n. j.settings.clients ≤ n) one_before (few_clients (length before.ends) words j.settings j.asked) in
+      of_one one.0 totals
       (subst (λ (ws : List Work). EachAgrees tree (job ∷ []) ws) one.1 agrees)
+      (omega (own.0, few, arith))
       (subst (λ (ws : List Work). EachEnd 0 ws (e ∷ []) (now ∷ [])) one.1 each)
-      (subst (λ (ws : List Work). StatusIs before after (Ran ws) status) one.1 status_is)
-      (subst (λ (ws : List Work). Reports (report_text (Ran ws)) status before after) one.1 report)
+      (subst (λ (ws : List Work). StatusIs before after (Ran ws totals) status) one.1 status_is)
+      (subst (λ (ws : List Work). Reports (report_text (Ran ws totals)) status before after) one.1 report)
 
   of_status : (ending : Ending) → HasEnding (given (Some tree) peer words) before after ending → EachEnd 0 (ran ending) (e ∷ []) (now ∷ [])
       → StatusIs before after ending status → Reports (report_text ending) status before after → OneRan tree job status before after now
   of_status Usage cause each is report = absurd (omega (arith, is, small))
   of_status (ListRefused error) cause each is report = absurd (omega (arith, is, small))
-  of_status ListNotBuilt cause each is report = absurd (omega (arith, is, small))
   of_status ListFault cause each is report = absurd (omega (arith, is, small))
   of_status SpawnFault cause each is report = absurd (omega (arith, is, small))
   of_status NoMemory cause each is report = absurd is
-  of_status (Ran works) cause each is report = of_ran works cause each is report
+  of_status (Ran works totals) cause each is report = of_ran works totals cause each is report
 
   of_ending : (ending : Ending) → HasEnding (given (Some tree) peer words) before after ending → EachEnd 0 (ran ending) (e ∷ []) (now ∷ [])
       → (status ≡ 5) ⊎ StatusIs before after ending status → Reports (report_text ending) status before after → OneRan tree job status before after now
@@ -146,12 +158,12 @@ text_put tree job status before after now zero_is r =
 
 -- status 1: nothing was put, and the report has the diagnostic that preprocessing over the whole tree gives
 pub diagnostic_told : (tree : FileTree) (job : Job) (status : ℕ) (before after : Outside) (now : EndSeen) → status ≡ 1 → before.report ≡ Some [] → OneRan tree job status before after now
-    → (words : List ℕ) × (outcome_over tree job ≡ outcome.Diag words) × (now.kept ≡ Some []) × (done : Done) × (done.outcome ≡ end.Diag words) × (after.report ≡ Some (jobs_text (done ∷ [])))
+    → (words : List ℕ) × (outcome_over tree job ≡ outcome.Diag words) × (now.kept ≡ Some []) × (done : Done) × (done.outcome ≡ end.Diag words) × (totals : Totals) × (after.report ≡ Some (run_text (done ∷ []) totals))
 diagnostic_told tree job status before after now one_is empty r =
     let diag = a_diag status before after r.work.done.outcome one_is r.status_is in
     let a : AgreesWith (outcome_over tree job) (end.Diag diag.0) r.work.deeds.put job =
     subst (λ (o : JobOutcome). AgreesWith (outcome_over tree job) o r.work.deeds.put job) diag.1 r.agrees.outcome in
-    (diag.0, a.0, r.put ∙ ap (λ (p : List (List ℕ × List ℕ)). Some p) a.1, r.work.done, diag.1, r.told.whole_by_status (inr (inl one_is)) ∙ ap (λ (t : Option (List ℕ)). added (jobs_text (r.work.done ∷ [])) t) empty)
+    (diag.0, a.0, r.put ∙ ap (λ (p : List (List ℕ × List ℕ)). Some p) a.1, r.work.done, diag.1, r.totals, r.told.whole_by_status (inr (inl one_is)) ∙ ap (λ (t : Option (List ℕ)). added (run_text (r.work.done ∷ []) r.totals) t) empty)
 
 -- ---- at one end ----
 
@@ -174,4 +186,4 @@ module _ {E : Type 0} (seen : E → EndSeen) (olds news : List E) (old new : E) 
       let last : after.ends ≡ seen new ∷ [] = are ∙ ap (λ (ends : List E). map seen ends) is in
       let each : EachTells (seen new ∷ []) = (tells, tt) in
       let all_served : EachServed after.ends = served daemon after.ends (subst (λ (ends : List EndSeen). EachTells ends) (sym last) each) run.answered in
-      one_ran tree peer words before after status (seen old) (seen new) bytes job small all_served fresh told listed named named_is run first last
+      one_ran tree peer words before after status (seen old) (seen new) bytes job small all_served fresh told listed (ap (λ (ends : List EndSeen). length ends) first) named named_is run first last

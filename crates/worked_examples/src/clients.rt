@@ -6,10 +6,11 @@ use crate::example::{MemEnd, check, check_put, check_text, end_of};
 use crate::header::{HEADER, RECEIVED, SENT, TEXT};
 use base_types::Bytes;
 use build_clients::{
-    Cause, Done, End, JobOutcome, Prepared, Replied, Reply, Way, ask_host, conclude, do_job,
-    do_locally, exchange, prepare, put_text,
+    Cause, Done, End, JobOutcome, Prepared, Replied, Way, ask_host, conclude, do_job, do_locally,
+    exchange, prepare, put_text,
 };
 use io_edges::{Host, LinkState, Outs, Wire};
+use job_ends::Reply;
 use job_words::{Job, read_words};
 use std::alloc::{AllocError, Global};
 use std::process::Abort;

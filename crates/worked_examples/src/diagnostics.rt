@@ -13,7 +13,7 @@ const MISSING: Run<'static> = Run {
     ],
     status: 1,
     report: "job 0 diag remote\n/w/a.c:1: error: cannot find \"b.h\"\n\
-             jobs 1 remote 1 local 0 broken 0\n",
+             jobs 1 remote 1 local 0 broken 0\nlooks 1 hits 0 kept 1 already 0 full 0\n",
     sent: "DIST00000103CDIR00000002/wARGC00000001ARGV00000003a.cNFIL00000002\
            NAME00000002/wMDIR00000000\
            NAME00000006/w/a.cFILE00000016#include \"b.h\"\nint y;\n",
@@ -33,7 +33,7 @@ pub const RUNS: [Run<'static>; 3] = [
         name: "a missing source is not sent",
         status: 1,
         report: "job 0 diag local A7\n/w/a.c:0: error: cannot find source\n\
-                 jobs 1 remote 0 local 1 broken 0\n",
+                 jobs 1 remote 0 local 1 broken 0\nlooks 0 hits 0 kept 0 already 0 full 0\n",
         ..JOB
     },
 ];

@@ -12,7 +12,7 @@ pub const RUNS: [Run<'static>; 6] = [
             },
         ],
         status: 1,
-        report: "job 0 diag remote\n/w/a.c:2: error: no header name\njobs 1 remote 1 local 0 broken 0\n",
+        report: "job 0 diag remote\n/w/a.c:2: error: no header name\njobs 1 remote 1 local 0 broken 0\nlooks 1 hits 0 kept 1 already 0 full 0\n",
         sent: "DIST00000103CDIR00000002/wARGC00000001ARGV00000003a.cNFIL00000002NAME00000002/wMDIR00000000NAME00000006/w/a.cFILE00000017#define X 1\n#include X\n",
         received: "DONE00000103STAT00000100SERR0000001f/w/a.c:2: error: no header nameDOTI00000000",
         ..JOB
@@ -27,7 +27,7 @@ pub const RUNS: [Run<'static>; 6] = [
             },
         ],
         status: 1,
-        report: "job 0 diag remote\n/w/a.c:1: error: includes nested more than 200 deep\njobs 1 remote 1 local 0 broken 0\n",
+        report: "job 0 diag remote\n/w/a.c:1: error: includes nested more than 200 deep\njobs 1 remote 1 local 0 broken 0\nlooks 2 hits 0 kept 2 already 0 full 0\n",
         sent: "DIST00000103CDIR00000002/wARGC00000001ARGV00000003a.cNFIL00000002NAME00000002/wMDIR00000000NAME00000006/w/a.cFILE0000000f#include \"a.c\"\n",
         received: "DONE00000103STAT00000100SERR00000033/w/a.c:1: error: includes nested more than 200 deepDOTI00000000",
         ..JOB
@@ -42,7 +42,7 @@ pub const RUNS: [Run<'static>; 6] = [
             },
         ],
         status: 1,
-        report: "job 0 diag remote\n/w/a.c:1: error: #error no luck\njobs 1 remote 1 local 0 broken 0\n",
+        report: "job 0 diag remote\n/w/a.c:1: error: #error no luck\njobs 1 remote 1 local 0 broken 0\nlooks 1 hits 0 kept 1 already 0 full 0\n",
         sent: "DIST00000103CDIR00000002/wARGC00000001ARGV00000003a.cNFIL00000002NAME00000002/wMDIR00000000NAME00000006/w/a.cFILE00000010#error no  luck\n",
         received: "DONE00000103STAT00000100SERR0000001f/w/a.c:1: error: #error no luckDOTI00000000",
         ..JOB
@@ -57,7 +57,7 @@ pub const RUNS: [Run<'static>; 6] = [
             },
         ],
         status: 1,
-        report: "job 0 diag remote\n/w/a.c:2: error: unterminated call of 'f'\njobs 1 remote 1 local 0 broken 0\n",
+        report: "job 0 diag remote\n/w/a.c:2: error: unterminated call of 'f'\njobs 1 remote 1 local 0 broken 0\nlooks 1 hits 0 kept 1 already 0 full 0\n",
         sent: "DIST00000103CDIR00000002/wARGC00000001ARGV00000003a.cNFIL00000002NAME00000002/wMDIR00000000NAME00000006/w/a.cFILE00000013#define f(x) x\nf(1\n",
         received: "DONE00000103STAT00000100SERR00000029/w/a.c:2: error: unterminated call of 'f'DOTI00000000",
         ..JOB
@@ -72,7 +72,7 @@ pub const RUNS: [Run<'static>; 6] = [
             },
         ],
         status: 1,
-        report: "job 0 diag remote\n/w/a.c:2: error: bad paste of '+' and '/'\njobs 1 remote 1 local 0 broken 0\n",
+        report: "job 0 diag remote\n/w/a.c:2: error: bad paste of '+' and '/'\njobs 1 remote 1 local 0 broken 0\nlooks 1 hits 0 kept 1 already 0 full 0\n",
         sent: "DIST00000103CDIR00000002/wARGC00000001ARGV00000003a.cNFIL00000002NAME00000002/wMDIR00000000NAME00000006/w/a.cFILE0000001b#define p(a,b) a##b\np(+,/)\n",
         received: "DONE00000103STAT00000100SERR00000029/w/a.c:2: error: bad paste of '+' and '/'DOTI00000000",
         ..JOB
@@ -87,7 +87,7 @@ pub const RUNS: [Run<'static>; 6] = [
             },
         ],
         status: 1,
-        report: "job 0 diag remote\n/w/a.c:1: error: unterminated conditional\njobs 1 remote 1 local 0 broken 0\n",
+        report: "job 0 diag remote\n/w/a.c:1: error: unterminated conditional\njobs 1 remote 1 local 0 broken 0\nlooks 1 hits 0 kept 1 already 0 full 0\n",
         sent: "DIST00000103CDIR00000002/wARGC00000001ARGV00000003a.cNFIL00000002NAME00000002/wMDIR00000000NAME00000006/w/a.cFILE00000006#if 1\n",
         received: "DONE00000103STAT00000100SERR00000029/w/a.c:1: error: unterminated conditionalDOTI00000000",
         ..JOB

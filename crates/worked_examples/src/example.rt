@@ -150,8 +150,11 @@ fn pieces(alloc: Global, piece: u32) -> Result<Vec<u32>, AllocError>
     Ok(lengths)
 }
 
-// What stands in a tree.
-fn entries_of(alloc: Global, files: &[Placed<'_>]) -> Result<Vec<(CanonPath, Entry)>, AllocError>
+/// What stands in a tree.
+pub fn entries_of(
+    alloc: Global,
+    files: &[Placed<'_>],
+) -> Result<Vec<(CanonPath, Entry)>, AllocError>
     ensures { IfOk result (λ entries. IsTrue (links_fit entries.items)) }
 {
     let mut entries = Vec::new(alloc);

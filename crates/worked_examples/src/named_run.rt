@@ -6,7 +6,8 @@ ghost use Rattle.job_words.specs.declared.job.Job.{Job};
 ghost use Rattle.compile_list.specs.Listed.{jobs_of};
 ghost use Rattle.daemon_cpp.specs.Prep.{outcome_over};
 ghost use Rattle.job_ends.specs.declared.record.Done.{Done};
-ghost use Rattle.pump_run.specs.Report.{jobs_text};
+ghost use Rattle.client_order.specs.declared.totals.Totals.{Totals};
+ghost use Rattle.pump_run.specs.Report.{run_text};
 ghost use Rattle.worked_examples.specs.declared.named_run.NoRun.TheVariants.{Memory};
 
 use base_types::Bytes;
@@ -88,7 +89,7 @@ pub fn run_named<F: Frozen, R: Threads + Wait + Sync>(
     ensures diagnostic { IfOk result (λ ended. ended.status ≡ 1 → (job : Job) → jobs_of list ≡ Ok (job ∷ []) →
         (line : List ℕ) × (outcome_over (tree_of entries.items) job ≡ Outcome.Diag line)
         × (⟦<MemOuts as Outs>⟧.kept ended.outs ≡ Some []) × (done : Done) × (done.outcome ≡ JobOutcome.Diag line)
-        × (⟦<MemSink as Sink>⟧.held ended.report ≡ Some (jobs_text (done ∷ [])))) }
+        × (totals : Totals) × (⟦<MemSink as Sink>⟧.held ended.report ≡ Some (run_text (done ∷ []) totals))) }
     ensures no_tree { IfErr result (λ e. (why : _) → e ≡ NoRun.Entries why → mirror_error entries.items ≡ Some why) }
 {
     let end = match end_over::<F>(alloc, entries, objects) {

@@ -1,7 +1,7 @@
 // Words and lists that are refused.
 use crate::example::{JOB, Run};
 
-pub const RUNS: [Run<'static>; 18] = [
+pub const RUNS: [Run<'static>; 15] = [
     Run {
         name: "other words",
         words: &["order", "x"],
@@ -35,27 +35,6 @@ pub const RUNS: [Run<'static>; 18] = [
         list: "nonsense",
         status: 3,
         report: "pump: list 1: words 7\n",
-        ..JOB
-    },
-    Run {
-        name: "an empty list",
-        list: "",
-        status: 3,
-        report: "pump: list 0: not built\n",
-        ..JOB
-    },
-    Run {
-        name: "a list of comments and blanks",
-        list: "# /w a.c\n\n \t\r\n#\\\n",
-        status: 3,
-        report: "pump: list 0: not built\n",
-        ..JOB
-    },
-    Run {
-        name: "two jobs",
-        list: "/w a.c\n/w b.c\n",
-        status: 3,
-        report: "pump: list 0: not built\n",
         ..JOB
     },
     Run {

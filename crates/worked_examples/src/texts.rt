@@ -12,7 +12,7 @@ pub const RUNS: [Run<'static>; 6] = [
                 body: "",
             },
         ],
-        report: "job 0 text 13 remote\njobs 1 remote 1 local 0 broken 0\n",
+        report: "job 0 text 13 remote\njobs 1 remote 1 local 0 broken 0\nlooks 1 hits 0 kept 1 already 0 full 0\n",
         text: "# 1 \"/w/a.c\"\n",
         sent: "DIST00000103CDIR00000002/wARGC00000001ARGV00000003a.cNFIL00000002\
                NAME00000002/wMDIR00000000NAME00000006/w/a.cFILE00000000",
@@ -21,7 +21,7 @@ pub const RUNS: [Run<'static>; 6] = [
     },
     Run {
         name: "a header",
-        report: "job 0 text 57 remote\njobs 1 remote 1 local 0 broken 0\n",
+        report: "job 0 text 57 remote\njobs 1 remote 1 local 0 broken 0\nlooks 2 hits 0 kept 2 already 0 full 0\n",
         text: TEXT,
         sent: SENT,
         received: RECEIVED,
@@ -30,7 +30,7 @@ pub const RUNS: [Run<'static>; 6] = [
     Run {
         name: "a header, byte by byte",
         piece: 1,
-        report: "job 0 text 57 remote\njobs 1 remote 1 local 0 broken 0\n",
+        report: "job 0 text 57 remote\njobs 1 remote 1 local 0 broken 0\nlooks 2 hits 0 kept 2 already 0 full 0\n",
         text: TEXT,
         sent: SENT,
         received: RECEIVED,
@@ -39,7 +39,7 @@ pub const RUNS: [Run<'static>; 6] = [
     Run {
         name: "comments and blank lines around a job",
         list: "# jobs\n\n/w a.c\r\n \t\n# /w b.c",
-        report: "job 0 text 57 remote\njobs 1 remote 1 local 0 broken 0\n",
+        report: "job 0 text 57 remote\njobs 1 remote 1 local 0 broken 0\nlooks 2 hits 0 kept 2 already 0 full 0\n",
         text: TEXT,
         sent: SENT,
         received: RECEIVED,
@@ -55,7 +55,7 @@ pub const RUNS: [Run<'static>; 6] = [
                 body: "int x;\n",
             },
         ],
-        report: "job 0 text 22 remote\njobs 1 remote 1 local 0 broken 0\n",
+        report: "job 0 text 22 remote\njobs 1 remote 1 local 0 broken 0\nlooks 1 hits 0 kept 1 already 0 full 0\n",
         text: "# 1 \"/w/a b.c\"\nint x;\n",
         sent: "DIST00000103CDIR00000002/wARGC00000003ARGV00000005a b.cARGV00000002-oARGV00000003a.iNFIL00000002\
                NAME00000002/wMDIR00000000NAME00000008/w/a b.cFILE00000007int x;\n",
@@ -76,7 +76,7 @@ pub const RUNS: [Run<'static>; 6] = [
                 body: "int b;\n",
             },
         ],
-        report: "job 0 text 50 remote\njobs 1 remote 1 local 0 broken 0\n",
+        report: "job 0 text 50 remote\njobs 1 remote 1 local 0 broken 0\nlooks 2 hits 0 kept 2 already 0 full 0\n",
         text: "# 1 \"/w/a.c\"\n# 1 \"/w/b.h\" 1\nint b;\n# 2 \"/w/a.c\" 2\n",
         sent: "DIST00000103CDIR00000002/wARGC00000005ARGV00000003-O2ARGV00000003a.cARGV00000004-I..\
                ARGV00000007-iquoteARGV00000001.NFIL00000003NAME00000002/wMDIR00000000\

@@ -1,0 +1,3 @@
+-- Lemmas.
+--     Ends     ends that weren't used
+pub mod Ends
