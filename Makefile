@@ -39,6 +39,7 @@ check:
 	@sh tools/check-walks.sh
 	@python3 tools/check-conditions.py crates/condition_examples/stdout
 	@sh tools/check-analysis.sh
+	@python3 -B tools/check-orders.py crates/pump_program/out/pump_program 300
 	@sh tools/check-programs.sh
 	@python3 tools/check-daemon-socket.py crates/pumpd/out/pumpd
 	@sh tools/check-man.sh

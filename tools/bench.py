@@ -11,6 +11,7 @@ import sys
 import tempfile
 
 import bodies
+import generated
 from measure import Job, Row, Table, answer, measure
 
 GCC = ["gcc", "-E", "-undef", "-nostdinc", "-w"]
@@ -300,6 +301,35 @@ def one_line(written):
     return written.decode().strip()
 
 
+def many_jobs(bench):
+    """Lists of jobs that one client does, and of such whose files may include the same."""
+    rows = []
+    for sources in [200, 1_000, 5_000]:
+        folder = os.path.join(bench.folder, f"generated{sources}")
+        path = bench.write(f"generated{sources}/list", generated.write(folder, sources).encode())
+        row = bench.row(f"{sources:,} sources", ["pump_program", *ORDER], count=sources, tells=looks)
+        for job in row.jobs:
+            job.folder, job.given = folder, path
+        rows.append(row)
+        bench.goal(f"a job of {sources:,}", row, lambda row: per_one(row) / 1e6, 1, "ms")
+    path = bench.write("again/list", again(os.path.join(bench.folder, "generated200"), 5_000).encode())
+    row = bench.row("5,000 jobs on one source", ["pump_program", *ORDER], count=5_000, tells=looks)
+    for job in row.jobs:
+        job.folder, job.given = os.path.join(bench.folder, "again"), path
+    bench.goal("a job whose files were all looked at before", row, lambda row: per_one(row) / 1e6, 0.1, "ms")
+    return Table("Jobs of a list, by one client.", "job", [*rows, row])
+
+
+def again(folder, jobs):
+    """A list of jobs on one source of a generated tree."""
+    return "".join(f"{folder} s/s7.c -o s{number}.i -Ih -DF0=0 -DF1=1 -DF2=2\n" for number in range(jobs))
+
+
+def looks(report):
+    """The last line of a report."""
+    return report.decode(errors="replace").strip().rsplit("\n", 1)[-1]
+
+
 TABLES = [
     plain_text,
     small_plain_files,
@@ -315,6 +345,7 @@ TABLES = [
     memos,
     slots,
     lists,
+    many_jobs,
 ]
 MADE_BY_GCC = [plain_text, small_plain_files]
 

@@ -92,7 +92,7 @@ if command -v bash > /dev/null; then
     completed '-' pump_program order ''
     completed '--hosts -j --budget' pump_program order - ''
     completed '--budget' pump_program order - --hosts localhost -j 1 ''
-    completed '1' pump_program order - -j ''
+    completed '1 2 4 8 16 32 64' pump_program order - -j ''
     completed '' pump_program order - --hosts localhost '<' ''
     completed '' pump_program --help ''
     completed '--inetd --help --version' pumpd ''

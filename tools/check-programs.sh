@@ -84,6 +84,18 @@ try 2 'pump: usage' "pump_program: $wrong pump_program --help" empty "$pump" ord
 for budget in '' 0 01 +1 1x 65537; do
     try 2 'pump: usage' "pump_program: $wrong pump_program --help" empty "$pump" order - --hosts localhost --budget "$budget"
 done
+for clients in '' 0 01 65; do
+    try 2 'pump: usage' "pump_program: $wrong pump_program --help" empty "$pump" order - --hosts localhost -j "$clients"
+done
+for order in '' , 0, 1 0,,0 01 -1 0-0 64; do
+    try 2 'pump: usage' "pump_program: $wrong pump_program --help" empty "$pump" order "$order" --hosts localhost -j 1
+done
+for hosts in '' ' ' a: a/0 a/65 a:65536 'a b,x' a_b; do
+    try 2 'pump: usage' "pump_program: $wrong pump_program --help" empty "$pump" order - --hosts "$hosts" -j 1
+done
+none='jobs 0 remote 0 local 0 broken 0
+looks 0 hits 0 kept 0 already 0 full 0'
+try 0 "$none" '' empty "$pump" order - --hosts 'a:4000/2,lzo localhost'
 try 2 '' "pumpd: $wrong pumpd --help" empty "$daemon"
 try 2 '' "pumpd: $wrong pumpd --help" empty "$daemon" --port 3632
 try 2 '' "pumpd: $wrong pumpd --help" empty "$daemon" "$odd"
@@ -118,10 +130,9 @@ for node in fifo /dev/null src; do
 done
 try 1 '' 'gone.c: No such file or directory*' empty "$(program lex_program)" count gone.c
 
-# Lists that give no job.
-list 3 'pump: list 0: not built' 'list: no job is in it' ''
-list 3 'pump: list 0: not built' 'list: no job is in it' '# a.c\n\n'
-list 3 'pump: list 0: not built' "list: more than one job isn't built" '/w a.c\r\n/w b.c'
+# Lists that have no job, and such that are refused.
+list 0 "$none" '' ''
+list 0 "$none" '' '# a.c\n\n'
 list 3 'pump: list 1: escape' 'list line 1: a *at the end (escape)' '/w a.c\\'
 list 3 'pump: list 3: output' "list line 3: 'a.i': an earlier job's output (output)" '/w a.c\n\n/w ./a.c\n'
 list 3 'pump: list 2: words 3' "list line 2: '-q r': unknown option (words 3)" '# a.c\n/w a.c -q\\ r\n'

@@ -18,7 +18,7 @@ _mowhairu_redirected() {
     [[ ${COMP_WORDS[COMP_CWORD - 1]} == *[\<\>] ]]
 }
 
-# The flags behind `order -` that aren't there yet.
+# The flags behind the order that aren't there yet.
 _mowhairu_flags() {
     local flag flags=
     for flag in --hosts -j --budget; do
@@ -35,7 +35,7 @@ _mowhairu_pump_program() {
         *,order)
             case ${COMP_WORDS[COMP_CWORD - 1]} in
                 --hosts) mapfile -t COMPREPLY < <(compgen -A hostname -W localhost -- "${COMP_WORDS[COMP_CWORD]}") ;;
-                -j) _mowhairu_words 1 ;;
+                -j) _mowhairu_words "1 2 4 8 16 32 64" ;;
                 --budget) _mowhairu_words 4096 ;;
                 *) _mowhairu_flags ;;
             esac
