@@ -2,7 +2,9 @@
 //! does at its end, in `client_steps`, its machine of needs and answers, and in `client_order`, runs of several in turns.
 #![tactic(auto)]
 
-pub use client_order::{Totals, run_order, runs_are_bounded};
+pub use client_order::{
+    Progress, Totals, Unwatched, run_order, run_order_watched, runs_are_bounded,
+};
 pub use client_steps::{Client, Need, Reply};
 pub use job_ends::{
     Cause, Done, End, JobOutcome, Prepared, Replied, Way, ask_host, ask_wire, conclude, do_job,

@@ -5,10 +5,12 @@ mod bounds;
 mod merging;
 mod order;
 mod outcomes;
+mod progress;
 mod starting;
 mod totals;
 mod turns;
 
 pub use bounds::runs_are_bounded;
-pub use order::run_order;
+pub use order::{run_order, run_order_watched};
+pub use progress::{Progress, Unwatched};
 pub use totals::Totals;

@@ -12,6 +12,7 @@ ghost use Rattle.client_order.specs.Ran.{ClientsRan};
 use crate::Totals;
 use crate::merging::merge;
 use crate::outcomes::outcomes_agree;
+use crate::progress::{Progress, Unwatched};
 use crate::starting::{Begun, begin_run};
 use crate::totals::count;
 use crate::turns::take_turns;
@@ -44,6 +45,31 @@ pub fn run_order<T: Tree, W: Wire, O: Outs>(
     ensures each { length ends.new ≡ length ends.old }
     ensures links { All (λ e. (W.state e.wire ≡ LinkState.Closed) × EachAnswered W.peer (W.talk e.wire)) ends.new }
 {
+    run_order_watched(alloc, ends, jobs, hosts, budget, order, &mut Unwatched)
+}
+
+/// `run_order`, of which somebody is told whenever a job is done: as its client asks for the next one.
+pub fn run_order_watched<T: Tree, W: Wire, O: Outs, P: Progress>(
+    alloc: Global,
+    ends: &mut [End<T, W, O>],
+    jobs: &[Job],
+    hosts: &[Host],
+    budget: u32,
+    order: &[u32],
+    progress: &mut P,
+) -> Result<(Vec<Done>, Totals), AllocError>
+    requires some { (1 ≤ length ends.old) × (length ends.old ≤ 64) }
+    requires fresh { AllByRecursion IsFresh (map (seen_end T.told T.Tree.faults T.reads W.talk W.state W.Wire.faults O.kept O.Outs.faults) ends.old) }
+    requires hosts { (1 ≤ length hosts.now) × (length hosts.now ≤ 64) }
+    requires slots { All HasSlots hosts.now }
+    requires jobs { length jobs.now ≤ 20000 }
+    requires order { All (λ client. client < length ends.old) order.now }
+    ensures ran { let seen = seen_end T.told T.Tree.faults T.reads W.talk W.state W.Wire.faults O.kept O.Outs.faults in
+        IfOk result (λ r. ClientsRan (known T.Of.named budget) jobs.now hosts.now (length ends.old) false (map seen ends.old) (map seen ends.new) r.0.items r.1) }
+    ensures err { OnErr result (map (seen_end T.told T.Tree.faults T.reads W.talk W.state W.Wire.faults O.kept O.Outs.faults) ends.new ≡ map (seen_end T.told T.Tree.faults T.reads W.talk W.state W.Wire.faults O.kept O.Outs.faults) ends.old) }
+    ensures each { length ends.new ≡ length ends.old }
+    ensures links { All (λ e. (W.state e.wire ≡ LinkState.Closed) × EachAnswered W.peer (W.talk e.wire)) ends.new }
+{
     are_readings(jobs);
     outcomes_agree();
     let begun = begin_run(alloc, ends.len(), jobs.len(), hosts, budget)?;
@@ -53,7 +79,16 @@ pub fn run_order<T: Tree, W: Wire, O: Outs>(
         places,
         records,
     } = begun;
-    take_turns(alloc, &mut shared, &mut clients, ends, jobs, hosts, order);
+    take_turns(
+        alloc,
+        &mut shared,
+        &mut clients,
+        ends,
+        jobs,
+        hosts,
+        order,
+        progress,
+    );
     let totals = count(&shared.memo);
     let records = merge(clients, places, records);
     Ok((records, totals))

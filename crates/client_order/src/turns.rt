@@ -9,6 +9,7 @@ ghost use Rattle.client_steps.specs.Ledger.{HasRoom};
 ghost use Rattle.client_order.specs.World.{seen_memo, SlotsMove, LeaseIsIn, Progresses, WorldHolds, RunMoves, HasAllDrawn, AllEnded, AreFree, AreNumberedFrom, IsDrawn, DrawsMore, OthersStay, StrangersStay, TurnKeeps, RunKeeps, distance};
 ghost use Rattle.client_order.specs.Answering.{CanAnswer, Answers, AnswerKeeps};
 
+use crate::progress::Progress;
 use client_steps::{Client, Need, Reply};
 use closure_memo::MemoState;
 use host_slots::{Lease, SlotState};
@@ -28,13 +29,14 @@ pub struct Shared<F: Frozen> {
 }
 
 /// One turn of a client: its work up to its next need, the atomic step that it needs, and the answer.
-pub fn turn<T: Tree, W: Wire, O: Outs>(
+pub fn turn<T: Tree, W: Wire, O: Outs, P: Progress>(
     alloc: Global,
     shared: &mut Shared<T::Of>,
     client: &mut Client,
     end: &mut End<T, W, O>,
     jobs: &[Job],
     hosts: &[Host],
+    progress: &mut P,
 )
     requires works { CanWork (length jobs.now) (length hosts.now) client.old.phase }
     requires count { client.old.jobs ≡ length jobs.now }
@@ -65,7 +67,17 @@ pub fn turn<T: Tree, W: Wire, O: Outs>(
         TurnKeeps (known T.Of.named client.old.budget) jobs.now hosts.now (seen_memo shared.old.memo) client.old (seen end.old) (seen_memo shared.new.memo) client.new (seen end.new) }
 {
     let need = client.next(alloc, jobs, hosts, end);
+    tell_done(progress, jobs.len(), client, &need);
     answer(shared, client, jobs.len(), need);
+}
+
+// Tells of the job that a client has done, as it asks for the next one.
+fn tell_done<P: Progress>(progress: &mut P, jobs: usize, client: &Client, need: &Need) {
+    if let Need::Draw = need {
+        if let Some(record) = client.records().last() {
+            progress.done(jobs, record);
+        }
+    }
 }
 
 // The atomic step that a client needs, and its answer.
@@ -181,7 +193,7 @@ fn draw(drawn: &mut u32, jobs: usize) -> Option<u32>
 }
 
 // A turn of the client at a place in the list.
-fn turn_at<T: Tree, W: Wire, O: Outs>(
+fn turn_at<T: Tree, W: Wire, O: Outs, P: Progress>(
     alloc: Global,
     shared: &mut Shared<T::Of>,
     clients: &mut [Client],
@@ -189,6 +201,7 @@ fn turn_at<T: Tree, W: Wire, O: Outs>(
     jobs: &[Job],
     hosts: &[Host],
     at: usize,
+    progress: &mut P,
 )
     requires within { at < length clients.old }
     requires each_end { length ends.old ≡ length clients.old }
@@ -205,7 +218,15 @@ fn turn_at<T: Tree, W: Wire, O: Outs>(
         RunKeeps T.Of.named jobs.now hosts.now (seen_memo shared.old.memo) clients.old (map seen ends.old) (seen_memo shared.new.memo) clients.new (map seen ends.new) }
     ensures strangers { StrangersStay (length clients.old) (seen_memo shared.old.memo) (seen_memo shared.new.memo) }
 {
-    turn(alloc, shared, &mut clients[at], &mut ends[at], jobs, hosts);
+    turn(
+        alloc,
+        shared,
+        &mut clients[at],
+        &mut ends[at],
+        jobs,
+        hosts,
+        progress,
+    );
 }
 
 // Whether all clients have ended.
@@ -222,13 +243,14 @@ fn have_all_ended(clients: &[Client]) -> bool
 }
 
 // One turn of each client, in order. Where not all had ended, the run comes nearer to its end.
-fn round<T: Tree, W: Wire, O: Outs>(
+fn round<T: Tree, W: Wire, O: Outs, P: Progress>(
     alloc: Global,
     shared: &mut Shared<T::Of>,
     clients: &mut [Client],
     ends: &mut [End<T, W, O>],
     jobs: &[Job],
     hosts: &[Host],
+    progress: &mut P,
 )
     requires each_end { length ends.old ≡ length clients.old }
     requires not_all { AllEnded clients.old → ⊥ }
@@ -247,13 +269,13 @@ fn round<T: Tree, W: Wire, O: Outs>(
 {
     let mut at = 0;
     while at < clients.len() {
-        turn_at(alloc, shared, clients, ends, jobs, hosts, at);
+        turn_at(alloc, shared, clients, ends, jobs, hosts, at, progress);
         at += 1;
     }
 }
 
 /// The turns of an order, and then round and round until all clients have ended: then all slots are free.
-pub fn take_turns<T: Tree, W: Wire, O: Outs>(
+pub fn take_turns<T: Tree, W: Wire, O: Outs, P: Progress>(
     alloc: Global,
     shared: &mut Shared<T::Of>,
     clients: &mut [Client],
@@ -261,6 +283,7 @@ pub fn take_turns<T: Tree, W: Wire, O: Outs>(
     jobs: &[Job],
     hosts: &[Host],
     order: &[u32],
+    progress: &mut P,
 )
     requires each_end { length ends.old ≡ length clients.old }
     requires order { All (λ client. client < length clients.old) order.now }
@@ -278,9 +301,10 @@ pub fn take_turns<T: Tree, W: Wire, O: Outs>(
     ensures strangers { StrangersStay (length clients.old) (seen_memo shared.old.memo) (seen_memo shared.new.memo) }
 {
     for client in order {
-        turn_at(alloc, shared, clients, ends, jobs, hosts, *client as usize);
+        let at = *client as usize;
+        turn_at(alloc, shared, clients, ends, jobs, hosts, at, progress);
     }
     'rounds: while !have_all_ended(clients) {
-        round(alloc, shared, clients, ends, jobs, hosts);
+        round(alloc, shared, clients, ends, jobs, hosts, progress);
     }
 }

@@ -7,6 +7,7 @@ mod folder_tests;
 mod kept;
 #[cfg(test)]
 mod outs_tests;
+mod progress;
 #[cfg(test)]
 mod test_folder;
 mod told;
@@ -25,7 +26,8 @@ use daemon_serve::{MemWire, ServePeer};
 use folder::Folder;
 use io_edges::{FolderOuts, MemSpawner, Outs, Sink, Source, StdSink, StdSource, Wire};
 use kept::Kept;
-use pump_run::{End, pump};
+use progress::ProgressLine;
+use pump_run::{End, Progress, pump_watched};
 use std::alloc::{AllocError, Global};
 use std::io::ErrorKind;
 use std::process::ExitCode;
@@ -46,7 +48,8 @@ Each source is preprocessed as `cc -E` would, by a daemon that gets just the
 files that it may include, or else here. Its text is written below the folder
 `out`, under the name of -o, also where that begins with `/`, or the source's
 with `.i`; no two jobs of a list may have the same. A report is written to
-standard output, and a line on what failed, and why, to standard error.
+standard output, and a line on what failed, and why, to standard error; where
+that is a terminal, a line there says how far the run is.
 
 As many clients as -j says, 1 to 64 or else 64, do the jobs in turns, and share
 what they learn of the files. ORDER is whose turns come first: the numbers of
@@ -106,6 +109,7 @@ fn run<H: Threads + Wait + Sync>(
     let mut ends = new_ends(rt)?;
     let mut list = Kept::over(rt.alloc(), StdSource::new(rt));
     let mut report = StdSink::new(rt.clone()?);
+    let mut progress = ProgressLine::new(rt.clone()?, &rt.stderr());
     let status = run_over(
         handles,
         rt.alloc(),
@@ -113,7 +117,9 @@ fn run<H: Threads + Wait + Sync>(
         &mut ends,
         &mut list,
         &mut report,
+        &mut progress,
     );
+    progress.end();
     for end in ends {
         tell_end(rt, end);
     }
@@ -130,20 +136,30 @@ fn tell_end(rt: &HostRuntime, end: HostEnd) {
 }
 
 // Runs the words over these ends, one for each client that there may be, and answers the status.
-fn run_over<T: Tree, W: Wire, O: Outs, S: Source, K: Sink, H: Threads + Wait + Sync>(
+fn run_over<T: Tree, W: Wire, O: Outs, S: Source, K: Sink, G: Progress, H: Threads + Wait + Sync>(
     handles: &H,
     alloc: Global,
     words: &[&str],
     ends: &mut Vec<End<T, W, O>>,
     list: &mut S,
     report: &mut K,
+    progress: &mut G,
 ) -> u8
     requires some { 1 ≤ length ends.old.items }
     requires few { length ends.old.items ≤ 64 }
     requires fresh { All (λ end. IsFresh (seen_end T.told T.Tree.faults T.reads W.talk W.state W.Wire.faults O.kept O.Outs.faults end)) ends.old.items }
 {
     let mut spawner = MemSpawner::new(alloc, Vec::new(alloc));
-    pump(handles, alloc, words, list, ends, &mut spawner, report)
+    pump_watched(
+        handles,
+        alloc,
+        words,
+        list,
+        ends,
+        &mut spawner,
+        report,
+        progress,
+    )
 }
 
 // As many ends as there may be clients.

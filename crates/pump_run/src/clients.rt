@@ -6,7 +6,7 @@ ghost use Rattle.job_ends.specs.Outside.{seen_end};
 ghost use Rattle.job_ends.specs.Works.{IsFresh};
 ghost use Rattle.pump_run.specs.Steps.{ClientsDid};
 
-use build_clients::{Done, End, Totals, run_order};
+use build_clients::{Done, End, Progress, Totals, run_order_watched};
 use io_edges::{Outs, Wire};
 use job_words::Job;
 use run_words::Asked;
@@ -15,11 +15,12 @@ use tree_model::Tree;
 
 /// Does the jobs with as many clients as the words ask for, each at its end. The only error is want of memory before the
 /// first step; then the ends are as they were.
-pub fn run_clients<T: Tree, W: Wire, O: Outs>(
+pub fn run_clients<T: Tree, W: Wire, O: Outs, G: Progress>(
     alloc: Global,
     ends: &mut [End<T, W, O>],
     asked: &Asked,
     jobs: &[Job],
+    progress: &mut G,
 ) -> Result<(Vec<Done>, Totals), AllocError>
     requires few { length ends.old ≤ 64 }
     requires fresh { AllByRecursion IsFresh (map (seen_end T.told T.Tree.faults T.reads W.talk W.state W.Wire.faults O.kept O.Outs.faults) ends.old) }
@@ -36,13 +37,14 @@ pub fn run_clients<T: Tree, W: Wire, O: Outs>(
     let clients = asked.clients as usize;
     let hosts = asked.hosts.as_slice();
     let order = asked.order.as_slice();
-    match run_order(
+    match run_order_watched(
         alloc,
         &mut ends[..clients],
         jobs,
         hosts,
         asked.budget,
         order,
+        progress,
     ) {
         Ok(done) => return Ok(done),
         Err(error) => return Err(error),

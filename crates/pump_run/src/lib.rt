@@ -7,6 +7,6 @@ mod laws;
 mod report;
 mod top;
 
-pub use build_clients::End;
+pub use build_clients::{Done, End, Progress, Unwatched, Way};
 pub use laws::served_by_daemon;
-pub use top::pump;
+pub use top::{pump, pump_watched};

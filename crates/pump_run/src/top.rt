@@ -8,7 +8,7 @@ ghost use Rattle.pump_run.specs.Run.{IsRun, outside, given};
 use crate::clients::{number_of, run_clients};
 use crate::ending::{FAULT, NO_MEMORY, REFUSED, USAGE, refuse, tell};
 use crate::report::refusal_line;
-use build_clients::End;
+use build_clients::{End, Progress, Unwatched};
 use compile_list::{NoJobs, listed_jobs};
 use io_edges::{Outs, Sink, Source, Spawner, Wire};
 use run_words::asked_in;
@@ -53,6 +53,48 @@ pub fn pump<T: Tree, W: Wire, O: Outs, P: Spawner, S: Source, K: Sink, R: Thread
         (outside (map seen ends.new.items) (S.left list.new) (S.faults list.new) (P.begun spawner.new) (P.running spawner.new) (P.asked spawner.new) (P.faults spawner.new) (K.held report.new) (K.faults report.new))
         result }
 {
+    pump_watched(
+        rt,
+        alloc,
+        words,
+        list,
+        ends,
+        spawner,
+        report,
+        &mut Unwatched,
+    )
+}
+
+/// `pump`, of which somebody is told whenever a job is done.
+pub fn pump_watched<
+    T: Tree,
+    W: Wire,
+    O: Outs,
+    P: Spawner,
+    S: Source,
+    K: Sink,
+    G: Progress,
+    R: Threads + Wait + Sync,
+>(
+    rt: &R,
+    alloc: Global,
+    words: &[&str],
+    list: &mut S,
+    ends: &mut Vec<End<T, W, O>>,
+    spawner: &mut P,
+    report: &mut K,
+    progress: &mut G,
+) -> u8
+    requires some { 1 ≤ length ends.old.items }
+    requires few { length ends.old.items ≤ 64 }
+    requires fresh { AllByRecursion IsFresh (map (seen_end T.told T.Tree.faults T.reads W.talk W.state W.Wire.faults O.kept O.Outs.faults) ends.old.items) }
+    requires idle { P.running spawner.old ≡ [] }
+    ensures run { let seen = seen_end T.told T.Tree.faults T.reads W.talk W.state W.Wire.faults O.kept O.Outs.faults in
+        IsRun (given T.Of.named W.peer (map (λ word. word.now) words.now))
+        (outside (map seen ends.old.items) (S.left list.old) (S.faults list.old) (P.begun spawner.old) (P.running spawner.old) (P.asked spawner.old) (P.faults spawner.old) (K.held report.old) (K.faults report.old))
+        (outside (map seen ends.new.items) (S.left list.new) (S.faults list.new) (P.begun spawner.new) (P.running spawner.new) (P.asked spawner.new) (P.faults spawner.new) (K.held report.new) (K.faults report.new))
+        result }
+{
     let asked = match asked_in(alloc, number_of(ends), words) {
         Ok(Some(asked)) => asked,
         Ok(None) => return refuse(report, b"pump: usage\n".as_slice(), USAGE),
@@ -71,8 +113,13 @@ pub fn pump<T: Tree, W: Wire, O: Outs, P: Spawner, S: Source, K: Sink, R: Thread
         }
         Err(NoJobs::Memory) => return refuse(report, b"pump: memory\n".as_slice(), NO_MEMORY),
     };
-    let Ok((records, totals)) = run_clients(alloc, ends.as_mut_slice(), &asked, jobs.as_slice())
-    else {
+    let Ok((records, totals)) = run_clients(
+        alloc,
+        ends.as_mut_slice(),
+        &asked,
+        jobs.as_slice(),
+        progress,
+    ) else {
         return refuse(report, b"pump: memory\n".as_slice(), NO_MEMORY);
     };
     tell(alloc, records.as_slice(), totals, report)

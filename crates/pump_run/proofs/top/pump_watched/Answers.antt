@@ -8,7 +8,7 @@ use Rattle.pump_run.proofs.Counted.{nothing-asked, asked-seen, few-seen}
 use Rattle.pump_run.proofs.FirstEnds.{written-back}
 use Rattle.pump_run.proofs.Refused.{usage-run, list-refused-run, fault-run, starved-run, stayed-run}
 use Rattle.pump_run.proofs.Ran.{whole-run}
-use Rattle.pump_run.proofs.top.pump.Goals as goal
+use Rattle.pump_run.proofs.top.pump_watched.Goals as goal
 
 pub returns-in-Ok-None : goal.returns-in-Ok-None
 returns-in-Ok-None g c =

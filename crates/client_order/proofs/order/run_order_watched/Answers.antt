@@ -12,7 +12,7 @@ use Rattle.client_order.specs.Merged.{AreNew, AtMostOnce, EachBelow, in_order, j
 use Rattle.client_order.proofs.Parts.{at-most-once, each-below}
 use Rattle.client_order.proofs.Begins.{fresh-links, named-whole, no-calls, nothing-done}
 use Rattle.client_order.proofs.Runs.{clients-ran}
-use Rattle.client_order.proofs.order.run_order.Goals as goal
+use Rattle.client_order.proofs.order.run_order_watched.Goals as goal
 
 -- the clients as the loan of them left them
 after-loan : (count : ℕ) (was now items : List Client) → length now ≡ length was → length was ≡ count → take count (now ++ drop (length now) items) ≡ now
