@@ -1,4 +1,10 @@
-// The least closed set of a job's visits, by questions and answers.
+// The least closed set of a job's visits, by questions and answers (`IsClosureOf` in specs/Closure.antt).
+//
+// The visits found so far stand in a list, each once and in the order of their discovery, and the sheets of the first of them were told.
+// `next` asks for a search that these sheets want, each once, or else for the sheet of the first visit without one; what a computed
+// target may name is found anew only where a name that the answer rests on got a definition since (`naming.rt`). Where nothing more
+// is wanted, the list is closed, and as each visit was found from the source it is the least such. A refusal is answered where it is met
+// at every closed list. The state's meaning is `Heard` in specs/Progress.antt.
 ghost use Rattle.std.specs.Prelude.{◌≡◌, ◌<◌, length, IfOk, IfSome, IfNone, IsTrue, IsFalse, Bool, None, Some};
 ghost use Rattle.closure_fixpoint.specs.Progress.{IsEnough, IsAccepted};
 ghost use Rattle.closure_fixpoint.specs.Seen.{end_of};

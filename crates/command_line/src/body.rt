@@ -5,7 +5,7 @@ ghost use Rattle.command_line.specs.Read.{IsSmall};
 use anyhow::{Result, bail};
 use std::alloc::Global;
 use std::fs::{self, File, OpenFile};
-use std::io::{self, Read};
+use std::io::{self, ErrorKind, Read};
 use std::rt::Files;
 
 /// The most bytes that the lexer takes.
@@ -21,15 +21,22 @@ pub enum FileBody {
     Whole(Vec<u8>),
 }
 
-/// What there is to read at a path. The path is looked at, and opened where a file stands there; what is open then is looked at
-/// again and read once, and no further than one byte behind the limit, however long it says it is. An error is the host's:
-/// nothing stands at the path, it may not be opened or read, or there is no memory for its bytes.
+/// What there is to read at a path. The path is looked at, and opened where a file stands there: [`read_seen`].
 pub fn read_file<R: Files + AllocGlobal>(rt: &R, path: &str) -> io::Result<FileBody>
     ensures { IfOk result IsSmall }
 {
     if !fs::metadata(rt, path)?.is_file() {
         return Ok(FileBody::NoFile);
     }
+    read_seen(rt, path)
+}
+
+/// What there is to read at a path at which a file was seen: it is opened, and what is open then is looked at once more and read, in one
+/// read where it is as long as that look said, and no further than one byte behind the limit. An error is the host's:
+/// nothing stands at the path, it may not be opened or read, or there is no memory for its bytes.
+pub fn read_seen<R: Files + AllocGlobal>(rt: &R, path: &str) -> io::Result<FileBody>
+    ensures { IfOk result IsSmall }
+{
     let file = File::open(rt, path)?;
     let found = file.metadata()?;
     if !found.is_file() {
@@ -38,19 +45,37 @@ pub fn read_file<R: Files + AllocGlobal>(rt: &R, path: &str) -> io::Result<FileB
     if found.len() > BODY_LIMIT as u64 {
         return Ok(FileBody::Large);
     }
-    read_to_limit(rt.alloc(), file)
+    read_to_limit(rt.alloc(), file, found.len() as usize)
 }
 
-// Reads to the end, or until there is more than the limit.
-fn read_to_limit<F: Read + Drop>(alloc: Global, file: F) -> io::Result<FileBody>
+// Reads what is said to have so many bytes: to the end, or until there is more than the limit.
+fn read_to_limit<F: Read + Drop>(alloc: Global, file: F, said: usize) -> io::Result<FileBody>
+    requires { said ≤ 16777216 }
     ensures { IfOk result IsSmall }
 {
+    let mut file = file;
     let mut bytes = Vec::new(alloc);
-    file.take(BODY_LIMIT as u64 + 1).read_to_end(&mut bytes)?;
+    bytes.resize(said + 1, 0)?;
+    let count = read_once(&mut file, bytes.as_mut_slice())?;
+    bytes.truncate(count);
+    if count > 0 && count == said {
+        return Ok(FileBody::Whole(bytes));
+    }
+    file.take((BODY_LIMIT + 1) as u64).read_to_end(&mut bytes)?;
     if bytes.len() > BODY_LIMIT {
         return Ok(FileBody::Large);
     }
     Ok(FileBody::Whole(bytes))
+}
+
+// One read, which a signal may end before anything came.
+fn read_once<F: Read>(file: &mut F, room: &mut [u8]) -> io::Result<usize>
+    ensures { IfOk result (λ count. count ≤ length room.new) }
+{
+    match file.read(room) {
+        Err(error) if error.kind() == ErrorKind::Interrupted => Ok(0),
+        count => count,
+    }
 }
 
 /// The body of a file. The error says that what stands at the path is no file, that it has more than 16 MiB, or why the host

@@ -1,4 +1,10 @@
-// Preprocessing a job.
+// Preprocessing a job (ISO C 5.1.1.2 phase 4 and 6.10; `prep` in specs/Prep.antt).
+//
+// The definition is a recursion on the groups of a file and on its includes. The code goes through the flat list of a file's pieces in its
+// place, and so needs no stack: `Reader` has the file that is read, with the number of its next piece, and the files that were left at an
+// include. A line that opens a conditional seeks the group that is read, and the line that ends this group passes over the others
+// (`section.rt`). What goes through a job is `Kept`; contracts see it as a state of the definition by `Shows`, and each function says by one
+// of the relations beside it what its call leads to (specs/parts/Showing.antt).
 ghost use Rattle.std.specs.Prelude.{◌≡◌, ◌<◌, ◌≤◌, ◌+◌, ◌++◌, suc, pos, List, [], ◌∷◌, length, drop, get_or, IfOk, IfSome, OnOk, IsErrOf};
 ghost use Rattle.std.specs.Option.{ForSome};
 ghost use Rattle.base_types.specs.Causes.{HasCause};

@@ -1,4 +1,9 @@
-// Where a reader of requests or images stands, and its moves.
+// Where a reader of requests or images stands, and its moves (docs/FORMATS.md; `request_at` in specs/Request.antt).
+//
+// One field is due at a time: a token, or so many bytes of a text or a body. `run` moves the bytes of a piece to that field; when it is full,
+// `step` judges it, keeps what it says, and makes the next field due, or refuses. So frames may come in any pieces, each byte is moved once,
+// and nothing that was kept is judged again. What each stand means is `left` of specs/parts/Stages.antt: the verdict on every text
+// that may still come.
 ghost use Rattle.std.specs.Prelude.{◌≡◌, ◌≤◌, ◌<◌, ◌++◌, ◌⊎◌, length, [], true, ◌==◌, IfOk, IfErr, Some, None};
 ghost use Rattle.std.specs.List.{list_any};
 ghost use Rattle.job_frames.specs.Stages.{Keeps, Moves, IsJudged, IsPushed, IsFilled, HasRun, Begins};

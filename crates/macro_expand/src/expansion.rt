@@ -1,4 +1,10 @@
-// Expansion of a list of tokens (ISO C 6.10.3).
+// Expansion of a list of tokens (ISO C 6.10.3; `expansion` in specs/Expansion.antt).
+//
+// Prosser's algorithm: each token has a hide set, the names that don't replace it any more (6.10.3.4). The token at the head of those pending is
+// put out, or it is a name or a call that is replaced; the replacement is put in front of what is pending, and read again together with
+// it. A call's arguments are expanded before that, each by itself, by a recursion of depth 400 at most. Who answers which definition a name
+// has is a parameter (`Answers`), so that a table of macros and a choice among definitions share one loop. It ends, since each
+// replacement is paid for from `work`.
 ghost use Rattle.std.specs.Prelude.{◌≡◌, ◌⊎◌, ◌+◌, ◌<◌, ◌≤◌, ◌++◌, ◌∷◌, [], map, length, Ok, IfOk, IfErr, OnOk};
 ghost use Rattle.macro_expand.specs.declared.marked.Role.TheVariants.{Name};
 ghost use Rattle.macro_expand.specs.Replacement.{unmarked};

@@ -1,4 +1,7 @@
-// The names that don't replace a token any more.
+// The names that don't replace a token any more, as a trie over the bits of their hashes (specs/parts/Tries.antt).
+//
+// A name is looked for on the way that its hash says, and one more name takes new nodes on that way alone. A union or an intersection takes
+// so much for each name of the smaller set. What the model keeps is `IsOrdered`: every name is met on its way.
 ghost use Rattle.std.specs.Prelude.{◌≡◌, IfOk};
 ghost use Rattle.macro_expand.specs.Tries as tries;
 ghost use Rattle.macro_expand.specs.Tries.{name_hash, Branch, tree_of, found, with_leaf, with_common, with_all_common};

@@ -1,4 +1,10 @@
-// The lexer: a body's logical lines of tokens.
+// The lexer: a body's logical lines of tokens (ISO C 5.1.1.2, phases 1 to 3; `lexed` in specs/Lines.antt).
+//
+// `source.rt` makes a text of the body without trigraphs and splices, with the places of the splices. `gather` cuts this text into parts,
+// each the longest that may stand there (6.4 paragraph 4): newlines, gaps and tokens. Of a token its place is kept, in 16 bytes, with those of
+// all lines in one list; its spelling is a slice of the text, and its line is found by the newlines and splices before it. No token takes
+// memory of its own, and time is linear in the body, since a quote or a delimiter without a partner is looked for once a line
+// (`unpaired.rt`). What holds between two parts stands in specs/parts/Gathered.antt.
 ghost use Rattle.std.specs.Prelude.{◌≡◌, ◌≤◌, ◌+◌, ◌∷◌, [], None, zero, length, take, drop, get_or, IfOk, slice_get, option_map, option_and_then};
 ghost use Rattle.std.specs.List.{flat_map};
 ghost use Rattle.std.specs.Option.{option_map_or};

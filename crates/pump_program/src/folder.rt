@@ -4,7 +4,7 @@ ghost use Rattle.tree_model.specs.Trees.{IsNode, IsBody};
 ghost use Rattle.pump_program.specs.Untold.{nothing_is_some};
 
 use base_types::Bytes;
-use command_line::{FileBody, read_file};
+use command_line::{FileBody, read_seen};
 use io_edges::HostFault;
 use std::fs::{self, Files};
 use std::io::{self, ErrorKind};
@@ -110,14 +110,14 @@ fn is_absent(kind: ErrorKind) -> bool {
     )
 }
 
-// The bytes of the file at a path; None where they are more than 16,777,216.
+// The bytes of the file that was seen at a path; None where they are more than 16,777,216.
 fn body_at<R: Files + AllocGlobal>(rt: &R, path: &[u8]) -> io::Result<Option<Bytes>>
     ensures { IfOk result IsBody }
 {
     let Ok(text) = str::from_utf8(path) else {
         return Err(no_file());
     };
-    match read_file(rt, text)? {
+    match read_seen(rt, text)? {
         FileBody::Whole(body) => Ok(Some(Bytes::of(body))),
         FileBody::Large => Ok(None),
         FileBody::NoFile => Err(no_file()),

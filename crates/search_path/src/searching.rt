@@ -1,4 +1,8 @@
-// The search.
+// The search for a source, a forced file or an included file (`candidates` and `search` in specs/Search.antt; the places are
+// those of GNU cpp, "Search Path" and "Wrapper Headers").
+//
+// The candidates of a form of asking are tried in order, and the first that locates a file ends the search. Each costs a walk from its
+// directory; the texts of the chain's directories share one buffer.
 ghost use Rattle.std.specs.Prelude.{◌≡◌, ◌<◌, ◌+◌, ◌++◌, ◌∷◌, [], length, get_or, None, IfOk, IfSome, OnOk, IsErrOf, List};
 ghost use Rattle.std.specs.Option.{ForSome};
 ghost use Rattle.base_types.specs.Causes.{HasCause};

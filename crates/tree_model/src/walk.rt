@@ -1,4 +1,9 @@
-// Walks: the file that a text locates.
+// Walks: the file that a text locates (POSIX.1-2017, 4.13 Pathname Resolution; `walk` and `locate` in specs/Walk.antt).
+//
+// A text is walked component by component from a directory, and each node that is met is noted. At a link the walk stops; the link's text is
+// put in front of what is left, and the walk goes on from the link's directory, at most 40 times for a text, so no link is followed by
+// recursion. `locate` walks what stands before the last `/`, and then the last component: the directory in which that is looked up, with its
+// name, is the file's place. A walk takes one look at the tree and one copy of a path for each component.
 ghost use Rattle.std.specs.Prelude.{◌≡◌, ◌≤◌, ℕ, [], ◌∷◌, ◌++◌, Some, IfOk, IfSome, OnOk, IsErrOf, ◌==◌};
 ghost use Rattle.std.specs.List.{position};
 ghost use Rattle.std.specs.Option.{option_map, ForSome};
