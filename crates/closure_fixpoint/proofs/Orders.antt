@@ -18,23 +18,10 @@ use Rattle.std.proofs.lemmas.Fn.{always_returns_same}
 use Rattle.base_types.specs.Members.{Member}
 use Rattle.tree_model.specs.Paths.{Text, Path, spelled, IsCanonical}
 use Rattle.tree_model.specs.Laws.{SpellingsAreApart}
+use Rattle.closure_fixpoint.proofs.MemberLaws.{Member-append, Member-append_left, Member-append_right}
 use Rattle.closure_fixpoint.specs.Gathering.{comes_before, are_rising, is_repeated, kept, each_once}
 
 -- MEMBERS
-
-pub left-member : {X : Type 0} (x : X) (xs ys : List X) → Member x xs → Member x (xs ++ ys)
-left-member x [] ys m = elim m [ ]
-left-member x (y ∷ xs) ys (inl e) = inl e
-left-member x (y ∷ xs) ys (inr m) = inr (left-member x xs ys m)
-
-pub right-member : {X : Type 0} (x : X) (xs ys : List X) → Member x ys → Member x (xs ++ ys)
-right-member x [] ys m = m
-right-member x (y ∷ xs) ys m = inr (right-member x xs ys m)
-
-pub of-either : {X : Type 0} (x : X) (xs ys : List X) → Member x (xs ++ ys) → Member x xs ⊎ Member x ys
-of-either x [] ys m = inr m
-of-either x (y ∷ xs) ys (inl e) = inl (inl e)
-of-either x (y ∷ xs) ys (inr m) = elim (of-either x xs ys m) [ inl a ↦ inl (inr a) | inr b ↦ inr b ]
 
 pub each-member : {X : Type 0} (P : X → Type 0) (xs : List X) → AllByRecursion P xs → (x : X) → Member x xs → P x
 each-member P [] all x m = elim m [ ]
@@ -108,7 +95,7 @@ kept-member x path behind m = by_test (is_repeated path behind) m
 
 pub once-of : (x : Path) (xs : List Path) → Member x (each_once xs) → Member x xs
 once-of x [] m = m
-once-of x (y ∷ xs) m = by_part (of-either x (kept y xs) (each_once xs) m) (once-of x xs)
+once-of x (y ∷ xs) m = by_part (Member-append x (kept y xs) (each_once xs) m) (once-of x xs)
   where
     by_part : Member x (kept y xs) ⊎ Member x (each_once xs) → (Member x (each_once xs) → Member x xs) → Member x (y ∷ xs)
     by_part (inl k) rest = inl (sym (kept-member x y xs k))
@@ -129,9 +116,9 @@ module _ (apart : SpellingsAreApart) where
   of-once (y ∷ xs) up each x m = by_part m (is_repeated y xs) refl (of-once xs up.1 (λ w n. each w (inr n)))
     where
       by_part : Member x (y ∷ xs) → (b : Bool) → is_repeated y xs ≡ b → ((w : Path) → Member w xs → Member w (each_once xs)) → Member x (kept y xs ++ each_once xs)
-      by_part (inr n) b e rest = right-member x (kept y xs) (each_once xs) (rest x n)
-      by_part (inl same) true e rest = right-member x (kept y xs) (each_once xs) (rest x (subst (λ (w : Path). Member w xs) same (repeated-next y xs up each e)))
-      by_part (inl same) false e rest = left-member x (kept y xs) (each_once xs) (subst (λ (b : Bool). Member x (cond b [] (y ∷ []))) (sym e) (inl same))
+      by_part (inr n) b e rest = Member-append_right x (kept y xs) (each_once xs) (rest x n)
+      by_part (inl same) true e rest = Member-append_right x (kept y xs) (each_once xs) (rest x (subst (λ (w : Path). Member w xs) same (repeated-next y xs up each e)))
+      by_part (inl same) false e rest = Member-append_left x (kept y xs) (each_once xs) (subst (λ (b : Bool). Member x (cond b [] (y ∷ []))) (sym e) (inl same))
 
 all-before : (y : Path) (xs : List Path) → ((x : Path) → Member x xs → comes_before y x ≡ true) → list_all (λ other. comes_before y other) xs ≡ true
 all-before y [] each = refl

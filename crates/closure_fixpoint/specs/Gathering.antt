@@ -28,23 +28,23 @@ upward (name ∷ path) = (name ∷ path) ∷ upward path
 abbrev pub all_upward : List Path → List Path
 all_upward paths = flat_map upward paths
 
--- the nodes of files: what their searches walked, and what is above that
-abbrev pub nodes_of : List Located → List Path
-nodes_of files = flat_map (λ file. all_upward file.walked) files
+-- what the searches for files walked
+abbrev pub walked_of : List Located → List Path
+walked_of files = flat_map (λ file. file.walked) files
 
--- of what a search found, of all searches, of the files of visits, and of those of sheets
-abbrev pub found_nodes : Option Hit → List Path
-found_nodes None = []
-found_nodes (Some hit) = all_upward hit.1.walked
+-- the same of what a search found, of all searches, of the files of visits, and of those of sheets
+abbrev pub found_walked : Option Hit → List Path
+found_walked None = []
+found_walked (Some hit) = hit.1.walked
 
-abbrev pub searched_nodes : List (Ask × Option Hit) → List Path
-searched_nodes searches = flat_map (λ told. found_nodes told.1) searches
+abbrev pub searched_walked : List (Ask × Option Hit) → List Path
+searched_walked searches = flat_map (λ told. found_walked told.1) searches
 
-abbrev pub hits_nodes : List Hit → List Path
-hits_nodes hits = flat_map (λ hit. all_upward hit.1.walked) hits
+abbrev pub hits_walked : List Hit → List Path
+hits_walked hits = flat_map (λ hit. hit.1.walked) hits
 
-abbrev pub sheets_nodes : List (Visit × SheetData) → List Path
-sheets_nodes sheets = flat_map (λ told. hits_nodes told.1.plain ++ nodes_of told.1.probes) sheets
+abbrev pub sheets_walked : List (Visit × SheetData) → List Path
+sheets_walked sheets = flat_map (λ told. hits_walked told.1.plain ++ walked_of told.1.probes) sheets
 
 -- the order of spellings
 abbrev pub comes_before : Path → Path → Bool

@@ -8,7 +8,7 @@ ghost use Rattle.closure_fixpoint.specs.Gathering as gathering;
 ghost use Rattle.closure_fixpoint.specs.Progress.{located_told};
 ghost use Rattle.closure_fixpoint.specs.Targets.{heard_of};
 ghost use Rattle.closure_fixpoint.specs.Told.{AreNodesOf};
-ghost use Rattle.closure_fixpoint.specs.Gathering.{upward, all_upward, found_nodes, searched_nodes, hits_nodes, sheets_nodes, kept, are_rising};
+ghost use Rattle.closure_fixpoint.specs.Gathering.{upward, all_upward, found_walked, searched_walked, hits_walked, sheets_walked, kept, are_rising};
 
 use crate::searches::Searches;
 use search_path::Visit;
@@ -28,9 +28,13 @@ pub fn nodes_told(
     ensures rising { IfOk result (λ nodes. IsTrue (are_rising nodes.items)) }
     ensures canonical { IfOk result (λ nodes. All IsCanonical nodes.items) }
 {
+    // Most nodes were walked for many files, so what is above them is added once they stand once.
+    let mut walked = Vec::new(alloc);
+    add_searched(alloc, searches, &mut walked)?;
+    add_sheets(alloc, sheets, &mut walked)?;
+    let walked = sorted(alloc, walked)?;
     let mut nodes = Vec::new(alloc);
-    add_searched(alloc, searches, &mut nodes)?;
-    add_sheets(alloc, sheets, &mut nodes)?;
+    add_all_upward(alloc, walked.as_slice(), &mut nodes)?;
     sorted(alloc, nodes)
 }
 
@@ -48,10 +52,23 @@ fn copies(alloc: Global, paths: &[CanonPath]) -> Result<Vec<CanonPath>, AllocErr
     ensures canonical { IfOk result (λ copies. All IsCanonical copies.items) }
 {
     let mut copies = Vec::new(alloc);
-    for path in paths {
-        add_copy(alloc, path, &mut copies)?;
-    }
+    add_copies(alloc, paths, &mut copies)?;
     Ok(copies)
+}
+
+// Adds copies of paths.
+fn add_copies(
+    alloc: Global,
+    paths: &[CanonPath],
+    copies: &mut Vec<CanonPath>,
+) -> Result<(), AllocError>
+    ensures items { OnOk result (copies.new.items ≡ copies.old.items ++ paths.now) }
+    ensures canonical { OnOk result (All IsCanonical copies.old.items → All IsCanonical copies.new.items) }
+{
+    for path in paths {
+        add_copy(alloc, path, copies)?;
+    }
+    Ok(())
 }
 
 fn add_copy(alloc: Global, path: &CanonPath, copies: &mut Vec<CanonPath>) -> Result<(), AllocError>
@@ -63,13 +80,13 @@ fn add_copy(alloc: Global, path: &CanonPath, copies: &mut Vec<CanonPath>) -> Res
     Ok(())
 }
 
-// Adds the nodes of the files that searches found, each as often as it was walked or stands above one that was.
+// Adds the nodes that were walked for the files that searches found, each as often as it was.
 fn add_searched(
     alloc: Global,
     searches: &Searches,
     nodes: &mut Vec<CanonPath>,
 ) -> Result<(), AllocError>
-    ensures nodes { OnOk result (nodes.new.items ≡ nodes.old.items ++ searched_nodes searches.now) }
+    ensures nodes { OnOk result (nodes.new.items ≡ nodes.old.items ++ searched_walked searches.now) }
     ensures canonical { OnOk result (All IsCanonical nodes.old.items → All IsCanonical nodes.new.items) }
 {
     for number in 0..searches.len() {
@@ -78,28 +95,28 @@ fn add_searched(
     Ok(())
 }
 
-// Adds the nodes of what a search found.
+// Adds the nodes that were walked for what a search found.
 fn add_found(
     alloc: Global,
     found: &Option<(Visit, Located)>,
     nodes: &mut Vec<CanonPath>,
 ) -> Result<(), AllocError>
-    ensures nodes { OnOk result (nodes.new.items ≡ nodes.old.items ++ found_nodes found.now) }
+    ensures nodes { OnOk result (nodes.new.items ≡ nodes.old.items ++ found_walked found.now) }
     ensures canonical { OnOk result (All IsCanonical nodes.old.items → All IsCanonical nodes.new.items) }
 {
     match found {
         None => Ok(()),
-        Some((_, located)) => add_walked(alloc, located.walked.as_slice(), nodes),
+        Some((_, located)) => add_copies(alloc, located.walked.as_slice(), nodes),
     }
 }
 
-// Adds the nodes of the files of sheets.
+// Adds the nodes that were walked for the files of sheets.
 fn add_sheets(
     alloc: Global,
     sheets: &[(Visit, Sheet)],
     nodes: &mut Vec<CanonPath>,
 ) -> Result<(), AllocError>
-    ensures nodes { OnOk result (nodes.new.items ≡ nodes.old.items ++ sheets_nodes sheets.now) }
+    ensures nodes { OnOk result (nodes.new.items ≡ nodes.old.items ++ sheets_walked sheets.now) }
     ensures canonical { OnOk result (All IsCanonical nodes.old.items → All IsCanonical nodes.new.items) }
 {
     for told in sheets {
@@ -109,42 +126,42 @@ fn add_sheets(
     Ok(())
 }
 
-// Adds the nodes of the files of visits.
+// Adds the nodes that were walked for the files of visits.
 fn add_hits(
     alloc: Global,
     hits: &[(Visit, Located)],
     nodes: &mut Vec<CanonPath>,
 ) -> Result<(), AllocError>
-    ensures nodes { OnOk result (nodes.new.items ≡ nodes.old.items ++ hits_nodes hits.now) }
+    ensures nodes { OnOk result (nodes.new.items ≡ nodes.old.items ++ hits_walked hits.now) }
     ensures canonical { OnOk result (All IsCanonical nodes.old.items → All IsCanonical nodes.new.items) }
 {
     for hit in hits {
-        add_walked(alloc, hit.1.walked.as_slice(), nodes)?;
+        add_copies(alloc, hit.1.walked.as_slice(), nodes)?;
     }
     Ok(())
 }
 
-// Adds the nodes of files.
+// Adds the nodes that were walked for files.
 fn add_files(alloc: Global, files: &[Located], nodes: &mut Vec<CanonPath>) -> Result<(), AllocError>
-    ensures nodes { OnOk result (nodes.new.items ≡ nodes.old.items ++ gathering.nodes_of files.now) }
+    ensures nodes { OnOk result (nodes.new.items ≡ nodes.old.items ++ gathering.walked_of files.now) }
     ensures canonical { OnOk result (All IsCanonical nodes.old.items → All IsCanonical nodes.new.items) }
 {
     for file in files {
-        add_walked(alloc, file.walked.as_slice(), nodes)?;
+        add_copies(alloc, file.walked.as_slice(), nodes)?;
     }
     Ok(())
 }
 
 // Adds paths and what is above them.
-fn add_walked(
+fn add_all_upward(
     alloc: Global,
-    walked: &[CanonPath],
+    paths: &[CanonPath],
     nodes: &mut Vec<CanonPath>,
 ) -> Result<(), AllocError>
-    ensures nodes { OnOk result (nodes.new.items ≡ nodes.old.items ++ all_upward walked.now) }
+    ensures nodes { OnOk result (nodes.new.items ≡ nodes.old.items ++ all_upward paths.now) }
     ensures canonical { OnOk result (All IsCanonical nodes.old.items → All IsCanonical nodes.new.items) }
 {
-    for path in walked {
+    for path in paths {
         add_upward(alloc, path, nodes)?;
     }
     Ok(())

@@ -22,7 +22,7 @@ use Rattle.mirror_soundness.specs.Mirror.{MirrorIsEnough, TouchesNodesAlone, Not
 use Rattle.mirror_soundness.proofs.MadeTree.{at_itself, makes_tree_of, part_of_whole}
 use Rattle.mirror_soundness.proofs.Kept.{Keeps}
 use Rattle.mirror_soundness.proofs.Targets.{answers_by}
-use Rattle.mirror_soundness.proofs.Searched.{IsHome}
+use Rattle.closure_fixpoint.proofs.Searched.{IsHome}
 use Rattle.mirror_soundness.proofs.Alike.{OutlineHolds, Agree, job_step, job_alike, source_enters}
 use Rattle.mirror_soundness.proofs.Worlds.{agrees_with_itself, agrees_with_entries}
 

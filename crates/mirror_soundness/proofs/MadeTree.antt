@@ -11,7 +11,7 @@ use Rattle.tree_model.specs.declared.entry.Entry.{Entry}
 use Rattle.tree_model.specs.declared.entry.Entry.TheVariants.{Dir, File, Link}
 use Rattle.job_words.specs.declared.job.Job.{Job}
 use Rattle.closure_fixpoint.specs.Analysis.{AreEntriesOf, IsNodeOf}
-use Rattle.mirror_soundness.proofs.MemberLaws.{list_any-from}
+use Rattle.closure_fixpoint.proofs.MemberLaws.{list_any-from}
 
 -- a test that each member passes
 all_of_members : {X : Type 0} (test : X → Bool) (xs : List X) → ((x : X) → Member x xs → test x ≡ true) → list_all test xs ≡ true

@@ -16,7 +16,7 @@ use Rattle.job_words.specs.declared.MacroWord.{MacroWord}
 use Rattle.job_words.specs.declared.MacroWord.TheVariants as word
 use Rattle.daemon_cpp.specs.Prep.{with_macro, with_word, with_words, first_table}
 use Rattle.closure_fixpoint.specs.Closure.{initial_definition, word_definition, first_definitions, of_name, added, distinct, sets_of}
-use Rattle.mirror_soundness.proofs.MemberLaws.{Member-append_left, Member-append_right, Member-filter_map, Contains-from_Member, list_any-by}
+use Rattle.closure_fixpoint.proofs.MemberLaws.{Member-append_left, Member-append_right, Member-filter_map, Contains-from_Member, list_any-by}
 
 same_text : (a b : Text) → bytes_eq a b ≡ true → a ≡ b
 same_text a b e = (bytes_eq-Decides a b).0 e

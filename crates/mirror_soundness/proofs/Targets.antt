@@ -32,7 +32,7 @@ use Rattle.job_words.specs.JobOf.{JobData}
 use Rattle.daemon_cpp.specs.Prep.{World, place_of, State, Gives, reach, tokens_of, expanded_in, line_expanded, header_reached}
 use Rattle.sheet_build.specs.Sheet.{Asking, asking, probes_for, includes_in, probes_in, accepted, definition_in, is_line, ComputedAsk, SheetData, quote_form, computed_of, asked_for, plain_hit, sheet_from}
 use Rattle.closure_fixpoint.specs.Closure.{Answers, first_definitions, with_angle, known_name, MayFind, ByName, ByTokens, first_asks, first_hits, IsClosedFor, Known, AtFirst, Included, Probed, ByMacros, HasLong, HasPresumed}
-use Rattle.mirror_soundness.proofs.MemberLaws.{Member-append_left, Member-append_right, Member-map, Member-flat_map, Member-filter_map, list_any-from}
+use Rattle.closure_fixpoint.proofs.MemberLaws.{Member-append_left, Member-append_right, Member-map, Member-flat_map, Member-filter_map, list_any-from}
 use Rattle.mirror_soundness.proofs.ComputedLaws.{may_be_named}
 use Rattle.mirror_soundness.proofs.Kept.{Holds, KeepsWith, left_holds, knows}
 

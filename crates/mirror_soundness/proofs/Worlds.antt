@@ -26,9 +26,9 @@ use Rattle.sheet_build.specs.Sheet.{asked_for, empty_sheet, sheet_from, body_fou
 use Rattle.closure_fixpoint.specs.Closure.{answers_of, IsClosureOf, first_asks, Known}
 use Rattle.closure_fixpoint.specs.Analysis.{IsNodeOf, AreEntriesOf}
 use Rattle.mirror_soundness.specs.Mirror.{IsAnalysed}
-use Rattle.mirror_soundness.proofs.MemberLaws.{MappedBy, map-Member}
+use Rattle.closure_fixpoint.proofs.MemberLaws.{MappedBy, map-Member}
 use Rattle.mirror_soundness.proofs.MadeTree.{at_itself}
-use Rattle.mirror_soundness.proofs.Searched.{IsHome, known_located}
+use Rattle.closure_fixpoint.proofs.Searched.{IsHome, known_located}
 use Rattle.mirror_soundness.proofs.Targets.{HasSheet, Analyses}
 use Rattle.mirror_soundness.proofs.Alike.{Agree}
 

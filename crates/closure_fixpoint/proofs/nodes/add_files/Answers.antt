@@ -2,7 +2,6 @@ use Rattle.std.proofs.Common.{◌<◌, ◌++◌, List, length, ◌∙◌, ap, ar
 use Rattle.tree_model.specs.Paths.{Path}
 use Rattle.tree_model.specs.declared.walk.Located.{Located}
 use Rattle.closure_fixpoint.specs.Gathering as gathering
-use Rattle.closure_fixpoint.specs.Gathering.{all_upward}
 use Rattle.closure_fixpoint.proofs.Steps.{goes-on, next-at}
 use Rattle.closure_fixpoint.proofs.nodes.add_files.Goals as goal
 
@@ -11,10 +10,10 @@ loop-file-preserved c =
     let below : c.loop-file.file-index < length c.args.files.now = omega arith in
     record {
       nodes =
-          goes-on (λ (files : List Located). gathering.nodes_of files) (all_upward c.file-item.result.walked) c.args.files.now c.loop-file.file-index c.loop-file.nodes.items c.add_walked.new.nodes.items
-          (c.args.nodes.now.items ++ gathering.nodes_of c.args.files.now)
-          (ap (λ (files : List Located). gathering.nodes_of files) (next-at c.args.files.now c.loop-file.file-index c.file-item.result below c.file-item.is))
+          goes-on (λ (files : List Located). gathering.walked_of files) c.file-item.result.walked c.args.files.now c.loop-file.file-index c.loop-file.nodes.items c.add_copies.new.copies.items
+          (c.args.nodes.now.items ++ gathering.walked_of c.args.files.now)
+          (ap (λ (files : List Located). gathering.walked_of files) (next-at c.args.files.now c.loop-file.file-index c.file-item.result below c.file-item.is))
           c.loop-file.invariant.nodes
-          (c.in_ok-add_walked.ensures.nodes ∙ ap (λ (w : List Path). c.loop-file.nodes.items ++ all_upward w) c.as_slice.ensures);
-      canonical = λ before. c.in_ok-add_walked.ensures.canonical (c.loop-file.invariant.canonical before);
+          (c.in_ok-add_copies.ensures.items ∙ ap (λ (w : List Path). c.loop-file.nodes.items ++ w) c.as_slice.ensures);
+      canonical = λ before. c.in_ok-add_copies.ensures.canonical (c.loop-file.invariant.canonical before);
     }

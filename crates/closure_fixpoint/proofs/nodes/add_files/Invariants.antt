@@ -5,6 +5,6 @@ use Rattle.closure_fixpoint.proofs.nodes.add_files.Given as goal
 
 abbrev pub invariant-loop-file : goal.invariant-loop-file
 invariant-loop-file l = record {
-  nodes : l.nodes.items ++ gathering.nodes_of (drop l.file-index l.files) ≡ l.fn.nodes.items ++ gathering.nodes_of l.files;
+  nodes : l.nodes.items ++ gathering.walked_of (drop l.file-index l.files) ≡ l.fn.nodes.items ++ gathering.walked_of l.files;
   canonical : All IsCanonical l.fn.nodes.items → All IsCanonical l.nodes.items;
 }

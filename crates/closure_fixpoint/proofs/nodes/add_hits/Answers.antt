@@ -1,7 +1,7 @@
 use Rattle.std.proofs.Common.{◌<◌, ◌++◌, List, length, ◌∙◌, ap, arith}
 use Rattle.tree_model.specs.Paths.{Path}
 use Rattle.search_path.specs.Search.{Hit}
-use Rattle.closure_fixpoint.specs.Gathering.{all_upward, hits_nodes}
+use Rattle.closure_fixpoint.specs.Gathering.{hits_walked}
 use Rattle.closure_fixpoint.proofs.Steps.{goes-on, next-at}
 use Rattle.closure_fixpoint.proofs.nodes.add_hits.Goals as goal
 
@@ -10,10 +10,10 @@ loop-hit-preserved c =
     let below : c.loop-hit.hit-index < length c.args.hits.now = omega arith in
     record {
       nodes =
-          goes-on (λ (hits : List Hit). hits_nodes hits) (all_upward c.hit-item.result.1.walked) c.args.hits.now c.loop-hit.hit-index c.loop-hit.nodes.items c.add_walked.new.nodes.items
-          (c.args.nodes.now.items ++ hits_nodes c.args.hits.now)
-          (ap (λ (hits : List Hit). hits_nodes hits) (next-at c.args.hits.now c.loop-hit.hit-index c.hit-item.result below c.hit-item.is))
+          goes-on (λ (hits : List Hit). hits_walked hits) c.hit-item.result.1.walked c.args.hits.now c.loop-hit.hit-index c.loop-hit.nodes.items c.add_copies.new.copies.items
+          (c.args.nodes.now.items ++ hits_walked c.args.hits.now)
+          (ap (λ (hits : List Hit). hits_walked hits) (next-at c.args.hits.now c.loop-hit.hit-index c.hit-item.result below c.hit-item.is))
           c.loop-hit.invariant.nodes
-          (c.in_ok-add_walked.ensures.nodes ∙ ap (λ (w : List Path). c.loop-hit.nodes.items ++ all_upward w) c.as_slice.ensures);
-      canonical = λ before. c.in_ok-add_walked.ensures.canonical (c.loop-hit.invariant.canonical before);
+          (c.in_ok-add_copies.ensures.items ∙ ap (λ (w : List Path). c.loop-hit.nodes.items ++ w) c.as_slice.ensures);
+      canonical = λ before. c.in_ok-add_copies.ensures.canonical (c.loop-hit.invariant.canonical before);
     }
