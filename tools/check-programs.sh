@@ -189,6 +189,22 @@ else
     echo 'no /dev/full: what a full device gives is not tried'
 fi
 
+# Where standard error is a terminal, a line there says how far the run is; elsewhere nothing is said.
+printf '%s\n%s\n' "$work/src a.c" "$work/src a.c -o b.i" > list
+said='pump_program with a terminal'
+tried=$((tried + 1))
+python3 - "$pump" > shown <<'END'
+import os, pty, subprocess, sys
+ours, theirs = pty.openpty()
+with open("list", "rb") as jobs:
+    subprocess.run([sys.argv[1], "order", "-", "--hosts", "localhost", "-j", "1"], stdin=jobs, stdout=subprocess.DEVNULL, stderr=theirs)
+print(os.read(ours, 4096).decode().strip().rsplit("\r", 1)[-1])
+END
+case $(cat shown) in
+'pump_program: 2 of 2 jobs done, 2 remote, 0 local, '[0-9]*' s') ;;
+*) differs "the terminal shows $(cat shown)" ;;
+esac
+
 # A header that is removed and made again: a run has its text, or says that it can't be found or read.
 comes_and_goes() {
     while [ -e going ]; do

@@ -7,8 +7,6 @@ mod line;
 mod listed;
 mod lists;
 mod refused;
-#[cfg(test)]
-mod tests;
 
 pub use line::words_of_line;
 pub use listed::{NoJobs, listed_jobs};

@@ -8,8 +8,6 @@ mod nodes;
 mod operation;
 mod set_number;
 mod sets;
-#[cfg(test)]
-mod tests;
 
 pub use hide_sets::HideSets;
 pub use set_number::SetNumber;

@@ -5,8 +5,6 @@ mod hosts;
 mod number;
 mod slots;
 mod state;
-#[cfg(test)]
-mod tests;
 mod word;
 
 pub use hosts::{HostError, read_hosts};

@@ -1,8 +1,6 @@
 //! The numbers of jobs, which threads draw: each number once.
 #![tactic(auto)]
 
-#[cfg(test)]
-mod tests;
 mod tickets;
 mod view;
 

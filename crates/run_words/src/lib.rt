@@ -5,7 +5,5 @@ mod asked;
 mod flags;
 mod numbers;
 mod order;
-#[cfg(test)]
-mod tests;
 
 pub use asked::{Asked, asked_in};

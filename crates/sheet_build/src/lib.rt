@@ -9,8 +9,6 @@ mod laws;
 mod memo;
 mod sheets;
 mod targets;
-#[cfg(test)]
-mod tests;
 
 pub use building::sheet;
 pub use computed::Computed;

@@ -1,8 +1,0 @@
-use Rattle.hide_sets.specs.Interned.{IsSet, Keeps}
-use Rattle.hide_sets.proofs.tests.chain.Given as goal
-
-abbrev pub invariant-loop-name : goal.invariant-loop-name
-invariant-loop-name g l = record {
-  set : IsSet l.sets l.set;
-  keeps : Keeps l.fn.sets l.sets;
-}
