@@ -1,15 +1,8 @@
 //! The program: a compile list on standard input, the report on standard output, the texts below the folder `out`.
 #![tactic(auto)]
 
-mod folder;
-#[cfg(test)]
-mod folder_tests;
 mod kept;
-#[cfg(test)]
-mod outs_tests;
 mod progress;
-#[cfg(test)]
-mod test_folder;
 mod told;
 mod wrong_list;
 
@@ -23,7 +16,7 @@ ghost use Rattle.job_ends.specs.Works.{IsFresh};
 
 use command_line::{ended, show, words_of};
 use daemon_serve::{MemWire, ServePeer};
-use folder::Folder;
+use host_tree::Folder;
 use io_edges::{FolderOuts, MemSpawner, Outs, Sink, Source, StdSink, StdSource, Wire};
 use kept::Kept;
 use progress::ProgressLine;

@@ -1,7 +1,7 @@
 // What a run says on standard error: what the host failed at, what is wrong with the list, and why.
-use crate::folder::Folder;
 use crate::wrong_list::{WrongList, wrong_list};
 use command_line::{tell, wrong_words};
+use host_tree::Folder;
 use io_edges::{FolderOuts, HostFault};
 use std::io;
 use std::rt::Files;

@@ -1,7 +1,7 @@
 // The host's files as a tree.
 ghost use Rattle.std.specs.Prelude.{◌≡◌, None, IfOk};
 ghost use Rattle.tree_model.specs.Trees.{IsNode, IsBody};
-ghost use Rattle.pump_program.specs.Untold.{nothing_is_some};
+ghost use Rattle.host_tree.specs.Untold.{nothing_is_some};
 
 use base_types::Bytes;
 use command_line::{FileBody, read_seen};

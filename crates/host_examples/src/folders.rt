@@ -1,6 +1,6 @@
 // What no clause says of the host's files: that the tree shows them, and what it answers where they can't be read.
-use crate::folder::Folder;
 use crate::test_folder::{joined, new_folder};
+use host_tree::Folder;
 use std::alloc::{AllocError, Global};
 use std::fs::{self, File};
 use std::io;

@@ -1,0 +1,2 @@
+-- What an object that tells nothing tells.
+pub mod Untold

@@ -1,0 +1,6 @@
+//! The host's files as a tree.
+#![tactic(auto)]
+
+mod folder;
+
+pub use folder::Folder;

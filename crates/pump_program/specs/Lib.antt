@@ -1,2 +1,0 @@
--- Words of the program's parts.
-pub mod Untold
