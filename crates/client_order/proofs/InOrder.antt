@@ -5,7 +5,7 @@ use Rattle.std.specs.Option.{option_to_list}
 use Rattle.std.proofs.lemmas.List.{length-replicate, map-append}
 use Rattle.std.proofs.lemmas.List.Elements.{filter-append, All-from_recursion, recursion_from_All}
 use Rattle.job_ends.specs.declared.record.Done.{Done}
-use Rattle.client_order.specs.Merged.{with_number, in_order, job_number, placed, in_places, AtMostOnce, EachBelow}
+use Rattle.client_order.specs.parts.Merged.{with_number, in_order, job_number, placed, in_places, AtMostOnce, EachBelow}
 
 -- ---- filters ----
 

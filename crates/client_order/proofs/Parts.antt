@@ -18,8 +18,8 @@ use Rattle.client_steps.specs.declared.phase.Phase.TheVariants.{Ended}
 use Rattle.client_steps.specs.Phases.{Current, job_of}
 use Rattle.client_steps.specs.Ledger.{WorkHolds, GoUp, below_works, times_drawn, one_if_job}
 use Rattle.client_order.specs.Ran.{MemoSeen, calls_of}
-use Rattle.client_order.specs.World.{ClientDid, EachDid, AllEnded, EachDrawnOnce, ClientFits}
-use Rattle.client_order.specs.Merged.{with_number, in_order, records_of, job_number, AtMostOnce, EachBelow}
+use Rattle.client_order.specs.parts.World.{ClientDid, EachDid, AllEnded, EachDrawnOnce, ClientFits}
+use Rattle.client_order.specs.parts.Merged.{with_number, in_order, records_of, job_number, AtMostOnce, EachBelow}
 use Rattle.client_order.proofs.InOrder.{all-append, all-weaker, filter-none, filter-all, in-order-filter, in-order-nil, in-order-below}
 
 pub record Part : Type 0 where

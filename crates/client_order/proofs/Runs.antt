@@ -25,8 +25,8 @@ use Rattle.client_steps.specs.declared.client.Client.{Client}
 use Rattle.client_order.specs.declared.totals.Totals.{Totals}
 use Rattle.client_steps.specs.Ledger.{WorkHolds}
 use Rattle.client_order.specs.Ran.{MemoSeen, IsLegalMemo, calls_of, counted, Tallies, ClientsRan}
-use Rattle.client_order.specs.World.{EachDid, AllEnded, WorldHolds}
-use Rattle.client_order.specs.Merged.{with_number, in_order, records_of, job_number}
+use Rattle.client_order.specs.parts.World.{EachDid, AllEnded, WorldHolds}
+use Rattle.client_order.specs.parts.Merged.{with_number, in_order, records_of, job_number}
 use Rattle.client_order.proofs.InOrder.{all-filter, all-passes, all-in-order, all-weaker, all-first, all-second, all-append, in-order-map, map-filter}
 use Rattle.client_order.proofs.Counts.{IsListed, each-listed, steps-of-run, counts-agree}
 use Rattle.client_order.proofs.Parts.{Part, EachPart, PartsOf, Splits, all_works, work_number, parts-of, number-counts, splits, each-end, each-work, each-client, own-calls}

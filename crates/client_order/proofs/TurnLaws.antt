@@ -27,9 +27,9 @@ use Rattle.client_steps.specs.declared.phase.Phase.TheVariants.{Draws, Begins, L
 use Rattle.client_steps.specs.Phases.{CanWork, NeedOf, answered, rank, most_rank, most_asked, job_of, leased_by, given_by}
 use Rattle.client_steps.specs.Ledger.{HasRoom, PutKeeps, IsRightReply, call_by, least_after, one_if_job, times_drawn, with_calls}
 use Rattle.client_order.specs.Ran.{MemoSeen, calls_of}
-use Rattle.client_order.specs.World.{SheetsMemo, seen_memo, OthersStay, IsDrawn, one_if_same}
+use Rattle.client_order.specs.parts.World.{SheetsMemo, seen_memo, OthersStay, IsDrawn, one_if_same}
 use Rattle.client_order.proofs.Histories.{AreListed, with_call, own-call, other-calls}
-use Rattle.client_order.specs.Answering.{CanAnswer, IsRefused, AnswerMoves, Answers, AnswerKeeps}
+use Rattle.client_order.specs.parts.Answering.{CanAnswer, IsRefused, AnswerMoves, Answers, AnswerKeeps}
 
 add-below : (a x y : ℕ) → x < y → a + x < a + y
 add-below a x y less = omega arith

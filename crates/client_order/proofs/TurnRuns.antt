@@ -8,7 +8,7 @@ use Rattle.job_ends.specs.Outside.{EndSeen}
 use Rattle.job_ends.specs.Record.{Known, known}
 use Rattle.client_steps.specs.declared.client.Client.{Client}
 use Rattle.client_order.specs.Ran.{MemoSeen, calls_of}
-use Rattle.client_order.specs.World.{AreNumberedFrom, ClientDid, EachDid, OthersStay, StrangersStay, TurnKeeps, RunKeeps}
+use Rattle.client_order.specs.parts.World.{AreNumberedFrom, ClientDid, EachDid, OthersStay, StrangersStay, TurnKeeps, RunKeeps}
 
 -- ---- numbers ----
 

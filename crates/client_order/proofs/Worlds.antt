@@ -13,7 +13,7 @@ use Rattle.client_steps.specs.declared.phase.Phase.{Phase}
 use Rattle.client_steps.specs.declared.phase.Phase.TheVariants.{Ended}
 use Rattle.client_steps.specs.Phases.{CanWork, rank, most_rank, leased_by}
 use Rattle.client_steps.specs.Ledger.{HasRoom, times_drawn}
-use Rattle.client_order.specs.World.{ClientFits, HasAllDrawn, WorldHolds, SlotsMove, Progresses, RunMoves, IsStuck, DrawsMore, AreFree, AllEnded, distance, held, one_if_same}
+use Rattle.client_order.specs.parts.World.{ClientFits, HasAllDrawn, WorldHolds, SlotsMove, Progresses, RunMoves, IsStuck, DrawsMore, AreFree, AllEnded, distance, held, one_if_same}
 
 -- a sum over clients, where one of them changes
 sum-moves : (f : Client → ℕ) (xs : List Client) (i : ℕ) (x y : Client) → i < length xs → x ≡ slice_index_or xs i x → sum_by f (slice_set xs i y) + f x ≡ sum_by f xs + f y

@@ -2,8 +2,8 @@
 ghost use Rattle.std.specs.Prelude.{◌≡◌, ◌+◌, ◌≤◌, ◌++◌, [], None, length, replicate};
 ghost use Rattle.std.specs.List.{All};
 ghost use Rattle.std.specs.Vec.{vec_len, vec_capacity};
-ghost use Rattle.client_order.specs.World.{AllEnded};
-ghost use Rattle.client_order.specs.Merged.{in_order, in_places, job_number, placed, records_of, AtMostOnce, EachBelow};
+ghost use Rattle.client_order.specs.parts.World.{AllEnded};
+ghost use Rattle.client_order.specs.parts.Merged.{in_order, in_places, job_number, placed, records_of, AtMostOnce, EachBelow};
 
 use client_steps::Client;
 use job_ends::Done;

@@ -3,8 +3,8 @@ ghost use Rattle.std.specs.Prelude.{◌≡◌, ◌+◌, ◌<◌, ◌≤◌, [], 
 ghost use Rattle.std.specs.List.{All};
 ghost use Rattle.std.specs.Vec.{vec_capacity};
 ghost use Rattle.host_slots.specs.Slots.{HasSlots};
-ghost use Rattle.client_order.specs.World.{AreNumberedFrom, WorldHolds};
-ghost use Rattle.client_order.specs.Merged.{AreNew, AllRest, IsEmptyMemo};
+ghost use Rattle.client_order.specs.parts.World.{AreNumberedFrom, WorldHolds};
+ghost use Rattle.client_order.specs.parts.Merged.{AreNew, AllRest, IsEmptyMemo};
 
 use crate::turns::Shared;
 use client_steps::Client;

@@ -2,8 +2,8 @@
 ghost use Rattle.std.specs.Prelude.{◌≡◌, ◌+◌, ◌<◌, ◌^◌, [], ◌∷◌, cond};
 ghost use Rattle.closure_memo.specs.History.{is_look, is_hit, is_new, is_already, is_full};
 ghost use Rattle.client_order.specs.Ran.{IsLegalMemo, counted};
-ghost use Rattle.client_order.specs.World.{seen_memo};
-ghost use Rattle.client_order.specs.Merged.{totals_of};
+ghost use Rattle.client_order.specs.parts.World.{seen_memo};
+ghost use Rattle.client_order.specs.parts.Merged.{totals_of};
 
 use closure_memo::{MemoCall, MemoState, What};
 use sheet_build::SheetMemo;

@@ -6,8 +6,8 @@ ghost use Rattle.job_ends.specs.Outside.{seen_end};
 ghost use Rattle.job_ends.specs.Record.{known};
 ghost use Rattle.client_steps.specs.Phases.{CanWork, NeedHolds};
 ghost use Rattle.client_steps.specs.Ledger.{HasRoom};
-ghost use Rattle.client_order.specs.World.{seen_memo, SlotsMove, LeaseIsIn, Progresses, WorldHolds, RunMoves, HasAllDrawn, AllEnded, AreFree, AreNumberedFrom, IsDrawn, DrawsMore, OthersStay, StrangersStay, TurnKeeps, RunKeeps, distance};
-ghost use Rattle.client_order.specs.Answering.{CanAnswer, Answers, AnswerKeeps};
+ghost use Rattle.client_order.specs.parts.World.{seen_memo, SlotsMove, LeaseIsIn, Progresses, WorldHolds, RunMoves, HasAllDrawn, AllEnded, AreFree, AreNumberedFrom, IsDrawn, DrawsMore, OthersStay, StrangersStay, TurnKeeps, RunKeeps, distance};
+ghost use Rattle.client_order.specs.parts.Answering.{CanAnswer, Answers, AnswerKeeps};
 
 use crate::progress::Progress;
 use client_steps::{Client, Need, Reply};

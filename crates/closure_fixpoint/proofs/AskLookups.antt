@@ -7,7 +7,7 @@ use Rattle.base_types.specs.Members.{Member}
 use Rattle.search_path.specs.Search.{Hit}
 use Rattle.search_path.specs.declared.asking.Ask.{Ask}
 use Rattle.closure_fixpoint.specs.Asked.{HasAnswer, HasNoAnswer}
-use Rattle.closure_fixpoint.specs.AskKeys.{is_same_ask, is_same_ask-Decides}
+use Rattle.closure_fixpoint.specs.parts.AskKeys.{is_same_ask, is_same_ask-Decides}
 
 abbrev Told : Type 0
 Told = List (Ask × Option Hit)

@@ -32,7 +32,7 @@ use Rattle.search_path.specs.Asks.{forced_ask}
 use Rattle.sheet_build.specs.Sheet.{asked_for}
 use Rattle.closure_fixpoint.specs.Closure.{answers_of, computed_ask, LeadsTo, ByName, ByTokens, first_asks, first_hits, first_visits, IsClosedFor}
 use Rattle.closure_fixpoint.specs.Laws.{ClosuresExist}
-use Rattle.closure_fixpoint.specs.Worklist.{found_number, same_visit}
+use Rattle.closure_fixpoint.specs.parts.Worklist.{found_number, same_visit}
 use Rattle.closure_fixpoint.proofs.MemberLaws.{Member-map, Member-flat_map, GivenBy, filter_map-Member, MappedBy, map-Member, flat_map-Member, list_any-by, list_any-from}
 use Rattle.closure_fixpoint.proofs.ClosedLaws.{closure_exists}
 use Rattle.closure_fixpoint.proofs.LeadsLaws.{leads_monotone, led, led_sound, led_whole}

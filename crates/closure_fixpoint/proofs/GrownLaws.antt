@@ -8,7 +8,7 @@ use Rattle.search_path.specs.Search.{Hit}
 use Rattle.search_path.specs.declared.asking.Visit.{Visit}
 use Rattle.sheet_build.specs.Sheet.{SheetData}
 use Rattle.closure_fixpoint.specs.Progress.{Heard, with_sheet, visits_told, PlainAreFound}
-use Rattle.closure_fixpoint.specs.Worklist.{same_visit, with_visit, with_visits, with_hit}
+use Rattle.closure_fixpoint.specs.parts.Worklist.{same_visit, with_visit, with_visits, with_hit}
 use Rattle.closure_fixpoint.proofs.MemberLaws.{Member-append, Member-append_left, Member-append_right, Member-map}
 use Rattle.closure_fixpoint.proofs.WantingLaws.{visit_there}
 

@@ -17,10 +17,10 @@ use Rattle.closure_fixpoint.specs.declared.wanting.Want.TheVariants as want
 use Rattle.closure_fixpoint.specs.Closure.{first_asks, known_name}
 use Rattle.closure_fixpoint.specs.Asked.{HasNoAnswer}
 use Rattle.closure_fixpoint.specs.Progress.{Heard, Keeps, IsTold, sets_told, AtFirst, ByFirst, IsMade, WasSearched, IsEnough, IsAccepted}
-use Rattle.closure_fixpoint.specs.Wanting.{WantsOfAsk, WantsOfEach}
+use Rattle.closure_fixpoint.specs.parts.Wanting.{WantsOfAsk, WantsOfEach}
 use Rattle.closure_fixpoint.specs.Targets.{RefusesNames, WantsOr, IsNextWant, IsRefusedTarget, DoneWithSheets}
 use Rattle.closure_fixpoint.specs.Told.{RefusalMeans}
-use Rattle.closure_fixpoint.specs.Plan.{IsReady, IsMissing}
+use Rattle.closure_fixpoint.specs.parts.Plan.{IsReady, IsMissing}
 use Rattle.closure_fixpoint.proofs.MemberLaws.{Member-append_right}
 use Rattle.closure_fixpoint.proofs.ProgressLaws.{budget_refused, long_refused, presumed_refused}
 

@@ -19,14 +19,14 @@ use Rattle.closure_fixpoint.specs.declared.wanting.Want.{Want}
 use Rattle.closure_fixpoint.specs.declared.wanting.Want.TheVariants as want
 use Rattle.closure_fixpoint.specs.Closure.{with_angle}
 use Rattle.closure_fixpoint.specs.Targets.{heard_of, IsNextWant}
-use Rattle.closure_fixpoint.specs.Plan.{IsReady, IsWhole, PlanMeans}
+use Rattle.closure_fixpoint.specs.parts.Plan.{IsReady, IsWhole, PlanMeans}
 use Rattle.closure_fixpoint.specs.declared.plan.Plan.{Plan}
 use Rattle.closure_fixpoint.specs.declared.plan.Plan.TheVariants as plan
 use Rattle.search_path.specs.Asks.{forced_ask}
 use Rattle.search_path.specs.declared.asking.Form.{Form}
 use Rattle.search_path.specs.declared.asking.Form.TheVariants.{Source, Forced, Quote, Angle, NextQuote, NextAngle}
 use Rattle.closure_fixpoint.specs.Told.{Pending, NothingAsked, OfSearch, OfSheet, Ended, Finished, RefusedBy, Progress, IsRight, RefusalMeans, StandsBy, IsDone, AreNodesOf}
-use Rattle.closure_fixpoint.specs.Worklist.{with_visit, with_visits, with_hit, TellsSome, TellsNoVisit}
+use Rattle.closure_fixpoint.specs.parts.Worklist.{with_visit, with_visits, with_hit, TellsSome, TellsNoVisit}
 use Rattle.closure_fixpoint.specs.Naming.{Follows}
 use Rattle.closure_fixpoint.proofs.MemberLaws.{MappedBy, map-Member}
 use Rattle.closure_fixpoint.proofs.ProgressLaws.{keeps_nothing, done_means}

@@ -12,7 +12,7 @@ use Rattle.sheet_build.specs.Sheet.{SheetData, ComputedAsk}
 use Rattle.closure_fixpoint.specs.Closure.{computed_ask, known_name}
 use Rattle.closure_fixpoint.specs.Progress.{Heard, sets_told, IsTold, MayTold, ByComputed, ForTarget}
 use Rattle.closure_fixpoint.specs.Asked.{HasNoAnswer}
-use Rattle.closure_fixpoint.specs.Wanting.{named_ask, WantsOfAsk, WantsOfHeaders}
+use Rattle.closure_fixpoint.specs.parts.Wanting.{named_ask, WantsOfAsk, WantsOfHeaders}
 use Rattle.closure_fixpoint.specs.Targets.{heard_of, AreNames, NamesSeen, IsNextWant, IsDoneWith, WantsOr}
 use Rattle.std.specs.Prelude.{Vec}
 use Rattle.std.specs.declared.alloc.Global.{Global}

@@ -7,8 +7,8 @@ use Rattle.search_path.specs.declared.asking.Visit.{Visit}
 use Rattle.search_path.specs.declared.asking.Ask.{Ask}
 use Rattle.closure_fixpoint.specs.declared.wanting.Want.{Want}
 use Rattle.closure_fixpoint.specs.declared.wanting.Want.TheVariants as want
-use Rattle.closure_fixpoint.specs.Worklist.{same_visit}
-use Rattle.closure_fixpoint.specs.Wanting.{WantsOfFile, WantsOfHit, WantsOfAsk}
+use Rattle.closure_fixpoint.specs.parts.Worklist.{same_visit}
+use Rattle.closure_fixpoint.specs.parts.Wanting.{WantsOfFile, WantsOfHit, WantsOfAsk}
 use Rattle.closure_fixpoint.proofs.MemberLaws.{list_any-from, list_any-by}
 use Rattle.closure_fixpoint.proofs.Bounds.{same_visit-Decides}
 

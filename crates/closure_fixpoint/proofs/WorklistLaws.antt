@@ -10,7 +10,7 @@ use Rattle.search_path.specs.declared.asking.Ask.{Ask}
 use Rattle.job_words.specs.JobOf.{JobData}
 use Rattle.sheet_build.specs.Sheet.{SheetData}
 use Rattle.closure_fixpoint.specs.Progress.{Heard, with_search, with_sheet, IsWanted, AtFirst, ForTarget, IsDue, ByPlain, Keeps}
-use Rattle.closure_fixpoint.specs.Worklist.{same_visit, with_visit, with_visits, TellsSome, with_hit, TellsNoVisit}
+use Rattle.closure_fixpoint.specs.parts.Worklist.{same_visit, with_visit, with_visits, TellsSome, with_hit, TellsNoVisit}
 use Rattle.closure_fixpoint.proofs.MemberLaws.{Member-append_right, MappedBy, map-Member, list_any-from}
 use Rattle.closure_fixpoint.proofs.Bounds.{same_visit-Decides}
 use Rattle.closure_fixpoint.proofs.ProgressLaws.{keeps_search, keeps_sheet, keeps_found}

@@ -6,21 +6,18 @@
 --     Progress     what an analysis was told so far, and what its answers mean
 --     Told         what is asked for next, and what is told
 --     Requested    what is made of its end: the request of a closure
---     Seen, Worklist, Asked, AskKeys, Wanting, Targets, Naming, Plan, Gathering, Driving      helpers of the code
+--     Asked, Targets, Naming, Gathering, Driving      helpers of the code
+--     parts                                           helpers of contracts, on which none of these rests
 pub mod Closed
 pub mod Closure
 pub mod Analysis
 pub mod Laws
 pub mod Progress
 pub mod Told
-pub mod Seen
-pub mod Worklist
 pub mod Asked
-pub mod AskKeys
-pub mod Wanting
 pub mod Targets
 pub mod Naming
-pub mod Plan
 pub mod Gathering
 pub mod Driving
 pub mod Requested
+pub mod parts

@@ -7,8 +7,8 @@
 // at every closed list. The state's meaning is `Heard` in specs/Progress.antt.
 ghost use Rattle.std.specs.Prelude.{◌≡◌, ◌<◌, length, IfOk, IfSome, IfNone, IsTrue, IsFalse, Bool, None, Some};
 ghost use Rattle.closure_fixpoint.specs.Progress.{IsEnough, IsAccepted};
-ghost use Rattle.closure_fixpoint.specs.Seen.{end_of};
-ghost use Rattle.closure_fixpoint.specs.Plan.{PlanMeans, AsksNext, IsWhole};
+ghost use Rattle.closure_fixpoint.specs.parts.Seen.{end_of};
+ghost use Rattle.closure_fixpoint.specs.parts.Plan.{PlanMeans, AsksNext, IsWhole};
 ghost use Rattle.closure_fixpoint.specs.Targets.{heard_of, IsNextWant};
 ghost use Rattle.search_path.specs.declared.asking.Visit.{Visit as VisitSeen};
 ghost use Rattle.closure_fixpoint.specs.Told.{IsBegun, NextMeans, PutsSearch, PutsSheet, PutsLarge, OfSearch, OfSheet, Ended, Finished, Says, SaysLarge, RefusalMeans, IsRefused, HasNoMemory};
@@ -83,7 +83,7 @@ pub struct Fixpoint {
 impl Model for Fixpoint {
     ghost use Rattle.closure_fixpoint.specs.Progress.{Heard};
     ghost use Rattle.closure_fixpoint.specs.Told.{Progress, StandsBy};
-    ghost use Rattle.closure_fixpoint.specs.Seen.{pending_of, ended_of};
+    ghost use Rattle.closure_fixpoint.specs.parts.Seen.{pending_of, ended_of};
 
     ghost Value = { Progress };
 

@@ -3,7 +3,7 @@ ghost use Rattle.std.specs.Prelude.{◌<◌, ◌≤◌, [], length, IfOk, OnOk, 
 ghost use Rattle.search_path.specs.Asks.{source_ask};
 ghost use Rattle.closure_fixpoint.specs.Naming.{Follows};
 ghost use Rattle.closure_fixpoint.specs.Progress.{WasSearched};
-ghost use Rattle.closure_fixpoint.specs.Plan.{IsReady, IsMissing, PlanMeans};
+ghost use Rattle.closure_fixpoint.specs.parts.Plan.{IsReady, IsMissing, PlanMeans};
 ghost use Rattle.closure_fixpoint.specs.Targets.{heard_of};
 
 use crate::Refusal;

@@ -2,7 +2,7 @@
 ghost use Rattle.std.specs.Prelude.{◌≡◌};
 ghost use Rattle.std.specs.Cmp.{partial_equiv_from_equiv};
 ghost use Rattle.std.proofs.Common.{ap};
-ghost use Rattle.closure_fixpoint.specs.AskKeys.{form_number, is_same_ask, is_same_ask-Decides, same_ask_equiv, ask_writes};
+ghost use Rattle.closure_fixpoint.specs.parts.AskKeys.{form_number, is_same_ask, is_same_ask-Decides, same_ask_equiv, ask_writes};
 
 use indexmap::IndexMap;
 use search_path::{Ask, Form, Visit};

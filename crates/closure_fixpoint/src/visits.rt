@@ -22,7 +22,7 @@ impl Model for Visits {
 impl Visits {
     ghost use Rattle.std.specs.Prelude.{◌≡◌, [], length, OnOk, OnErr, option_map};
     ghost use Rattle.std.specs.List.{list_any, slice_get};
-    ghost use Rattle.closure_fixpoint.specs.Worklist.{same_visit, with_visit};
+    ghost use Rattle.closure_fixpoint.specs.parts.Worklist.{same_visit, with_visit};
 
     // No visits.
     pub fn new(alloc: Global) -> Visits

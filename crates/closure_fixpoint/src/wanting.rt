@@ -1,6 +1,6 @@
 // What an analysis wants next.
 ghost use Rattle.std.specs.Prelude.{◌≡◌, ◌∷◌, map, IfOk, IfSome, Some};
-ghost use Rattle.closure_fixpoint.specs.Wanting.{named_ask, WantsOfFile, WantsOfHit, WantsOfAsk, WantsOfHeaders, WantsOfEach};
+ghost use Rattle.closure_fixpoint.specs.parts.Wanting.{named_ask, WantsOfFile, WantsOfHit, WantsOfAsk, WantsOfHeaders, WantsOfEach};
 ghost use Rattle.closure_fixpoint.specs.Closure.{with_angle, first_asks};
 ghost use Rattle.search_path.specs.Asks.{forced_ask};
 

@@ -1,7 +1,7 @@
 // What is told to an analysis, and the visits that are found by it.
 ghost use Rattle.std.specs.Prelude.{◌≡◌, ◌<◌, ◌++◌, ◌∷◌, [], Some, length, map, IfOk, OnOk, OnErr};
 ghost use Rattle.std.specs.List.{slice_get};
-ghost use Rattle.closure_fixpoint.specs.Worklist.{with_visits, AddsSome, TellsSome, visit_in, with_found, with_hit, TellsNoVisit};
+ghost use Rattle.closure_fixpoint.specs.parts.Worklist.{with_visits, AddsSome, TellsSome, visit_in, with_found, with_hit, TellsNoVisit};
 ghost use Rattle.closure_fixpoint.specs.Asked.{HasNoAnswer};
 
 use crate::searches::Searches;
@@ -12,7 +12,7 @@ use std::alloc::{AllocError, Global};
 use tree_model::Located;
 
 // Adds those visits of files that weren't found so far.
-#[tactic(auto, unfolding(crate::specs::Worklist::with_visits))]
+#[tactic(auto, unfolding(crate::specs::parts::Worklist::with_visits))]
 pub fn add_visits(
     alloc: Global,
     found: &mut Visits,

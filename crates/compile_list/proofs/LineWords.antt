@@ -7,7 +7,7 @@ use Rattle.std.proofs.lemmas.List.{take_all, take_at}
 use Rattle.std.proofs.lemmas.List.Elements.{filter-append}
 use Rattle.tree_model.specs.Paths.{Text}
 use Rattle.compile_list.specs.Listed.{part_bytes, unit_words, units}
-use Rattle.compile_list.specs.Steps.{word_in}
+use Rattle.compile_list.specs.parts.Steps.{word_in}
 
 -- the units of a word's bytes
 abbrev pub of_word : Text → List (Option ℕ)

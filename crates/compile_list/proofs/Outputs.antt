@@ -7,7 +7,7 @@ use Rattle.std.proofs.lemmas.List.Folds.{list_any-append}
 use Rattle.tree_model.specs.Paths.{Text}
 use Rattle.job_words.specs.declared.job.Job.{Job}
 use Rattle.compile_list.specs.Listed.{is_taken}
-use Rattle.compile_list.specs.Steps.{HasOutputs}
+use Rattle.compile_list.specs.parts.Steps.{HasOutputs}
 
 either : (a b : Bool) → cond a true b ≡ (b || (a || false))
 either true true = refl

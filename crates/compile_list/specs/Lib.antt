@@ -1,5 +1,5 @@
 -- The compile list of the top call.
 --     Listed     the jobs that its bytes ask for
---     Steps      what reading it comes to
+--     parts      helpers of contracts, on which none of these rests
 pub mod Listed
-pub mod Steps
+pub mod parts

@@ -3,7 +3,7 @@ ghost use Rattle.std.specs.Prelude.{◌≡◌, ◌<◌, ◌≤◌, ◌⊎◌, �
 ghost use Rattle.std.specs.List.{AllByRecursion};
 ghost use Rattle.job_words.specs.Words.{IsJob};
 ghost use Rattle.compile_list.specs.Listed.{begins_comment, with_line, with_read};
-ghost use Rattle.compile_list.specs.Steps.{HasOutputs};
+ghost use Rattle.compile_list.specs.parts.Steps.{HasOutputs};
 
 use crate::line::words_of_line;
 use crate::refused::ListWhy;

@@ -2,7 +2,7 @@
 ghost use Rattle.std.specs.Prelude.{◌≡◌, ◌≤◌, ◌⊎◌, ℕ, List, [], ◌∷◌, ◌++◌, length, take, Option, None, Some, IfOk, IfErr, OnOk, MatchOption};
 ghost use Rattle.std.specs.Option.{option_map};
 ghost use Rattle.compile_list.specs.Listed.{is_blank, line_words, units, unit_of, with_unit};
-ghost use Rattle.compile_list.specs.Steps.{kept, word_in};
+ghost use Rattle.compile_list.specs.parts.Steps.{kept, word_in};
 
 use crate::refused::ListWhy;
 use base_types::{Bytes, List};

@@ -1,5 +1,5 @@
 // The jobs that the list gives.
-ghost use Rattle.compile_list.specs.Steps.{ListGives};
+ghost use Rattle.compile_list.specs.parts.Steps.{ListGives};
 
 use crate::bytes::{ListStop, read_all};
 use crate::lists::{LIST_LIMIT, long_lists_are_refused, read_list};

@@ -11,7 +11,7 @@ use Rattle.cond_eval.specs.declared.seen.Seen.{Seen}
 use Rattle.cond_eval.specs.Making.{Making}
 use Rattle.cond_eval.specs.Expressions.{Expression, constant, enclosed, unary, binary, conditional, depth, is_unsigned, bits_of}
 use Rattle.cond_eval.specs.Reading.{Operand, Progress, due, read, wrong, binding_of_open, completed, ended, prefix_of, at_colon, at_closing, at_prefix, at_due, at_read, next_lexeme, read_on, alone, whole_of, made_of, open_behind, binding, expressions}
-use Rattle.cond_eval.specs.Seen.{values, seen_of, seen_enclosed, seen_unary, seen_binary, seen_conditional, capped, deeper}
+use Rattle.cond_eval.specs.parts.Seen.{values, seen_of, seen_enclosed, seen_unary, seen_binary, seen_conditional, capped, deeper}
 
 -- one way of making follows another
 pub record Follows (A B : Type 0) (m : Making A) (n : Making B) (h : A → B) : Type 0 where

@@ -10,7 +10,7 @@ use Rattle.cond_eval.specs.Expressions.{Expression, depth}
 use Rattle.cond_eval.specs.Reading.{made_of, spelled_expression}
 use Rattle.cond_eval.specs.Lexemes.{lexeme_of}
 use Rattle.cond_eval.specs.Value.{value_in, Refuses, lexemes_of, in_front}
-use Rattle.cond_eval.specs.Seen.{values, seen_of, judged, IsNone, behind}
+use Rattle.cond_eval.specs.parts.Seen.{values, seen_of, judged, IsNone, behind}
 use Rattle.cond_eval.proofs.Making.{seen-made}
 
 -- a depth that is kept is too deep where it is

@@ -7,7 +7,7 @@
 --     Reading        the expression that lexemes spell
 --     Grammar        the grammar as a relation, and that what is read is what it spells
 --     Value          all of it together, with the first error
---     Seen           what the code keeps of an expression
+--     parts          helpers of contracts, on which none of these rests
 pub mod Constants
 pub mod Lexemes
 pub mod Arithmetic
@@ -16,4 +16,4 @@ pub mod Expressions
 pub mod Reading
 pub mod Grammar
 pub mod Value
-pub mod Seen
+pub mod parts

@@ -2,7 +2,7 @@
 ghost use Rattle.std.specs.Prelude.{◌≡◌, ◌≤◌, ◌<◌, ◌⊎◌, ◌∷◌, [], ℕ, None, Some, MatchOption, IfOk, IfErr};
 ghost use Rattle.std.specs.VecDeque.{deque_len};
 ghost use Rattle.cond_eval.specs.Reading.{binding, binding_of_open, completed, ended, prefix_of, at_colon, at_closing, at_prefix, at_due, at_read, next_lexeme, read_on, whole_of, alone, made_of, due, read, wrong};
-ghost use Rattle.cond_eval.specs.Seen.{values, progress_of, ends_first, IsWrong, IsNone};
+ghost use Rattle.cond_eval.specs.parts.Seen.{values, progress_of, ends_first, IsWrong, IsNone};
 
 use crate::CondError;
 use crate::lexeme::Lexeme;

@@ -2,7 +2,7 @@
 ghost use Rattle.std.specs.Prelude.{◌≡◌, ◌==◌, not, max, option_map, option_and_then};
 ghost use Rattle.cond_eval.specs.Arithmetic.{unary_bits, binary_bits, truth};
 ghost use Rattle.cond_eval.specs.Expressions.{logical_and, logical_or, one_of, evaluated};
-ghost use Rattle.cond_eval.specs.Seen.{seen_constant, seen_enclosed, seen_unary, seen_binary, seen_conditional, deeper, judged};
+ghost use Rattle.cond_eval.specs.parts.Seen.{seen_constant, seen_enclosed, seen_unary, seen_binary, seen_conditional, deeper, judged};
 
 use crate::arithmetic::{binary_bits, binary_unsigned, unary_bits, unary_unsigned};
 use crate::operator::{Binary, Unary};

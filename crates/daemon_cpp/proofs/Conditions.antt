@@ -25,7 +25,7 @@ use Rattle.daemon_cpp.specs.declared.stop.Stop.{Stop}
 use Rattle.daemon_cpp.specs.declared.stop.Stop.TheVariants as stop
 use Rattle.daemon_cpp.specs.Diagnostics.{Complaint, Diagnostic}
 use Rattle.daemon_cpp.specs.Prep.{World, Here, State, Reached, Gives, Ends, reach, refuse, touch, visit_of, is_defined, with_defined, zeroed, truth_of, probe_free, defined_answered, expanded_condition, answered_condition, probed, probe_named, probe, answer_parts, parts_condition, condition, name_condition, directive_test, piece_test, answer_token}
-use Rattle.daemon_cpp.specs.Showing.{Shows, EndsWith, Leads, Refuses, TellsNothing, part_answered, answers_behind, Continues}
+use Rattle.daemon_cpp.specs.parts.Showing.{Shows, EndsWith, Leads, Refuses, TellsNothing, part_answered, answers_behind, Continues}
 use Rattle.daemon_cpp.proofs.Steps.{at-line, leads-gives, leads-refuse, leads-then, leads-stop, leads-same}
 
 -- a diagnostic at a line of the file that is read

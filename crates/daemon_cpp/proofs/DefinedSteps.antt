@@ -6,7 +6,7 @@ use Rattle.pp_tokens.specs.declared.Token.{Token}
 use Rattle.tree_model.specs.Paths.{Text}
 use Rattle.daemon_cpp.specs.declared.defined.Sort.{Sort as SortRead}
 use Rattle.daemon_cpp.specs.Prep.{Sort, defining, naming, opening_mark, closing_mark, plain, sort_of, DefinedStage, outside, named_next, in_parentheses, closing_next, answer_token, token_more, defined_before, defined_from, at_line_end, with_defined}
-use Rattle.daemon_cpp.specs.Showing.{sort_told, is_defining, is_name_sort, is_opening_sort, is_closing_sort, answered_behind}
+use Rattle.daemon_cpp.specs.parts.Showing.{sort_told, is_defining, is_name_sort, is_opening_sort, is_closing_sort, answered_behind}
 
 -- tokens, and those behind them
 abbrev pub behind : List Token → Option (List Token) → Option (List Token)

@@ -11,7 +11,7 @@ use Rattle.daemon_cpp.specs.declared.kept.Kept.{Kept}
 use Rattle.daemon_cpp.specs.declared.stop.Stop.{Stop}
 use Rattle.daemon_cpp.specs.declared.stop.Stop.TheVariants as stop
 use Rattle.daemon_cpp.specs.Prep.{Here, State, Step, Go, with_macro, with_word, with_words, define_step, undef_step}
-use Rattle.daemon_cpp.specs.Showing.{Shows, Goes}
+use Rattle.daemon_cpp.specs.parts.Showing.{Shows, Goes}
 use Rattle.job_words.specs.declared.MacroWord.{MacroWord}
 use Rattle.std.proofs.lemmas.List.{drop_more, drop_all}
 

@@ -8,7 +8,7 @@ use Rattle.directive_scan.specs.declared.Directive.{Directive}
 use Rattle.directive_scan.specs.declared.Piece.{Piece}
 use Rattle.directive_scan.specs.declared.Piece.TheVariants.{Run, Line}
 use Rattle.directive_scan.specs.Directives.{directive_of, onto_run, line_before, pieces}
-use Rattle.daemon_cpp.specs.Reading.{token_count}
+use Rattle.daemon_cpp.specs.parts.Reading.{token_count}
 
 -- how many runs stand first: a line of text goes on with one
 abbrev first_runs : List Piece → ℕ

@@ -3,7 +3,7 @@ use Rattle.std.proofs.Common.{◌≡◌, ℕ, zero, suc, Bool, true, false, List
 use Rattle.directive_scan.specs.declared.Piece.{Piece}
 use Rattle.directive_scan.specs.Groups.{Role, single, opening, elif_line, else_line, endif_line, role_of, Group, nothing, one, conditional, Branches, ended, branch, group_pieces, branches_pieces, IsGroup, IsBranches}
 use Rattle.daemon_cpp.specs.Prep.{World, State, Step, Go, Stop, and_then, Reached, Gives, Ends, with_value, Entering, piece_step, piece_test, group_or, run_group, run_branches}
-use Rattle.daemon_cpp.specs.Reading.{Stage, reading, seeking, passing, stage_of, staged, run_flat, skipped, skip_piece}
+use Rattle.daemon_cpp.specs.parts.Reading.{Stage, reading, seeking, passing, stage_of, staged, run_flat, skipped, skip_piece}
 
 -- one step after another
 

@@ -7,9 +7,9 @@ use Rattle.search_path.specs.Search.{Hit}
 use Rattle.daemon_cpp.specs.declared.outcome.Outcome.TheVariants as outcome
 use Rattle.daemon_cpp.specs.Diagnostics.{Diagnostic, TooNested}
 use Rattle.daemon_cpp.specs.Prep.{World, State, Step, Go, Stop as Stopped, and_then, complain, open_file, enter_file, back_in, depth_limit}
-use Rattle.daemon_cpp.specs.Reading.{Frame, run_flat, reading, entering_at, resumed}
-use Rattle.daemon_cpp.specs.Showing.{StopsWith}
-use Rattle.daemon_cpp.specs.Files.{After, told_of, ended_told, told_behind, run_rest}
+use Rattle.daemon_cpp.specs.parts.Reading.{Frame, run_flat, reading, entering_at, resumed}
+use Rattle.daemon_cpp.specs.parts.Showing.{StopsWith}
+use Rattle.daemon_cpp.specs.parts.Files.{After, told_of, ended_told, told_behind, run_rest}
 
 -- steps one after another
 pub then-go : (step : Step) → and_then (λ after. Go after) step ≡ step

@@ -13,7 +13,7 @@ use Rattle.daemon_cpp.specs.declared.stop.Stop.{Stop}
 use Rattle.daemon_cpp.specs.declared.stop.Stop.TheVariants as stop
 use Rattle.daemon_cpp.specs.Diagnostics.{Diagnostic, Complaint}
 use Rattle.daemon_cpp.specs.Prep.{World, Here, State, Step, Stop as Stopped, Reached, Gives, Entering, with_value, visit_of, touch, at_line, header_reached, unless_marked, found_file, include_named}
-use Rattle.daemon_cpp.specs.Showing.{Shows, StopsWith, Refuses, Leads, Includes, entered_unless, TellsNothing}
+use Rattle.daemon_cpp.specs.parts.Showing.{Shows, StopsWith, Refuses, Leads, Includes, entered_unless, TellsNothing}
 use Rattle.daemon_cpp.proofs.Steps.{leads-gives, ends-step, at-line}
 
 -- a header name as it is written

@@ -17,7 +17,7 @@ use Rattle.daemon_cpp.specs.declared.outcome.Outcome.TheVariants as outcome
 use Rattle.daemon_cpp.specs.declared.cpp.Reader.{Reader}
 use Rattle.daemon_cpp.specs.Diagnostics.{NoSource, TextLimit, diagnostic_text}
 use Rattle.daemon_cpp.specs.Prep.{World, Step, world_of, and_then, first_state, run_forced, enter_file, depth_limit, open_source, run_job, prep, outcome_over}
-use Rattle.daemon_cpp.specs.Files.{IsShown, ComesTo, told_of, source_behind, source_told}
+use Rattle.daemon_cpp.specs.parts.Files.{IsShown, ComesTo, told_of, source_behind, source_told}
 use Rattle.daemon_cpp.proofs.Limits.{within, past}
 
 -- all files of a job, behind a step

@@ -8,7 +8,7 @@ use Rattle.daemon_cpp.specs.declared.line.NewLine.{NewLine}
 use Rattle.daemon_cpp.specs.declared.stop.Stop.{Stop}
 use Rattle.daemon_cpp.specs.Diagnostics.{Diagnostic, BadLine}
 use Rattle.daemon_cpp.specs.Prep.{Here, Reached, Gives, Ends, reach, new_line, line_told, line_written, line_read, expand_line}
-use Rattle.daemon_cpp.specs.Showing.{Leads, TellsLine}
+use Rattle.daemon_cpp.specs.parts.Showing.{Leads, TellsLine}
 use Rattle.daemon_cpp.proofs.Steps.{at-line, leads-gives, leads-refuse, leads-then, leads-same}
 use Rattle.std.specs.List.{list_all}
 use Rattle.std.proofs.lemmas.List.{drop_more, drop_all}

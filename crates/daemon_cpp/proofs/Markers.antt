@@ -8,8 +8,8 @@ use Rattle.daemon_cpp.specs.declared.stop.Stop.{Stop}
 use Rattle.daemon_cpp.specs.declared.stop.Stop.TheVariants as stop
 use Rattle.daemon_cpp.specs.Diagnostics.{TextLimit, diagnostic_text}
 use Rattle.daemon_cpp.specs.Prep.{Here, State, Step, say}
-use Rattle.daemon_cpp.specs.Showing.{Shows, StopsWith, Refuses, Goes}
-use Rattle.daemon_cpp.specs.Files.{Turns}
+use Rattle.daemon_cpp.specs.parts.Showing.{Shows, StopsWith, Refuses, Goes}
+use Rattle.daemon_cpp.specs.parts.Files.{Turns}
 use Rattle.daemon_cpp.proofs.Limits.{within, say-one, say-full}
 
 -- a state with another output, and in another file

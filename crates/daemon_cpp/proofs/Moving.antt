@@ -17,7 +17,7 @@ use Rattle.daemon_cpp.specs.declared.stop.Stop.{Stop}
 use Rattle.daemon_cpp.specs.declared.stop.Stop.TheVariants as stop
 use Rattle.daemon_cpp.specs.Diagnostics.{Diagnostic, TextLimit}
 use Rattle.daemon_cpp.specs.Prep.{World, Here, State, Step, Go, Stop as Stopped, Entering, with_value, of_job, limited, say, line_read, line_set, line_step, directive_step, piece_step}
-use Rattle.daemon_cpp.specs.Showing.{Shows, StopsWith, Refuses, Leads, Goes, Moves, onward}
+use Rattle.daemon_cpp.specs.parts.Showing.{Shows, StopsWith, Refuses, Leads, Goes, Moves, onward}
 use Rattle.daemon_cpp.proofs.Steps.{of-job}
 
 -- a step that is done leads to the next piece

@@ -16,8 +16,8 @@ use Rattle.daemon_cpp.specs.declared.stop.Stop.{Stop}
 use Rattle.daemon_cpp.specs.declared.stop.Stop.TheVariants as stop
 use Rattle.daemon_cpp.specs.Diagnostics.{Diagnostic, TooLarge, WorkLimit}
 use Rattle.daemon_cpp.specs.Prep.{World, Here, Entering, State, Step, Go, Stop as Stopped, and_then, say, here_at, complain, complain_of_job, malformed_step, run_group, run_outline, run_file, opening_cost, open_file}
-use Rattle.daemon_cpp.specs.Reading.{run_flat, reading, run_body, malformed_told, work_after}
-use Rattle.daemon_cpp.specs.Showing.{Shows, StopsWith, Refuses, Goes, Opens, Begins, TellsNothing}
+use Rattle.daemon_cpp.specs.parts.Reading.{run_flat, reading, run_body, malformed_told, work_after}
+use Rattle.daemon_cpp.specs.parts.Showing.{Shows, StopsWith, Refuses, Goes, Opens, Begins, TellsNothing}
 use Rattle.daemon_cpp.proofs.Steps.{stops-on}
 use Rattle.daemon_cpp.proofs.Flat.{read-file}
 

@@ -20,9 +20,9 @@ use Rattle.daemon_cpp.specs.declared.cpp.Left.{Left}
 use Rattle.daemon_cpp.specs.declared.cpp.Reader.{Reader}
 use Rattle.daemon_cpp.specs.Diagnostics.{TooNested, diagnostic_text}
 use Rattle.daemon_cpp.specs.Prep.{World, Here, Entering, State, Step, Go, Stop as Stopped, and_then, with_value, piece_step, piece_test, found_file, complain, open_file, enter_file, back_in, depth_limit, run_forced, open_source, here_at}
-use Rattle.daemon_cpp.specs.Reading.{Frame, run_flat, staged, stage_of, reading, seeking, entering_at}
-use Rattle.daemon_cpp.specs.Showing.{Shows, StopsWith, Refuses, Leads, Moves, Seeks, Includes, Opens}
-use Rattle.daemon_cpp.specs.Files.{After, here_of, rest_of, frame_of, frames_of, told_of, told_behind, run_rest, LeadsTo, StepsTo, EntersTo, ComesTo, opened_file, GoesInto, Brings, IsEnd, Turns, AllRead, work_ahead, source_behind, behind_piece, Follows, NamedTo, InsideTo}
+use Rattle.daemon_cpp.specs.parts.Reading.{Frame, run_flat, staged, stage_of, reading, seeking, entering_at}
+use Rattle.daemon_cpp.specs.parts.Showing.{Shows, StopsWith, Refuses, Leads, Moves, Seeks, Includes, Opens}
+use Rattle.daemon_cpp.specs.parts.Files.{After, here_of, rest_of, frame_of, frames_of, told_of, told_behind, run_rest, LeadsTo, StepsTo, EntersTo, ComesTo, opened_file, GoesInto, Brings, IsEnd, Turns, AllRead, work_ahead, source_behind, behind_piece, Follows, NamedTo, InsideTo}
 use Rattle.daemon_cpp.proofs.Steps.{stops-on, ends-step}
 use Rattle.daemon_cpp.proofs.Skipping.{filler}
 use Rattle.daemon_cpp.proofs.Flat.{at-role}

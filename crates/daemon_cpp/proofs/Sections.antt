@@ -8,8 +8,8 @@ use Rattle.daemon_cpp.specs.declared.kept.Kept.{Kept}
 use Rattle.daemon_cpp.specs.declared.stop.Stop.{Stop}
 use Rattle.daemon_cpp.specs.declared.stop.Stop.TheVariants as stop
 use Rattle.daemon_cpp.specs.Prep.{World, Entering, Here, State, Step, with_value, piece_test}
-use Rattle.daemon_cpp.specs.Reading.{Stage, run_flat, reading, seeking, passing, stage_of, skipped, skip_piece, is_endif}
-use Rattle.daemon_cpp.specs.Showing.{Leads, Seeks, SeeksLine, GoesOnAt, StopsWith}
+use Rattle.daemon_cpp.specs.parts.Reading.{Stage, run_flat, reading, seeking, passing, stage_of, skipped, skip_piece, is_endif}
+use Rattle.daemon_cpp.specs.parts.Showing.{Leads, Seeks, SeeksLine, GoesOnAt, StopsWith}
 use Rattle.daemon_cpp.proofs.Flat.{at-role, seek-skipped, pass-skipped}
 use Rattle.daemon_cpp.proofs.Skipping.{filler}
 use Rattle.daemon_cpp.proofs.Steps.{ends-step}

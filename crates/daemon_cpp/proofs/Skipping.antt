@@ -4,7 +4,7 @@ use Rattle.std.proofs.lemmas.List.{drop_all, drop_more}
 use Rattle.directive_scan.specs.declared.Piece.{Piece}
 use Rattle.directive_scan.specs.declared.Piece.TheVariants.{Run}
 use Rattle.directive_scan.specs.Groups.{Role, single, opening, elif_line, else_line, endif_line, role_of}
-use Rattle.daemon_cpp.specs.Reading.{skipped, depth_behind}
+use Rattle.daemon_cpp.specs.parts.Reading.{skipped, depth_behind}
 
 -- a piece for where none is
 pub filler : Piece

@@ -6,7 +6,7 @@ use Rattle.daemon_cpp.specs.declared.stop.Stop.{Stop}
 use Rattle.daemon_cpp.specs.declared.stop.Stop.TheVariants as stop
 use Rattle.daemon_cpp.specs.Diagnostics.{Complaint, Diagnostic}
 use Rattle.daemon_cpp.specs.Prep.{Here, State, Step, Go, Stop as Stopped, Reached, Gives, Ends, reach, with_value, and_then, at_line, of_job}
-use Rattle.daemon_cpp.specs.Showing.{Shows, EndsWith, StopsWith, Refuses, Leads, Goes}
+use Rattle.daemon_cpp.specs.parts.Showing.{Shows, EndsWith, StopsWith, Refuses, Leads, Goes}
 
 -- a diagnostic at a line of the file that is read, and at the source as a whole
 pub at-line : (kept : Kept) (main : Path) (file : Here) (at : ℕ) (complaint : Complaint) (state : State) → Shows kept main file state →

@@ -21,7 +21,7 @@ use Rattle.daemon_cpp.specs.declared.kept.Kept.{Kept}
 use Rattle.daemon_cpp.specs.declared.kept.Places.{Places}
 use Rattle.daemon_cpp.specs.Prep as prep
 use Rattle.daemon_cpp.specs.Prep.{Here, State, Go, Gives, limited, tokens_of, expanded_in, line_expanded, expand_line, text_expanded, text_step}
-use Rattle.daemon_cpp.specs.Showing.{Shows, here_seen, Leads, Goes, laid_from, IsTooLong, IsOkay}
+use Rattle.daemon_cpp.specs.parts.Showing.{Shows, here_seen, Leads, Goes, laid_from, IsTooLong, IsOkay}
 
 -- ---- an output that grows ----
 

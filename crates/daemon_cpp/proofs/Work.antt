@@ -5,7 +5,7 @@ use Rattle.std.specs.Option.{option_map_or}
 use Rattle.std.proofs.lemmas.Bool.{le-leb, lt-leb}
 use Rattle.std.proofs.lemmas.List.{drop_all}
 use Rattle.pp_tokens.specs.declared.Token.{Token}
-use Rattle.daemon_cpp.specs.Reading.{token_count, work_after}
+use Rattle.daemon_cpp.specs.parts.Reading.{token_count, work_after}
 
 pub enough : (cost left : ℕ) → cost ≤ left → work_after cost left ≡ Some (left - cost)
 enough cost left below = rw (le-leb cost left below) refl

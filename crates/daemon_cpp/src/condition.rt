@@ -11,7 +11,7 @@ ghost use Rattle.cond_eval.specs.Value.{value_of};
 ghost use Rattle.search_path.specs.Asks.{header_ask};
 ghost use Rattle.daemon_cpp.specs.declared.kept.Kept.{Kept};
 ghost use Rattle.daemon_cpp.specs.Prep.{world_of, piece_test, directive_test, condition, parts_condition, answer_parts, probe, probe_named, answered_condition, expanded_condition, probe_free, truth_of, cond_complaint, name_condition};
-ghost use Rattle.daemon_cpp.specs.Showing.{Leads, here_seen, Refuses, part_answered, TellsNothing};
+ghost use Rattle.daemon_cpp.specs.parts.Showing.{Leads, here_seen, Refuses, part_answered, TellsNothing};
 
 use crate::defined::{answer_token, with_defined, zeroed};
 use crate::diagnostic::Problem;

@@ -3,7 +3,7 @@ ghost use Rattle.std.specs.Prelude.{◌≡◌, ◌≤◌, Some, OnOk, IfErr, IsE
 ghost use Rattle.macro_defs.specs.Defining.{defined_by};
 ghost use Rattle.macro_defs.specs.Table.{Sets};
 ghost use Rattle.daemon_cpp.specs.Prep.{define_step, undef_step};
-ghost use Rattle.daemon_cpp.specs.Showing.{Goes, here_seen, TellsDefinition};
+ghost use Rattle.daemon_cpp.specs.parts.Showing.{Goes, here_seen, TellsDefinition};
 
 use crate::diagnostic::Problem;
 use crate::kept::{Kept, Places};

@@ -5,7 +5,7 @@ ghost use Rattle.pp_tokens.specs.declared.Kind.TheVariants.{Number};
 ghost use Rattle.pp_tokens.specs.Marks.{is_word};
 ghost use Rattle.macro_defs.specs.Table.{lookup};
 ghost use Rattle.daemon_cpp.specs.Prep.{is_defined, with_defined, zeroed, answer_token, sort_of, DefinedStage, outside, named_next, in_parentheses, closing_next, at_line_end};
-ghost use Rattle.daemon_cpp.specs.Showing.{sort_told, is_defining, is_name_sort, is_opening_sort, is_closing_sort, stage_told, answered_behind, stage_reached};
+ghost use Rattle.daemon_cpp.specs.parts.Showing.{sort_told, is_defining, is_name_sort, is_opening_sort, is_closing_sort, stage_told, answered_behind, stage_reached};
 
 use base_types::{Bytes, List};
 use macro_defs::MacroTable;

@@ -3,7 +3,7 @@ ghost use Rattle.std.specs.Prelude.{◌≡◌, ◌≤◌, ◌++◌, ◌∷◌, [
 ghost use Rattle.std.specs.List.{flat_map};
 ghost use Rattle.std.specs.Fmt.{decimal};
 ghost use Rattle.daemon_cpp.specs.Diagnostics.{NotFound, ErrorLine, BadPaste, quoted, branch_name, error_token, diagnostic_text, words_of};
-ghost use Rattle.daemon_cpp.specs.Problems.{complaint_of};
+ghost use Rattle.daemon_cpp.specs.parts.Problems.{complaint_of};
 
 use base_types::Bytes;
 use directive_scan::BranchName;

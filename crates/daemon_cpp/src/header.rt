@@ -8,7 +8,7 @@ ghost use Rattle.macro_expand.specs.declared.Mode.TheVariants.{Text};
 ghost use Rattle.tree_model.specs.Paths.{is_same_path};
 ghost use Rattle.search_path.specs.Asks.{forced_ask};
 ghost use Rattle.daemon_cpp.specs.Prep.{World, Gives, reach, expand_line, world_of, header_reached, include, include_named, found_file};
-ghost use Rattle.daemon_cpp.specs.Showing.{Leads, Includes, here_seen, entered_unless};
+ghost use Rattle.daemon_cpp.specs.parts.Showing.{Leads, Includes, here_seen, entered_unless};
 
 use crate::diagnostic::Problem;
 use crate::kept::{Kept, Places};

@@ -5,7 +5,7 @@ ghost use Rattle.pp_tokens.specs.declared.Kind.TheVariants.{Number};
 ghost use Rattle.directive_scan.specs.HeaderNames as header_names;
 ghost use Rattle.cond_eval.specs.Constants.{digit_value, is_digit_in, value_behind};
 ghost use Rattle.daemon_cpp.specs.Prep.{line_number, with_name, new_line, line_told, line_read, expand_line as line_expanded, reach};
-ghost use Rattle.daemon_cpp.specs.Showing.{Leads, here_seen, TellsLine};
+ghost use Rattle.daemon_cpp.specs.parts.Showing.{Leads, here_seen, TellsLine};
 ghost use Rattle.macro_expand.specs.declared.outcome.Mode.TheVariants as mode;
 
 use crate::diagnostic::Problem;

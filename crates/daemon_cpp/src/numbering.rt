@@ -15,7 +15,7 @@ pub struct Numbering {
 impl Model for Numbering {
     ghost use Rattle.std.specs.Prelude.{◌≡◌, ◌≤◌, ℤ, pos, ◌+ℤ◌};
     ghost use Rattle.macro_expand.specs.declared.answers.Presumed.{Presumed};
-    ghost use Rattle.daemon_cpp.specs.Narrow.{IsNarrow};
+    ghost use Rattle.daemon_cpp.specs.parts.Narrow.{IsNarrow};
 
     ghost Value = { Presumed };
 

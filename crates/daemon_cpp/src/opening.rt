@@ -5,8 +5,8 @@ ghost use Rattle.base_types.specs.Causes.{HasCause};
 ghost use Rattle.directive_scan.specs.Groups.{outline, role_of};
 ghost use Rattle.pp_tokens.specs.Lines.{lexed};
 ghost use Rattle.daemon_cpp.specs.Prep.{World, Here, world_of, and_then, say, run_outline, run_file, open_file};
-ghost use Rattle.daemon_cpp.specs.Reading.{front_events, token_count, work_after, run_body, malformed_told, run_flat, reading};
-ghost use Rattle.daemon_cpp.specs.Showing.{Opens, Begins, Goes, Refuses};
+ghost use Rattle.daemon_cpp.specs.parts.Reading.{front_events, token_count, work_after, run_body, malformed_told, run_flat, reading};
+ghost use Rattle.daemon_cpp.specs.parts.Showing.{Opens, Begins, Goes, Refuses};
 
 use crate::diagnostic::Problem;
 use crate::kept::Kept;

@@ -5,7 +5,7 @@ ghost use Rattle.base_types.specs.Causes.{HasCause};
 ghost use Rattle.directive_scan.specs.Spots.{directive_seen, piece_seen};
 ghost use Rattle.cpp_output.specs.Layout.{pragma};
 ghost use Rattle.daemon_cpp.specs.Prep.{Go, world_of, say, line_step, include, directive_step, piece_step};
-ghost use Rattle.daemon_cpp.specs.Showing.{Moves, IsNumbered, here_seen, onward};
+ghost use Rattle.daemon_cpp.specs.parts.Showing.{Moves, IsNumbered, here_seen, onward};
 
 use crate::define::{define, undefine};
 use crate::diagnostic::Problem;

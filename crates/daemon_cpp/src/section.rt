@@ -4,8 +4,8 @@ ghost use Rattle.std.specs.Option.{ForSome};
 ghost use Rattle.base_types.specs.Causes.{HasCause};
 ghost use Rattle.directive_scan.specs.Spots.{role_told};
 ghost use Rattle.daemon_cpp.specs.Prep.{World, Entering, State, world_of};
-ghost use Rattle.daemon_cpp.specs.Reading.{run_flat, reading, seeking, passing, skipped, depth_behind, is_endif};
-ghost use Rattle.daemon_cpp.specs.Showing.{Seeks, SeeksLine, IsBetween, IsBehind, here_seen};
+ghost use Rattle.daemon_cpp.specs.parts.Reading.{run_flat, reading, seeking, passing, skipped, depth_behind, is_endif};
+ghost use Rattle.daemon_cpp.specs.parts.Showing.{Seeks, SeeksLine, IsBetween, IsBehind, here_seen};
 
 use crate::condition::test_line;
 use crate::kept::{Kept, Places};

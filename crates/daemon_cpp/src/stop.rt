@@ -1,8 +1,8 @@
 // Why preprocessing doesn't go on.
 ghost use Rattle.std.specs.Prelude.{◌≡◌};
 ghost use Rattle.tree_model.specs.Paths.{spelled};
-ghost use Rattle.daemon_cpp.specs.Problems.{complaint_of};
-ghost use Rattle.daemon_cpp.specs.Showing.{Refuses};
+ghost use Rattle.daemon_cpp.specs.parts.Problems.{complaint_of};
+ghost use Rattle.daemon_cpp.specs.parts.Showing.{Refuses};
 ghost use Rattle.daemon_cpp.specs.declared.stop.Stop.TheVariants.{Memory};
 
 use crate::diagnostic::{Diagnostic, Problem};

@@ -11,7 +11,7 @@ ghost use Rattle.macro_expand.specs.Stream.{given, to_come, at_hand};
 ghost use Rattle.cpp_output.specs.Layout.{put, text_limit};
 ghost use Rattle.cpp_output.specs.Laid.{after_event};
 ghost use Rattle.daemon_cpp.specs.Prep.{text_step, expand_line};
-ghost use Rattle.daemon_cpp.specs.Showing.{Goes, Leads, here_seen, TellsError, TellsText, ReportsText, LaysNext, IsOkay, error_line, laid_from};
+ghost use Rattle.daemon_cpp.specs.parts.Showing.{Goes, Leads, here_seen, TellsError, TellsText, ReportsText, LaysNext, IsOkay, error_line, laid_from};
 
 use crate::diagnostic::Problem;
 use crate::kept::{Kept, Places};

@@ -6,7 +6,7 @@ ghost use Rattle.tree_model.specs.Bodies.{body_at_path, body_within};
 ghost use Rattle.search_path.specs.Search.{NeedsFrom};
 ghost use Rattle.search_path.specs.SetupOf as setups;
 ghost use Rattle.daemon_cpp.specs.Prep.{world_of};
-ghost use Rattle.daemon_cpp.specs.Showing.{TellsNothing};
+ghost use Rattle.daemon_cpp.specs.parts.Showing.{TellsNothing};
 
 use crate::stop::Stop;
 use base_types::Bytes;

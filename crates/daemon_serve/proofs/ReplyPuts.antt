@@ -16,7 +16,7 @@ use Rattle.job_frames.specs.Daemon.{IsAnswerTo}
 use Rattle.daemon_serve.specs.declared.serving.Served.{Served}
 use Rattle.daemon_serve.specs.declared.serving.Served.TheVariants.{Replied, Memory}
 use Rattle.daemon_serve.specs.Serving.{IsFront}
-use Rattle.daemon_serve.specs.Parts.{AnswersBy, OnlyReply, PutTells, IsReplyPut}
+use Rattle.daemon_serve.specs.parts.Parts.{AnswersBy, OnlyReply, PutTells, IsReplyPut}
 
 abbrev pub refusal_text : FrameError → List ℕ
 refusal_text why.Memory = codes "RFSE00000001"

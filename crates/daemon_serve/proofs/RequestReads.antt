@@ -14,13 +14,13 @@ use Rattle.job_frames.specs.declared.FrameError.{FrameError}
 use Rattle.job_frames.specs.declared.FrameError.TheVariants as why
 use Rattle.job_frames.specs.Fields.{letters_at, number_at}
 use Rattle.job_frames.specs.Outcomes.{going, done, reason, Left, IsFed, Tells, number_of}
-use Rattle.job_frames.specs.Readers.{request_of}
+use Rattle.job_frames.specs.parts.Readers.{request_of}
 use Rattle.job_frames.specs.Request.{Got, request_from}
 use Rattle.job_frames.specs.Laws.{RequestsAreSpelled, RequestsMakeTrees, RequestsHaveSmallBodies, RequestsHaveReasons}
 use Rattle.daemon_serve.specs.declared.reading.NoRequest.{NoRequest}
 use Rattle.daemon_serve.specs.declared.reading.NoRequest.TheVariants as no
 use Rattle.daemon_serve.specs.Serving.{piece_limit, verdict_on, StopsInTime, IsReasonOf, IsCut}
-use Rattle.daemon_serve.specs.Parts.{HasWhole, IsReading, IsRequestFed, IsRequestRead}
+use Rattle.daemon_serve.specs.parts.Parts.{HasWhole, IsReading, IsRequestFed, IsRequestRead}
 use Rattle.daemon_serve.proofs.WholeRequests.{got_of, given-by, request-of}
 
 prepend-nil : (told : Option (List ℕ)) → told ≡ prepend_known [] told

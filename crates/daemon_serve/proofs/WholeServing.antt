@@ -20,7 +20,7 @@ use Rattle.daemon_serve.specs.declared.reading.NoRequest.TheVariants as no
 use Rattle.daemon_serve.specs.declared.serving.Served.{Served}
 use Rattle.daemon_serve.specs.declared.serving.Served.TheVariants.{Replied, Refused, ReadFault, WriteFault, Memory}
 use Rattle.daemon_serve.specs.Serving.{verdict_on, IsReplyTo, IsFront, IsPartOfReply, IsReasonOf, IsCut, TellsWhole, TellsExactly, Tells, IsServedExactly, IsServed}
-use Rattle.daemon_serve.specs.Parts.{AnswersBy, OnlyReply, PutTells, refusal_served, fault_served, IsReplyPut, IsRequestRead, IsUnserved}
+use Rattle.daemon_serve.specs.parts.Parts.{AnswersBy, OnlyReply, PutTells, refusal_served, fault_served, IsReplyPut, IsRequestRead, IsUnserved}
 use Rattle.daemon_serve.proofs.ReplyPuts.{whole-front}
 use Rattle.daemon_serve.proofs.WholeRequests.{got_of}
 

@@ -1,8 +1,8 @@
 // Reading one request from a source.
 ghost use Rattle.std.specs.Prelude.{◌≡◌, ℕ, List, [], Some};
-ghost use Rattle.job_frames.specs.Readers.{left, request_of};
+ghost use Rattle.job_frames.specs.parts.Readers.{left, request_of};
 ghost use Rattle.daemon_serve.specs.Serving.{verdict_on};
-ghost use Rattle.daemon_serve.specs.Parts.{HasWhole, IsRequestFed, IsRequestRead};
+ghost use Rattle.daemon_serve.specs.parts.Parts.{HasWhole, IsRequestFed, IsRequestRead};
 
 use base_types::List;
 use io_edges::Source;

@@ -6,7 +6,7 @@ ghost use Rattle.job_frames.specs.Daemon.{IsAnswerTo};
 ghost use Rattle.job_frames.specs.Outcomes.{number_of};
 ghost use Rattle.job_frames.specs.Reply.{reply_bytes};
 ghost use Rattle.daemon_answers.specs.Answers.{Answers};
-ghost use Rattle.daemon_serve.specs.Parts.{refusal_served, AnswersBy, OnlyReply, IsReplyPut};
+ghost use Rattle.daemon_serve.specs.parts.Parts.{refusal_served, AnswersBy, OnlyReply, IsReplyPut};
 
 use crate::replier::Replier;
 use crate::serving::Served;

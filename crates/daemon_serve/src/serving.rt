@@ -1,7 +1,7 @@
 // Serving one request.
 ghost use Rattle.std.specs.Prelude.{◌≡◌};
 ghost use Rattle.daemon_answers.specs.Answers.{Answers};
-ghost use Rattle.daemon_serve.specs.Parts.{fault_served, IsUnserved};
+ghost use Rattle.daemon_serve.specs.parts.Parts.{fault_served, IsUnserved};
 ghost use Rattle.daemon_serve.specs.Serving.{IsServed, IsServedExactly};
 
 use crate::preprocessing::Preprocessing;

@@ -10,7 +10,7 @@ use Rattle.directive_scan.specs.declared.conditional.Malformed.{Malformed}
 use Rattle.directive_scan.specs.declared.conditional.Malformed.TheVariants.{AfterElse, Unended}
 use Rattle.directive_scan.specs.declared.outline.Open.{Open}
 use Rattle.directive_scan.specs.Groups.{opening, role_of, Group, nothing, Front, outside, inside, Outline, after_else, unended, IsGroup, IsFront, last_is_else, innermost, outer_piece, inner_piece, next_piece, outline_from, outline, malformed_by}
-use Rattle.directive_scan.specs.OpenStack.{around, open_step, branch_step, endif_step, Steps, unended_last}
+use Rattle.directive_scan.specs.parts.OpenStack.{around, open_step, branch_step, endif_step, Steps, unended_last}
 use Rattle.directive_scan.proofs.Outlines.{innermost_some, next_front}
 use Rattle.directive_scan.proofs.OneOutline.{from_next, from_wrong, last_elif, last_else, deeper, end_unended}
 

@@ -12,7 +12,7 @@ use Rattle.directive_scan.specs.declared.stage.Sort.{Sort as SortRead}
 use Rattle.directive_scan.specs.declared.stage.Stage.{Stage as StageRead}
 use Rattle.directive_scan.specs.declared.stage.Inner.{Inner}
 use Rattle.directive_scan.specs.Operands.{Sort, asks, defines, opens, closes, plain, sort_of, Stage, outside, behind_defined, behind_opening, wanted, within, Parts, part_before, token_before, at_end, parts_from, parts_of, targets_of}
-use Rattle.directive_scan.specs.PartsSoFar.{sort_told, is_asking, is_opening, stage_told, so_far, inner_before}
+use Rattle.directive_scan.specs.parts.PartsSoFar.{sort_told, is_asking, is_opening, stage_told, so_far, inner_before}
 
 -- parts, and those behind them
 abbrev pub behind : List ConditionPart → Parts → Parts

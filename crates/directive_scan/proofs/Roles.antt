@@ -14,7 +14,7 @@ use Rattle.directive_scan.specs.declared.role.Nesting.{Nesting}
 use Rattle.directive_scan.specs.declared.role.Nesting.TheVariants as nesting
 use Rattle.directive_scan.specs.Directives.{directive_named, pragma_of, target_of}
 use Rattle.directive_scan.specs.Groups.{Role, single, opening, elif_line, else_line, endif_line, directive_role, role_of}
-use Rattle.directive_scan.specs.OpenStack.{branch_step, endif_step, directive_step, nesting_step}
+use Rattle.directive_scan.specs.parts.OpenStack.{branch_step, endif_step, directive_step, nesting_step}
 use Rattle.directive_scan.specs.declared.directive.Piece.{Piece}
 use Rattle.directive_scan.specs.declared.spots.Spot.{Spot}
 use Rattle.directive_scan.specs.declared.spots.Spot.TheVariants as spot

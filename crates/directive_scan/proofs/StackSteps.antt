@@ -7,7 +7,7 @@ use Rattle.directive_scan.specs.declared.conditional.BranchName.TheVariants as n
 use Rattle.directive_scan.specs.declared.conditional.Malformed.{Malformed}
 use Rattle.directive_scan.specs.declared.conditional.Malformed.TheVariants.{WithoutIf, AfterElse, Unended}
 use Rattle.directive_scan.specs.declared.outline.Open.{Open}
-use Rattle.directive_scan.specs.OpenStack.{around, at_last, is_else, branched, branch_step, endif_step, unended_last}
+use Rattle.directive_scan.specs.parts.OpenStack.{around, at_last, is_else, branched, branch_step, endif_step, unended_last}
 
 -- a result behind these conditionals
 abbrev behind : List Open → Malformed ⊎ List Open → Malformed ⊎ List Open

@@ -4,14 +4,12 @@
 --     Spots         where the pieces of a file lie in its lexed form
 --     HeaderNames   the header name that expanded tokens give
 --     Operands      the operands of `__has_include` on the line of a condition
---     PartsSoFar    how the parts of such a line come together, token by token
 --     Groups        how pieces nest, and what is wrong where they don't
---     OpenStack     the open conditionals of a file, piece by piece
+--     parts         helpers of contracts, on which none of these rests
 pub mod Directives
 pub mod Gathered
 pub mod HeaderNames
 pub mod Operands
-pub mod PartsSoFar
 pub mod Groups
-pub mod OpenStack
 pub mod Spots
+pub mod parts

@@ -3,7 +3,7 @@ ghost use Rattle.std.specs.Prelude.{◌≡◌, Some, None, if◌then◌else◌, 
 ghost use Rattle.std.specs.List.{list_any};
 ghost use Rattle.pp_tokens.specs.Marks.{is_word};
 ghost use Rattle.directive_scan.specs.Operands.{at_end, parts_of, operands_of, targets_of};
-ghost use Rattle.directive_scan.specs.PartsSoFar.{stage_told};
+ghost use Rattle.directive_scan.specs.parts.PartsSoFar.{stage_told};
 
 use crate::directive::Target;
 use crate::stage::{Stage, is_word, next};

@@ -3,7 +3,7 @@ ghost use Rattle.std.specs.Prelude.{◌≡◌, ◌++◌, ◌∷◌, [], false, m
 ghost use Rattle.std.proofs.Common.{inr};
 ghost use Rattle.pp_tokens.specs.Lines.{LexedFile};
 ghost use Rattle.directive_scan.specs.Groups.{malformed_by, outline, role_of};
-ghost use Rattle.directive_scan.specs.OpenStack.{Steps, branch_step, nesting_step, endif_step, is_else, open_step, unended_last};
+ghost use Rattle.directive_scan.specs.parts.OpenStack.{Steps, branch_step, nesting_step, endif_step, is_else, open_step, unended_last};
 ghost use Rattle.directive_scan.specs.Spots.{piece_at, KnowsRole, EachKnowsRole};
 
 use crate::conditional::{BranchName, Malformed};

@@ -5,7 +5,7 @@ ghost use Rattle.pp_tokens.specs.Marks.{is_word};
 ghost use Rattle.directive_scan.specs.declared.operand.ConditionPart.{ConditionPart};
 ghost use Rattle.directive_scan.specs.Operands as reading;
 ghost use Rattle.directive_scan.specs.Operands.{Parts, closes, sort_of, operand_of, outside, behind_defined, behind_opening, wanted, within, part_before, probe_before, token_before, parts_from};
-ghost use Rattle.directive_scan.specs.PartsSoFar.{sort_told, is_asking, is_opening, stage_told, open_count, count_reached, so_far, reached, inner_before, inner_count};
+ghost use Rattle.directive_scan.specs.parts.PartsSoFar.{sort_told, is_asking, is_opening, stage_told, open_count, count_reached, so_far, reached, inner_before, inner_count};
 
 use crate::directive::Target;
 use crate::operand::ConditionPart;

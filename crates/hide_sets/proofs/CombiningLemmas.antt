@@ -9,7 +9,7 @@ use Rattle.hide_sets.specs.declared.operation.Operation.{Operation}
 use Rattle.hide_sets.specs.declared.operation.Operation.TheVariants.{Union, Intersection}
 use Rattle.hide_sets.specs.declared.sets.Pair.{Pair}
 use Rattle.hide_sets.specs.Trie.{node_at, has, IsTable, Extends}
-use Rattle.hide_sets.specs.Combining.{operator, Combines, IsMade, Memo, is_same_pair, Remembers}
+use Rattle.hide_sets.specs.parts.Combining.{operator, Combines, IsMade, Memo, is_same_pair, Remembers}
 use Rattle.hide_sets.proofs.TrieLemmas.{has-extends, has-empty, extends-trans}
 
 -- what was made of two sets in a larger table

@@ -7,7 +7,7 @@ use Rattle.hide_sets.specs.declared.set_number.SetNumber.{SetNumber}
 use Rattle.hide_sets.specs.declared.operation.Operation.{Operation}
 use Rattle.hide_sets.specs.declared.nodes.Node.{Node}
 use Rattle.hide_sets.specs.Trie.{empty_set, has, number_at, way, IsTable, Extends, IsSingle}
-use Rattle.hide_sets.specs.Combining.{operator, Combines}
+use Rattle.hide_sets.specs.parts.Combining.{operator, Combines}
 use Rattle.hide_sets.specs.Interned.{Named, Interned, place_of, number_of, hidden_in, IsSet, Keeps, IsSingleName, IsWith, IsCombined, IsUnion}
 use Rattle.hide_sets.proofs.TrieLemmas.{has-extends, has-empty, number-way}
 use Rattle.hide_sets.proofs.CombiningLemmas.{operator-either}

@@ -1,7 +1,7 @@
 -- Hide sets as numbers.
 --     Trie        sets of numbers as the nodes of a trie
---     Combining   the set that is made of two sets
 --     Interned    hide sets: sets of names
+--     parts       helpers of contracts, on which none of these rests
 pub mod Trie
-pub mod Combining
 pub mod Interned
+pub mod parts

@@ -38,7 +38,7 @@ impl Model for HideSets {
 impl HideSets {
     ghost use Rattle.std.specs.Prelude.{◌≡◌, ◌<◌, ◌≤◌, ◌++◌, ◌∷◌, [], length, IfOk, OnOk, ℕ, List, false};
     ghost use Rattle.hide_sets.specs.Trie.{IsSingle};
-    ghost use Rattle.hide_sets.specs.Combining.{operator};
+    ghost use Rattle.hide_sets.specs.parts.Combining.{operator};
     ghost use Rattle.hide_sets.specs.Interned.{number_of, hidden_in, IsSet, Keeps, IsWith, IsCombined, IsUnion, IsIntersection, IsSingleName};
 
     /// A table whose only set is empty.

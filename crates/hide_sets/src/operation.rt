@@ -1,6 +1,6 @@
 // What is made of two sets.
 ghost use Rattle.std.specs.Prelude.{◌≡◌};
-ghost use Rattle.hide_sets.specs.Combining.{operator};
+ghost use Rattle.hide_sets.specs.parts.Combining.{operator};
 
 #[derive(Clone, Copy, Drop)]
 pub(crate) enum Operation {

@@ -2,7 +2,7 @@
 ghost use Rattle.std.specs.Prelude.{◌≡◌, ◌≤◌, ◌+◌, ◌⊎◌, List, IfOk};
 ghost use Rattle.hide_sets.specs.declared.nodes.Node.{Node};
 ghost use Rattle.hide_sets.specs.declared.operation.Operation.{Operation};
-ghost use Rattle.hide_sets.specs.Combining.{IsMade, Remembers};
+ghost use Rattle.hide_sets.specs.parts.Combining.{IsMade, Remembers};
 
 use crate::nodes::{Node, Nodes};
 use crate::operation::Operation;
@@ -43,7 +43,7 @@ impl Model for Sets {
     ghost use Rattle.std.specs.Prelude.{List};
     ghost use Rattle.hide_sets.specs.declared.nodes.Node.{Node};
     ghost use Rattle.hide_sets.specs.declared.operation.Operation.TheVariants.{Union, Intersection};
-    ghost use Rattle.hide_sets.specs.Combining.{Remembers};
+    ghost use Rattle.hide_sets.specs.parts.Combining.{Remembers};
 
     ghost Value = { List Node };
 
@@ -55,7 +55,7 @@ impl Model for Sets {
 impl Sets {
     ghost use Rattle.std.specs.Prelude.{◌≡◌, ◌<◌, ◌≤◌, length, IfOk, IfSome, IfNone};
     ghost use Rattle.hide_sets.specs.Trie.{node_at, has, way, IsTable, Extends, IsSingle};
-    ghost use Rattle.hide_sets.specs.Combining.{operator, Combines, IsMade};
+    ghost use Rattle.hide_sets.specs.parts.Combining.{operator, Combines, IsMade};
 
     // The empty set alone.
     pub(crate) fn new(alloc: Global) -> Result<Sets, AllocError>

@@ -5,7 +5,7 @@ use Rattle.std.specs.List.{list_all}
 use Rattle.std.proofs.lemmas.Bool.{leb-true, leb-false, eqb-true}
 use Rattle.std.proofs.lemmas.List.{take_rest}
 use Rattle.host_slots.specs.Hosts.{Text, is_digit, value_behind, number_in}
-use Rattle.host_slots.specs.Numbers.{number_behind, digit_behind}
+use Rattle.host_slots.specs.parts.Numbers.{number_behind, digit_behind}
 
 -- a number with more digits is no smaller
 pub value_grows : (n : ℕ) (digits : Text) → n ≤ value_behind n digits

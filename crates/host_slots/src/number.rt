@@ -1,7 +1,7 @@
 // Decimal numbers.
 ghost use Rattle.std.specs.Prelude.{◌≡◌, ◌≤◌, Option, Some, None, IfSome};
 ghost use Rattle.host_slots.specs.Hosts.{is_digit, number_in};
-ghost use Rattle.host_slots.specs.Numbers.{number_behind, digit_behind};
+ghost use Rattle.host_slots.specs.parts.Numbers.{number_behind, digit_behind};
 
 // The number that a text spells; None where it spells no number from 1 to the limit, or has a zero in front.
 #[tactic(auto, unfolding(crate::specs::Hosts::number_in))]

@@ -16,7 +16,7 @@ use Rattle.job_frames.specs.Fields.{Step, taken}
 use Rattle.job_frames.specs.Outcomes.{reason, ended, nothing_follows, number_of, value_of}
 use Rattle.job_frames.specs.Request.{Got, image_from, most}
 use Rattle.job_frames.specs.Images.{image_at, image_verdict}
-use Rattle.job_frames.specs.Stages.{reading, wanted_of, Ready, left_to_read, Keeps, HasRunTo, Begins}
+use Rattle.job_frames.specs.parts.Stages.{reading, wanted_of, Ready, left_to_read, Keeps, HasRunTo, Begins}
 use Rattle.job_frames.proofs.FieldLemmas.{past_end, split_at}
 use Rattle.job_frames.proofs.StageLemmas.{nothing_pending}
 use Rattle.job_frames.proofs.ReaderLemmas.{got}

@@ -14,8 +14,8 @@ use Rattle.job_frames.specs.Fields.{short, number_at, letters_at}
 use Rattle.job_frames.specs.Outcomes.{Verdict, going, done, reason, NotRefused, IsFed, whatever_follows, number_of}
 use Rattle.job_frames.specs.Request.{Got, request_from, request_at, most}
 use Rattle.tree_model.specs.Entries.{Entries, Increasing}
-use Rattle.job_frames.specs.Readers.{Standing, left, request_of, Settled}
-use Rattle.job_frames.specs.Stages.{reading, wanted_of, Ready, left_to_read, Keeps, HasRunTo, Begins}
+use Rattle.job_frames.specs.parts.Readers.{Standing, left, request_of, Settled}
+use Rattle.job_frames.specs.parts.Stages.{reading, wanted_of, Ready, left_to_read, Keeps, HasRunTo, Begins}
 
 abbrev pub got : Read → Got
 got r = record { job = r.job; entries = r.entries }

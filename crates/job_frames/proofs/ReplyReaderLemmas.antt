@@ -12,8 +12,8 @@ use Rattle.job_frames.specs.declared.reply_machine.ReplyMachine.{ReplyMachine}
 use Rattle.job_frames.specs.Fields.{short}
 use Rattle.job_frames.specs.Outcomes.{Verdict, going, done, reason, NotRefused, IsFed, nothing_follows, number_of, value_of}
 use Rattle.job_frames.specs.Reply.{reply_at}
-use Rattle.job_frames.specs.ReplyReaders.{ReplyStanding, reply_left, Settled, KeepsReply}
-use Rattle.job_frames.specs.ReplyStages.{reading, wanted_of, Present, Ready, left_to_read, Keeps, HasRun, Begins}
+use Rattle.job_frames.specs.parts.ReplyReaders.{ReplyStanding, reply_left, Settled, KeepsReply}
+use Rattle.job_frames.specs.parts.ReplyStages.{reading, wanted_of, Present, Ready, left_to_read, Keeps, HasRun, Begins}
 use Rattle.job_frames.proofs.ReplyStageLemmas.{nothing_pending, field_lengths}
 use Rattle.job_frames.proofs.ReaderLemmas.{none_of}
 

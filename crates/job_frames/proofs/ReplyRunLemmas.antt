@@ -12,7 +12,7 @@ use Rattle.job_frames.specs.declared.Fed.TheVariants as fed
 use Rattle.job_frames.specs.declared.FrameError.{FrameError}
 use Rattle.job_frames.specs.Fields.{short}
 use Rattle.job_frames.specs.Outcomes.{reason, nothing_follows}
-use Rattle.job_frames.specs.ReplyStages.{reading, wanted_of, Present, Ready, Moves, left_to_read, Filled, Passed, rested, Onward, HasRun}
+use Rattle.job_frames.specs.parts.ReplyStages.{reading, wanted_of, Present, Ready, Moves, left_to_read, Filled, Passed, rested, Onward, HasRun}
 use Rattle.job_frames.proofs.FieldLemmas.{past_end, split_at}
 use Rattle.job_frames.proofs.TokenLemmas.{same_bytes}
 use Rattle.job_frames.proofs.ReplyStageLemmas.{nothing_pending, field_lengths}

@@ -10,7 +10,7 @@ use Rattle.job_frames.specs.declared.reply_machine.ReplyMachine.{ReplyMachine}
 use Rattle.job_frames.specs.declared.moves.Move.TheVariants.{Go}
 use Rattle.job_frames.specs.Fields.{Step, short, taken, number_at}
 use Rattle.job_frames.specs.Reply.{text_body_from, text_from, no_diagnostic_from, no_text_from, diagnostic_body_from, diagnostic_from, status_from, done_from, refusal_from, reply_at}
-use Rattle.job_frames.specs.ReplyStages.{given, reading, is_token, letters_of, judge_of, status_due, next_of, wanted_of, rank, Ready, Moves, Keeps}
+use Rattle.job_frames.specs.parts.ReplyStages.{given, reading, is_token, letters_of, judge_of, status_due, next_of, wanted_of, rank, Ready, Moves, Keeps}
 use Rattle.job_frames.proofs.TokenLemmas.{after_number, by_number, body_short, body_there, empty}
 use Rattle.job_frames.proofs.ReplySpelled.{within_passes}
 

@@ -10,7 +10,7 @@ use Rattle.job_frames.specs.declared.Fed.TheVariants as fed
 use Rattle.job_frames.specs.declared.FrameError.{FrameError}
 use Rattle.tree_model.specs.Entries.{Increasing}
 use Rattle.job_frames.specs.Fields.{short}
-use Rattle.job_frames.specs.Stages.{reading, wanted_of, Ready, Moves, left_to_read, Keeps, Filled, Passed, HasRunTo}
+use Rattle.job_frames.specs.parts.Stages.{reading, wanted_of, Ready, Moves, left_to_read, Keeps, Filled, Passed, HasRunTo}
 use Rattle.job_frames.proofs.FieldLemmas.{past_end}
 use Rattle.job_frames.proofs.TokenLemmas.{same_bytes}
 

@@ -12,7 +12,7 @@ use Rattle.job_frames.specs.declared.machine.Machine.{Machine}
 use Rattle.job_frames.specs.declared.moves.Move.{Move}
 use Rattle.job_frames.specs.declared.moves.Move.TheVariants.{Rest, Go}
 use Rattle.job_frames.specs.declared.Fed.TheVariants as fed
-use Rattle.job_frames.specs.Stages.{IsPushed, Moves, left_to_read, Keeps}
+use Rattle.job_frames.specs.parts.Stages.{IsPushed, Moves, left_to_read, Keeps}
 use Rattle.std.specs.Prelude.{Result, Ok, Err}
 use Rattle.tree_model.specs.declared.entry.Entry.{Entry}
 use Rattle.job_words.specs.declared.job.Job.{Job}
@@ -29,7 +29,7 @@ use Rattle.job_frames.specs.declared.machine.Due.TheVariants.{Version, Place, Pl
 use Rattle.job_frames.specs.declared.machine.Read.{Read}
 use Rattle.job_frames.specs.Fields.{Step, short, refused, taken, ◌>>=◌, number_at, judged, room_behind, bare, within}
 use Rattle.job_frames.specs.Request.{Got, path_reason, at_path, entries_from, name_then, path_then, node_then, dir_then, made_then, link_then, target_then, file_then, file_body_then, image_from, words_from, word_then, word_body_then, count_from, place_body_from, place_from, request_from}
-use Rattle.job_frames.specs.Stages.{reading, is_token, letters_of, judge_of, next_of, body_of, wanted_of, words_due, names_due, Ready, PathReady, rank}
+use Rattle.job_frames.specs.parts.Stages.{reading, is_token, letters_of, judge_of, next_of, body_of, wanted_of, words_due, names_due, Ready, PathReady, rank}
 use Rattle.job_frames.proofs.FieldLemmas.{both}
 use Rattle.job_frames.proofs.TokenLemmas as token
 use Rattle.job_frames.proofs.TokenLemmas.{number_waits, number_fails, number_judged, number_passes, body_short, body_there, empty}

@@ -3,7 +3,7 @@ ghost use Rattle.std.specs.Prelude.{◌≡◌, ◌⊎◌, IfErr, OnOk, Some};
 ghost use Rattle.std.specs.Option.{option_map};
 ghost use Rattle.job_frames.specs.Images.{IsImageRead, image_verdict};
 ghost use Rattle.job_frames.specs.Outcomes.{ended, number_of, reason, value_of};
-ghost use Rattle.job_frames.specs.Stages.{Begins};
+ghost use Rattle.job_frames.specs.parts.Stages.{Begins};
 ghost use Rattle.job_frames.specs.declared.FrameError.TheVariants as why;
 ghost use Rattle.job_frames.specs.declared.machine.Due.TheVariants as stage;
 

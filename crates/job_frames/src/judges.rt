@@ -1,9 +1,9 @@
 // What the number of a token may be, and which field is due behind it.
 ghost use Rattle.std.specs.Prelude.{◌≡◌, ◌≤◌, ◌+◌, ◌-◌, None};
 ghost use Rattle.job_frames.specs.Fields.{within, fits, bare, room_behind, only};
-ghost use Rattle.job_frames.specs.Numbers.{told_judge};
-ghost use Rattle.job_frames.specs.Stages.{letters_of, judge_of, next_of, body_of, wanted_of, words_due, names_due};
-ghost use Rattle.job_frames.specs.Stages as stages;
+ghost use Rattle.job_frames.specs.parts.Numbers.{told_judge};
+ghost use Rattle.job_frames.specs.parts.Stages.{letters_of, judge_of, next_of, body_of, wanted_of, words_due, names_due};
+ghost use Rattle.job_frames.specs.parts.Stages as stages;
 
 use crate::FrameError;
 use crate::machine::Due;
@@ -79,7 +79,7 @@ fn judge_zero(n: u32) -> Option<FrameError>
 }
 
 // Why the number of the token that is due is refused, if it is.
-#[tactic(auto, unfolding(crate::specs::Stages::judge_of, crate::specs::Stages::body_of))]
+#[tactic(auto, unfolding(crate::specs::parts::Stages::judge_of, crate::specs::parts::Stages::body_of))]
 pub fn judge(due: Due, room: u32, n: u32) -> Option<FrameError>
     ensures answer { told_judge result ≡ judge_of due room n }
     ensures room { result ≡ None → 12 + body_of due n ≤ room }
@@ -100,7 +100,7 @@ pub fn judge(due: Due, room: u32, n: u32) -> Option<FrameError>
 }
 
 // The letters of the token that is due.
-#[tactic(auto, unfolding(crate::specs::Stages::letters_of))]
+#[tactic(auto, unfolding(crate::specs::parts::Stages::letters_of))]
 pub fn letters_due(due: Due) -> &'static [u8]
     ensures { result.now ≡ letters_of due }
 {
@@ -133,7 +133,7 @@ pub fn after_entry(k: u32) -> Due
 }
 
 // The field behind a token with this number.
-#[tactic(auto, unfolding(crate::specs::Stages::next_of))]
+#[tactic(auto, unfolding(crate::specs::parts::Stages::next_of))]
 pub fn after_token(due: Due, n: u32) -> Due
     ensures { result ≡ next_of due n }
 {
@@ -152,7 +152,7 @@ pub fn after_token(due: Due, n: u32) -> Due
 }
 
 // The length of the body that a token announces.
-#[tactic(auto, unfolding(crate::specs::Stages::body_of))]
+#[tactic(auto, unfolding(crate::specs::parts::Stages::body_of))]
 pub fn body_length(due: Due, n: u32) -> u32
     ensures { result ≡ body_of due n }
 {
@@ -163,7 +163,7 @@ pub fn body_length(due: Due, n: u32) -> u32
 }
 
 // How many bytes the field that is due has.
-#[tactic(auto, unfolding(crate::specs::Stages::wanted_of))]
+#[tactic(auto, unfolding(crate::specs::parts::Stages::wanted_of))]
 pub fn wanted(due: Due) -> usize
     ensures { result ≡ wanted_of due }
 {

@@ -6,14 +6,14 @@
 // that may still come.
 ghost use Rattle.std.specs.Prelude.{◌≡◌, ◌≤◌, ◌<◌, ◌++◌, ◌⊎◌, length, [], true, ◌==◌, IfOk, IfErr, Some, None};
 ghost use Rattle.std.specs.List.{list_any};
-ghost use Rattle.job_frames.specs.Stages.{Keeps, Moves, IsJudged, IsPushed, IsFilled, HasRun, Begins};
+ghost use Rattle.job_frames.specs.parts.Stages.{Keeps, Moves, IsJudged, IsPushed, IsFilled, HasRun, Begins};
 ghost use Rattle.job_frames.specs.Request.{path_reason};
 ghost use Rattle.job_frames.specs.Outcomes.{number_of};
 ghost use Rattle.tree_model.specs.Entries.{judged_path, Increasing};
 ghost use Rattle.job_words.specs.Words.{job_of};
 ghost use Rattle.job_frames.specs.declared.machine.Due.TheVariants as stage;
 ghost use Rattle.job_frames.specs.declared.FrameError.TheVariants as why;
-ghost use Rattle.job_frames.specs.Stages as stages;
+ghost use Rattle.job_frames.specs.parts.Stages as stages;
 
 use crate::fields::{Number, token_number};
 use crate::judges::{

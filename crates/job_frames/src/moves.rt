@@ -1,6 +1,6 @@
 // Moves, and filling the field that is due: what the readers of requests and of replies share.
 ghost use Rattle.std.specs.Prelude.{◌≡◌, ◌≤◌, length, nat_lt};
-ghost use Rattle.job_frames.specs.Filling.{IsTopped};
+ghost use Rattle.job_frames.specs.parts.Filling.{IsTopped};
 
 use crate::Fed;
 use std::alloc::AllocError;

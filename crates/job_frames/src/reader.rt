@@ -4,7 +4,7 @@ ghost use Rattle.std.specs.Option.{option_map};
 ghost use Rattle.job_frames.specs.Request.{request_at};
 ghost use Rattle.job_frames.specs.Outcomes.{IsFed, IsEnded, number_of, reason, whatever_follows, value_of};
 ghost use Rattle.job_frames.specs.declared.Fed.TheVariants.{Refused};
-ghost use Rattle.job_frames.specs.Readers.{request_of, left};
+ghost use Rattle.job_frames.specs.parts.Readers.{request_of, left};
 
 use crate::machine::{Due, Machine, begin, run};
 use crate::{Fed, FrameError};
@@ -22,11 +22,11 @@ pub struct RequestReader {
 }
 
 impl Model for RequestReader {
-    ghost use Rattle.job_frames.specs.Readers.{Standing};
+    ghost use Rattle.job_frames.specs.parts.Readers.{Standing};
 
     ghost Value = { Standing };
 
-    ghost use Rattle.job_frames.specs.Readers.{KeepsReader};
+    ghost use Rattle.job_frames.specs.parts.Readers.{KeepsReader};
 
     ghost view = { λ r. (r.stopped, r.machine.due, r.machine.pending.items, r.machine.read) };
 

@@ -1,10 +1,10 @@
 // What the number of a reply's token may be, and which field is due behind it.
 ghost use Rattle.std.specs.Prelude.{◌≡◌, ◌==◌};
 ghost use Rattle.job_frames.specs.Fields.{within};
-ghost use Rattle.job_frames.specs.Numbers.{told_judge};
+ghost use Rattle.job_frames.specs.parts.Numbers.{told_judge};
 ghost use Rattle.job_frames.specs.Reply.{allowed, status_judge};
-ghost use Rattle.job_frames.specs.ReplyStages.{letters_of, judge_of, next_of, wanted_of};
-ghost use Rattle.job_frames.specs.ReplyStages as stages;
+ghost use Rattle.job_frames.specs.parts.ReplyStages.{letters_of, judge_of, next_of, wanted_of};
+ghost use Rattle.job_frames.specs.parts.ReplyStages as stages;
 
 use crate::FrameError;
 use crate::judges::judge_version;
@@ -49,7 +49,7 @@ fn judge_allowed(limit: u32, low: u32, high: u32, n: u32) -> Option<FrameError>
 }
 
 // Why the number of the token that is due is refused, if it is.
-#[tactic(auto, unfolding(crate::specs::ReplyStages::judge_of))]
+#[tactic(auto, unfolding(crate::specs::parts::ReplyStages::judge_of))]
 pub fn judge(due: ReplyDue, n: u32) -> Option<FrameError>
     ensures { told_judge result ≡ judge_of due n }
 {
@@ -66,7 +66,7 @@ pub fn judge(due: ReplyDue, n: u32) -> Option<FrameError>
 }
 
 // The letters of the token that is due.
-#[tactic(auto, unfolding(crate::specs::ReplyStages::letters_of))]
+#[tactic(auto, unfolding(crate::specs::parts::ReplyStages::letters_of))]
 pub fn letters_due(due: ReplyDue) -> &'static [u8]
     ensures { result.now ≡ letters_of due }
 {
@@ -95,7 +95,7 @@ fn after_status(n: u32) -> ReplyDue
 }
 
 // The field behind a token with this number.
-#[tactic(auto, unfolding(crate::specs::ReplyStages::next_of))]
+#[tactic(auto, unfolding(crate::specs::parts::ReplyStages::next_of))]
 pub fn after_token(due: ReplyDue, n: u32) -> ReplyDue
     ensures { result ≡ next_of due n }
 {
@@ -112,7 +112,7 @@ pub fn after_token(due: ReplyDue, n: u32) -> ReplyDue
 }
 
 // How many bytes the field that is due has.
-#[tactic(auto, unfolding(crate::specs::ReplyStages::wanted_of))]
+#[tactic(auto, unfolding(crate::specs::parts::ReplyStages::wanted_of))]
 pub fn wanted(due: ReplyDue) -> usize
     ensures { result ≡ wanted_of due }
 {

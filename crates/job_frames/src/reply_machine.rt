@@ -1,8 +1,8 @@
 // Where a reader of replies stands, and its moves.
 ghost use Rattle.std.specs.Prelude.{◌≡◌, ◌≤◌, ◌<◌, length, true, nat_lt};
-ghost use Rattle.job_frames.specs.ReplyStages.{Keeps, Moves, IsFilled, HasRun, Begins, rested};
+ghost use Rattle.job_frames.specs.parts.ReplyStages.{Keeps, Moves, IsFilled, HasRun, Begins, rested};
 ghost use Rattle.job_frames.specs.declared.reply_machine.ReplyDue.TheVariants as stage;
-ghost use Rattle.job_frames.specs.ReplyStages as stages;
+ghost use Rattle.job_frames.specs.parts.ReplyStages as stages;
 
 use crate::fields::{Number, token_number};
 use crate::moves::{Move, lacks, top_up};

@@ -2,7 +2,7 @@
 ghost use Rattle.std.specs.Prelude.{◌≡◌, [], ℕ, List};
 ghost use Rattle.job_frames.specs.Reply.{reply_at};
 ghost use Rattle.job_frames.specs.Outcomes.{IsFed, IsEnded, nothing_follows, value_of};
-ghost use Rattle.job_frames.specs.ReplyReaders.{reply_left};
+ghost use Rattle.job_frames.specs.parts.ReplyReaders.{reply_left};
 
 use crate::reply_machine::{ReplyDue, ReplyMachine, begin, run};
 use crate::{Answer, Fed, FrameError};
@@ -19,11 +19,11 @@ pub struct ReplyReader {
 }
 
 impl Model for ReplyReader {
-    ghost use Rattle.job_frames.specs.ReplyReaders.{ReplyStanding};
+    ghost use Rattle.job_frames.specs.parts.ReplyReaders.{ReplyStanding};
 
     ghost Value = { ReplyStanding };
 
-    ghost use Rattle.job_frames.specs.ReplyReaders.{KeepsReply};
+    ghost use Rattle.job_frames.specs.parts.ReplyReaders.{KeepsReply};
 
     ghost view = { λ r. (r.stopped, r.machine.due, r.machine.pending.items, r.machine.answer) };
 

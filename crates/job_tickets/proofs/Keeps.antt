@@ -8,7 +8,7 @@ use Rattle.atomic_table.specs.Table.{Step, keeps, Allows, Splits, Joins}
 use Rattle.atomic_table.proofs.Lists.{at_set}
 use Rattle.job_tickets.specs.declared.view.View.{View}
 use Rattle.job_tickets.specs.Seats.{total, times, once_below, IsEachBelow}
-use Rattle.job_tickets.specs.Drawn.{view_of, spent_view, after_draw, keeps_seat, new_seat, joined, IsSeat, AreDrawn, AreCounted, Draws}
+use Rattle.job_tickets.specs.parts.Drawn.{view_of, spent_view, after_draw, keeps_seat, new_seat, joined, IsSeat, AreDrawn, AreCounted, Draws}
 use Rattle.job_tickets.proofs.Totals.{total-append, total-set, term_le, length-set, total-le, total-alone, once_next, below_once}
 
 -- one seat changes, and stands for as many seats as before

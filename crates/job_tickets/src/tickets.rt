@@ -11,7 +11,7 @@ use std::marker::Model;
 pub struct Numbers;
 
 impl TableRule<(), View, u64> for Numbers {
-    ghost use Rattle.job_tickets.specs.Drawn.{AreCounted, first_view};
+    ghost use Rattle.job_tickets.specs.parts.Drawn.{AreCounted, first_view};
 
     ghost holds = { AreCounted };
 
@@ -21,7 +21,7 @@ impl TableRule<(), View, u64> for Numbers {
 struct Draw;
 
 impl Play<(), View> for Draw {
-    ghost use Rattle.job_tickets.specs.Drawn.{Draws};
+    ghost use Rattle.job_tickets.specs.parts.Drawn.{Draws};
 
     ghost then = { Draws };
 }
@@ -29,7 +29,7 @@ impl Play<(), View> for Draw {
 struct Cut;
 
 impl Split<View> for Cut {
-    ghost use Rattle.job_tickets.specs.Drawn.{keeps_seat, new_seat};
+    ghost use Rattle.job_tickets.specs.parts.Drawn.{keeps_seat, new_seat};
 
     ghost left = { keeps_seat };
 
@@ -37,7 +37,7 @@ impl Split<View> for Cut {
 }
 
 impl Join<View> for Cut {
-    ghost use Rattle.job_tickets.specs.Drawn.{joined, spent_view};
+    ghost use Rattle.job_tickets.specs.parts.Drawn.{joined, spent_view};
 
     ghost both = { joined };
 
@@ -53,7 +53,7 @@ pub struct Tickets {
 
 impl Model for Tickets {
     ghost use Rattle.job_tickets.specs.Seats.{TicketData};
-    ghost use Rattle.job_tickets.specs.Drawn.{IsTable};
+    ghost use Rattle.job_tickets.specs.parts.Drawn.{IsTable};
 
     ghost Value = { TicketData };
 
@@ -72,7 +72,7 @@ pub struct Seat {
 
 impl Model for Seat {
     ghost use Rattle.job_tickets.specs.Seats.{SeatData};
-    ghost use Rattle.job_tickets.specs.Drawn.{Keeps};
+    ghost use Rattle.job_tickets.specs.parts.Drawn.{Keeps};
 
     ghost Value = { SeatData };
 

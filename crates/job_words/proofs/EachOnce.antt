@@ -8,7 +8,7 @@ use Rattle.std.proofs.lemmas.List.{take_more}
 use Rattle.std.proofs.lemmas.List.Folds.{list_any-append}
 use Rattle.tree_model.specs.Paths.{Text}
 use Rattle.job_words.specs.Words.{add_once, each_once_behind, each_once}
-use Rattle.job_words.specs.Told.{HasTexts}
+use Rattle.job_words.specs.parts.Told.{HasTexts}
 
 -- one text more
 pub each_once_behind-append : (before texts : List Text) (text : Text) → each_once_behind before (texts ++ text ∷ []) ≡ add_once (each_once_behind before texts) text

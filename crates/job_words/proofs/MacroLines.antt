@@ -2,7 +2,7 @@
 use Rattle.std.proofs.Common.{◌≡◌, ℕ, zero, suc, List, [], ◌∷◌, ◌++◌, set, refl, ap, arith}
 use Rattle.std.specs.Prelude.{codes}
 use Rattle.job_words.specs.Macros.{define_line}
-use Rattle.job_words.specs.Told.{IsFirst, NoneFrom}
+use Rattle.job_words.specs.parts.Told.{IsFirst, NoneFrom}
 
 -- a text whose first `=` stands at a place
 pub line-equals : (text : List ℕ) (place : ℕ) → IsFirst place 61 text → define_line text ≡ set text place 32

@@ -8,7 +8,7 @@ use Rattle.std.proofs.lemmas.List.Sums.{suffix_len_is}
 use Rattle.tree_model.specs.Paths.{Text, slash}
 use Rattle.tree_model.specs.Walk.{components, last_of}
 use Rattle.job_words.specs.Words.{stem}
-use Rattle.job_words.specs.Told.{NoneFrom, IsLast}
+use Rattle.job_words.specs.parts.Told.{NoneFrom, IsLast}
 
 -- a `.` with none behind it is the last one
 pub stem-at : (name : Text) (place : ℕ) → IsLast place 46 name → take place name ≡ stem name

@@ -9,7 +9,7 @@ use Rattle.job_words.specs.declared.reading.WordError.{WordError}
 use Rattle.job_words.specs.declared.reading.WordError.TheVariants.{Memory}
 use Rattle.job_words.specs.declared.given.Taker.TheVariants.{Directory, QuoteDirectory, SystemDirectory, AfterDirectory, Include, Define, Undefine, Output}
 use Rattle.job_words.specs.Words.{Onward, Word, Takes, Trigraphs, NoEffect, Source, NotKnown, at_word, at_operand, begins, has_no_effect, is_no_name, read_on, word_of, word_without_operand}
-use Rattle.job_words.specs.Told.{IsRead, IsShortWord, at_any}
+use Rattle.job_words.specs.parts.Told.{IsRead, IsShortWord, at_any}
 
 -- an operand in its option's word
 pub operand-here : (next : Onward) (taker : Taker) (text : Text) (given : Given) → 0 < length text → at_operand next taker text given ≡ at_word next (Takes taker text) given

@@ -1,7 +1,7 @@
 // What compile words give.
 ghost use Rattle.std.specs.Prelude.{◌≡◌, ◌≤◌, ◌+◌, ◌⊎◌, Some, length, Ok, Err, OnOk, IfErr};
 ghost use Rattle.job_words.specs.Words as compile;
-ghost use Rattle.job_words.specs.Told.{texts_given, IsText};
+ghost use Rattle.job_words.specs.parts.Told.{texts_given, IsText};
 
 use crate::macros::{define_word, undef_word};
 use crate::{MacroWord, WordError};

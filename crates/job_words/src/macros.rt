@@ -4,7 +4,7 @@ ghost use Rattle.std.specs.List.{list_any};
 ghost use Rattle.std.specs.Option.{MatchOption};
 ghost use Rattle.job_words.specs.Macros as spec;
 ghost use Rattle.job_words.specs.Macros.{define_line, line_of, line_at, define_word, undef_word, undef_word_of, defined_word};
-ghost use Rattle.job_words.specs.Told.{IsFirst, IsRefused, NoneFrom};
+ghost use Rattle.job_words.specs.parts.Told.{IsFirst, IsRefused, NoneFrom};
 ghost use Rattle.macro_defs.specs.Defining.{defined_by};
 
 use crate::{MacroWord, WordError};

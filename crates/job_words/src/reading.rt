@@ -4,7 +4,7 @@ ghost use Rattle.std.specs.List.{list_all};
 ghost use Rattle.tree_model.specs.Walk as walks;
 ghost use Rattle.job_words.specs.Words as compile;
 ghost use Rattle.job_words.specs.Words.{add_once, each_once, is_directory, are_short, output_of, read_on, reading, stem, nothing, with_source};
-ghost use Rattle.job_words.specs.Told.{IsLast, IsRead, IsShortWord, HasTexts, NoneFrom, texts_given, told_word, at_any};
+ghost use Rattle.job_words.specs.parts.Told.{IsLast, IsRead, IsShortWord, HasTexts, NoneFrom, texts_given, told_word, at_any};
 
 use crate::Job;
 use crate::given::{Given, Taker};

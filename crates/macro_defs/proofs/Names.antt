@@ -12,7 +12,7 @@ use Rattle.indexmap.specs.IndexSet.{insert_key}
 use Rattle.pp_tokens.specs.declared.Token.{Token}
 use Rattle.pp_tokens.specs.Marks.{is_hash, is_identifier}
 use Rattle.macro_defs.specs.Defining.{are_distinct, hashes_parameters, begins_with_parameter}
-use Rattle.macro_defs.specs.Stored.{spelled}
+use Rattle.macro_defs.specs.parts.Stored.{spelled}
 use Rattle.macro_defs.proofs.Fronts.{front_at}
 
 from_not : (p : Bool) → false ≡ not p → p ≡ true

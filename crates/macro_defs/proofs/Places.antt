@@ -14,7 +14,7 @@ use Rattle.macro_defs.specs.declared.definition.Shape.{Shape}
 use Rattle.macro_defs.specs.MacroDefinition.{MacroDefinition, without_line}
 use Rattle.macro_defs.specs.Arguments.{argument_named, parameters_in, parameter_at}
 use Rattle.macro_defs.specs.Defining.{definition_of}
-use Rattle.macro_defs.specs.Stored.{number_at, number_named, numbers_kept}
+use Rattle.macro_defs.specs.parts.Stored.{number_at, number_named, numbers_kept}
 
 -- a name more in a map
 pub number_more : {S : Type 0} (old new : IndexMap (Bor (List ℕ)) ℕ S) (name : Bor (List ℕ)) (kept number : ℕ) → kept ≡ number

@@ -8,7 +8,7 @@ use Rattle.std.proofs.lemmas.Cmp.{nat_list_eq_equiv}
 use Rattle.indexmap.specs.IndexMap.{insert_entry}
 use Rattle.macro_defs.specs.MacroDefinition.{MacroDefinition}
 use Rattle.macro_defs.specs.Table.{Entries, lookup, names_of, with_definition, Sets}
-use Rattle.macro_defs.specs.Stored.{seen}
+use Rattle.macro_defs.specs.parts.Stored.{seen}
 
 abbrev Defined : Type 0
 Defined = Option MacroDefinition

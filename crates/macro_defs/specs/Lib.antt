@@ -4,10 +4,10 @@
 --     Arguments          which argument a token of a replacement list stands for
 --     Defining           what a `#define` line defines, or the first thing that is wrong with it
 --     Table              which definition each name has
---     Stored             how maps and sets of names are seen, and what a definition keeps
+--     parts              helpers of contracts, on which none of these rests
 pub mod MacroDefinition
 pub mod Sameness
 pub mod Arguments
 pub mod Defining
 pub mod Table
-pub mod Stored
+pub mod parts

@@ -32,7 +32,7 @@ impl Model for Definition {
     ghost use Rattle.std.specs.Prelude.{◌≡◌, map};
     ghost use Rattle.macro_defs.specs.MacroDefinition.{MacroDefinition, without_line};
     ghost use Rattle.macro_defs.specs.Arguments.{parameters_in};
-    ghost use Rattle.macro_defs.specs.Stored.{numbers_kept};
+    ghost use Rattle.macro_defs.specs.parts.Stored.{numbers_kept};
 
     ghost Value = { MacroDefinition };
 

@@ -1,7 +1,7 @@
 // Which parameter each token of a replacement list names (ISO C 6.10.3.1 paragraph 1).
 ghost use Rattle.std.specs.Prelude.{◌≡◌, ◌<◌, ◌≤◌, ℕ, List, Some, map, length, if◌then◌else◌, position, bytes_eq, IfOk, OnOk, IfSome};
 ghost use Rattle.macro_defs.specs.Arguments.{argument_named, parameters_in};
-ghost use Rattle.macro_defs.specs.Stored.{number_at, number_named, numbers_kept};
+ghost use Rattle.macro_defs.specs.parts.Stored.{number_at, number_named, numbers_kept};
 
 use crate::Shape;
 use base_types::Bytes;

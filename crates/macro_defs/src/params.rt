@@ -2,7 +2,7 @@
 ghost use Rattle.std.specs.Prelude.{◌≡◌, ◌++◌, ◌∷◌, [], ℕ, List, not, ◌||◌, codes, bytes_eq, IfOk, IfErr, OnOk, MatchOption, Some, None};
 ghost use Rattle.std.specs.List.{list_any};
 ghost use Rattle.std.specs.Option.{option_flatten};
-ghost use Rattle.macro_defs.specs.Stored.{spelled};
+ghost use Rattle.macro_defs.specs.parts.Stored.{spelled};
 ghost use Rattle.macro_defs.specs.Defining as spec;
 ghost use Rattle.macro_defs.specs.Defining.{Parameters, RefusesParameters, before_parameters, last_parameter, cut_at_commas, is_written_reserved};
 

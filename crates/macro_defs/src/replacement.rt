@@ -1,6 +1,6 @@
 // Replacement lists (ISO C 6.10.3).
 ghost use Rattle.std.specs.Prelude.{◌≡◌, ℕ, List, IfOk, IfErr, Ok};
-ghost use Rattle.macro_defs.specs.Stored.{spelled};
+ghost use Rattle.macro_defs.specs.parts.Stored.{spelled};
 ghost use Rattle.macro_defs.specs.Defining as spec;
 ghost use Rattle.macro_defs.specs.Defining.{Refuses};
 

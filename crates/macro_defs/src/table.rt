@@ -19,7 +19,7 @@ pub struct MacroTable {
 
 impl Model for MacroTable {
     ghost use Rattle.macro_defs.specs.Table.{Entries};
-    ghost use Rattle.macro_defs.specs.Stored.{seen};
+    ghost use Rattle.macro_defs.specs.parts.Stored.{seen};
 
     ghost Value = { Entries };
 

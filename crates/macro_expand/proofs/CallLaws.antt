@@ -9,7 +9,7 @@ use Rattle.pp_tokens.specs.Marks.{is_punctuator, is_mark, is_open, is_close, is_
 use Rattle.macro_expand.specs.declared.marked.Marked.{Marked as Kept}
 use Rattle.macro_expand.specs.Replacement.{Marked, Call, call_with, call_in, argument_with, cut_at_commas, arguments_of}
 use Rattle.macro_expand.specs.Seen.{marked_of, lists_of}
-use Rattle.macro_expand.specs.Reading.{nesting_after, ends_call, is_cut, call_with_all, arguments_with}
+use Rattle.macro_expand.specs.parts.Reading.{nesting_after, ends_call, is_cut, call_with_all, arguments_with}
 
 -- The marks of tokens.
 

@@ -16,7 +16,7 @@ use Rattle.macro_expand.specs.Replacement.{Marked, after_open, Part, parts_of, s
 use Rattle.macro_expand.specs.Expansion.{Expanded, ExpandedEach, role_of, object_replacement, variable_of, call_replacement}
 use Rattle.macro_expand.specs.Answered.{Answerer, ByFailure, Answered, after_result, and_then, before, expanded_for, charged_for, argument_for, arguments_for}
 use Rattle.macro_expand.specs.Seen.{marked_of, lists_of, parts_seen, Reports, Stops, ReadsCall, RefusesCall, KeepsWritten, call_replaced_by}
-use Rattle.macro_expand.specs.Naming.{StandAlone, called_for}
+use Rattle.macro_expand.specs.parts.Naming.{StandAlone, called_for}
 use Rattle.macro_expand.proofs.AnsweredLaws.{argument_for-skipped, argument_for-deep, argument_for-alone, expanded_for-undefined, expanded_for-object, expanded_for-not_called, expanded_for-unclosed, expanded_for-count, expanded_for-called, charged_for-error, before_all, before_all-lists, arguments_for-next, arguments_for-nil}
 use Rattle.macro_expand.proofs.PieceLemmas.{written_is}
 use Rattle.macro_expand.proofs.LoopLaws.{Stops-is, Stops-same, Stops-reports}

@@ -9,7 +9,7 @@ use Rattle.macro_defs.specs.Arguments.{argument_named}
 use Rattle.pp_tokens.specs.Marks.{is_punctuator, is_open, is_close, is_comma, is_hash, is_pasting, Mark, Opening, Closing, Comma, Hash, Pasting, NoMark, mark_of}
 use Rattle.macro_expand.specs.declared.replace.Part.{Part as KeptPart}
 use Rattle.macro_expand.specs.Replacement.{Part, Plain, Argument, Spelling, Join, parts_after, is_join, is_alone, stands_alone}
-use Rattle.macro_expand.specs.Parts.{operand_part, part_of, object_part, begins_spelling, Marks}
+use Rattle.macro_expand.specs.parts.Parts.{operand_part, part_of, object_part, begins_spelling, Marks}
 use Rattle.macro_expand.specs.Seen.{part_seen, parts_seen}
 
 -- the values from an index on are the one there and those behind it

@@ -10,7 +10,7 @@ use Rattle.macro_expand.specs.Sets.{names_in}
 use Rattle.macro_expand.specs.Replacement.{Marked, Operand, operand_tokens, common_names, Piece, Real, Placemarker, Joining, pasted, before_joined, joined}
 use Rattle.macro_expand.specs.declared.paste.Joining.{Joining as Joiner}
 use Rattle.macro_expand.specs.Seen.{ReportsPaste, marked_of, operand_of, pasted_as}
-use Rattle.macro_expand.specs.Pasting.{tokens_before, joined_from}
+use Rattle.macro_expand.specs.parts.Pasting.{tokens_before, joined_from}
 
 -- Two tokens pasted (6.10.3.3).
 abbrev pub Paste_of : Kept → Kept → List ℕ → Option Kind → Result Operand (List ℕ × List ℕ)

@@ -7,7 +7,7 @@ use Rattle.pp_tokens.specs.Tokens.{token_seen}
 use Rattle.macro_expand.specs.declared.marked.Marked.{Marked as Kept}
 use Rattle.pp_tokens.specs.Marks.{is_open}
 use Rattle.macro_expand.specs.Replacement.{unmarked, Marked, after_open}
-use Rattle.macro_expand.specs.Reading.{holds_at}
+use Rattle.macro_expand.specs.parts.Reading.{holds_at}
 use Rattle.macro_expand.specs.Seen.{marked_of, kept_plain, kept_token}
 
 -- tokens with no hidden name are those of the text

@@ -12,7 +12,7 @@ use Rattle.macro_expand.specs.Replacement.{Marked, Names, unmarked, with_space, 
 use Rattle.macro_expand.specs.Expansion.{object_replacement, call_replacement}
 use Rattle.macro_expand.specs.Sets.{names_in}
 use Rattle.macro_expand.specs.Seen.{part_seen, parts_seen, marked_of, call_replaced_by, KeepsWritten, Reports, ReportsPaste}
-use Rattle.macro_expand.specs.Parts.{takes_written}
+use Rattle.macro_expand.specs.parts.Parts.{takes_written}
 use Rattle.pp_tokens.specs.Marks.{is_comma}
 use Rattle.macro_expand.proofs.PartLemmas.{from_here}
 use Rattle.macro_expand.proofs.StringLemmas.{grows, nothing_left}

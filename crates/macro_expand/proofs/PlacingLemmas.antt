@@ -5,7 +5,7 @@ use Rattle.std.proofs.lemmas.List.{map-append, take_more, take_more_set, drop-se
 use mathlib.Core.Path.{fun_ext}
 use Rattle.macro_expand.specs.Replacement.{Marked, Names}
 use Rattle.macro_expand.specs.Sets.{names_in}
-use Rattle.macro_expand.specs.Placing.{placed}
+use Rattle.macro_expand.specs.parts.Placing.{placed}
 
 pub placed-hidden : (line : ℕ) (hidden : Names) (m : Marked) (all : List (List ℕ)) →
     ((n : List ℕ) → names_in all n ≡ (m.hidden n || hidden n)) →

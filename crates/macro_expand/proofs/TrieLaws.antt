@@ -4,7 +4,7 @@ use Rattle.std.proofs.lemmas.Bool.{and_parts, and_from, or_cases, both_ways, fal
 use Rattle.std.proofs.lemmas.List.Folds.{list_any-append}
 use Rattle.std.proofs.lemmas.Slice.Eq.{bytes_eq-Decides}
 use Rattle.macro_expand.specs.Sets.{names_in}
-use Rattle.macro_expand.specs.Tries.{name_hash, Tree, Tip, Branch, names_of, have_bit, next_key, placed, hashed, IsOrdered, is_same_name, found, with_leaf, with_new, with_all, with_common, with_all_common, has_all, is_same}
+use Rattle.macro_expand.specs.parts.Tries.{name_hash, Tree, Tip, Branch, names_of, have_bit, next_key, placed, hashed, IsOrdered, is_same_name, found, with_leaf, with_new, with_all, with_common, with_all_common, has_all, is_same}
 
 names_in-append : (a b : List (List ℕ)) (n : List ℕ) → names_in (a ++ b) n ≡ (names_in a n || names_in b n)
 names_in-append a b n = list_any-append (bytes_eq n) a b

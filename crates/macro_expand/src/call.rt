@@ -3,10 +3,10 @@ ghost use Rattle.std.specs.Prelude.{◌≡◌, ◌⊎◌, ◌+◌, ◌-◌, ◌^
 ghost use Rattle.std.specs.VecDeque.{deque_len};
 ghost use Rattle.macro_expand.specs.Replacement as spec;
 ghost use Rattle.macro_expand.specs.Replacement.{Marked as MarkedToken, after_open, arguments_of, call_in};
-ghost use Rattle.macro_expand.specs.Reading as reading;
-ghost use Rattle.macro_expand.specs.Reading.{call_read, arguments_seen, cut_from};
+ghost use Rattle.macro_expand.specs.parts.Reading as reading;
+ghost use Rattle.macro_expand.specs.parts.Reading.{call_read, arguments_seen, cut_from};
 ghost use Rattle.std.specs.List.{list_any};
-ghost use Rattle.macro_expand.specs.Parts.{takes_written};
+ghost use Rattle.macro_expand.specs.parts.Parts.{takes_written};
 ghost use Rattle.macro_expand.specs.Seen.{marked_of, lists_of, part_seen, parts_seen, ReadsCall, RefusesCall, KeepsWritten};
 
 use crate::marked::Marked;

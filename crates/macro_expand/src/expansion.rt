@@ -10,7 +10,7 @@ ghost use Rattle.macro_expand.specs.declared.marked.Role.TheVariants.{Name};
 ghost use Rattle.macro_expand.specs.Replacement.{unmarked};
 ghost use Rattle.macro_expand.specs.Expansion.{role_of};
 ghost use Rattle.macro_expand.specs.Answered.{argument_for, arguments_for, expanded_for};
-ghost use Rattle.macro_expand.specs.Naming.{StandAlone, called_for};
+ghost use Rattle.macro_expand.specs.parts.Naming.{StandAlone, called_for};
 ghost use Rattle.macro_expand.specs.Seen.{marked_of, kept_token, parts_seen, lists_of, GoesOn, Stops, public_of, HasTokens};
 
 use crate::answers::Answers;

@@ -3,8 +3,8 @@
 // A name is looked for on the way that its hash says, and one more name takes new nodes on that way alone. A union or an intersection takes
 // so much for each name of the smaller set. What the model keeps is `IsOrdered`: every name is met on its way.
 ghost use Rattle.std.specs.Prelude.{◌≡◌, IfOk};
-ghost use Rattle.macro_expand.specs.Tries as tries;
-ghost use Rattle.macro_expand.specs.Tries.{name_hash, Branch, tree_of, found, with_leaf, with_common, with_all_common};
+ghost use Rattle.macro_expand.specs.parts.Tries as tries;
+ghost use Rattle.macro_expand.specs.parts.Tries.{name_hash, Branch, tree_of, found, with_leaf, with_common, with_all_common};
 
 use base_types::Bytes;
 use std::alloc::{AllocError, Global};
@@ -47,7 +47,7 @@ struct Node {
 
 impl Model for HideSet {
     ghost use Rattle.std.specs.Prelude.{ℕ, List};
-    ghost use Rattle.macro_expand.specs.Tries.{tree_of, names_of, IsOrdered};
+    ghost use Rattle.macro_expand.specs.parts.Tries.{tree_of, names_of, IsOrdered};
 
     ghost Value = { List (List ℕ) };
 
@@ -165,7 +165,7 @@ impl HideSet {
 }
 
 // The FNV-1a hash of 64 bits.
-#[tactic(auto, unfolding(crate::specs::Tries::name_hash))]
+#[tactic(auto, unfolding(crate::specs::parts::Tries::name_hash))]
 fn hash_of(name: &[u8]) -> u64
     ensures { result ≡ name_hash name.now }
 {

@@ -4,7 +4,7 @@ ghost use Rattle.macro_defs.specs.Arguments.{parameters_in};
 ghost use Rattle.macro_expand.specs.Replacement.{parts_of};
 ghost use Rattle.macro_expand.specs.Expansion.{variable_of};
 ghost use Rattle.macro_expand.specs.Seen.{lists_of, parts_seen, KeepsWritten};
-ghost use Rattle.macro_expand.specs.Naming.{StandAlone, ReadsName, KnowsAlone, NameStops};
+ghost use Rattle.macro_expand.specs.parts.Naming.{StandAlone, ReadsName, KnowsAlone, NameStops};
 
 use crate::answers::Answers;
 use crate::call::{ReadCall, read_call, with_kept};

@@ -2,7 +2,7 @@
 ghost use Rattle.std.specs.Prelude.{◌≡◌, ◌+◌, ◌≤◌, ◌++◌, ◌∷◌, [], map, length, take, drop, IfOk, IfErr, OnOk};
 ghost use Rattle.macro_expand.specs.declared.marked.Role.TheVariants.{Defined};
 ghost use Rattle.pp_tokens.specs.Marks.{is_identifier, is_mark};
-ghost use Rattle.macro_expand.specs.Reading.{holds_at, begins_with_name_in_parentheses};
+ghost use Rattle.macro_expand.specs.parts.Reading.{holds_at, begins_with_name_in_parentheses};
 ghost use Rattle.macro_expand.specs.Expansion as spec;
 ghost use Rattle.macro_expand.specs.Expansion.{role_of, operand_of_defined};
 ghost use Rattle.macro_expand.specs.Answered.{expanded_for};

@@ -3,7 +3,7 @@ ghost use Rattle.std.specs.Prelude.{◌≡◌, ◌⊎◌, ◌++◌, ◌∷◌, [
 ghost use Rattle.pp_tokens.specs.Grammar.{kind_of};
 ghost use Rattle.macro_expand.specs.Replacement.{Piece as MarkedPiece, Real, Placemarker, joined, pasted, operand_tokens};
 ghost use Rattle.macro_expand.specs.Seen.{marked_of, piece_of, operand_of, pasted_as, ReportsPaste};
-ghost use Rattle.macro_expand.specs.Pasting.{joined_from};
+ghost use Rattle.macro_expand.specs.parts.Pasting.{joined_from};
 
 use crate::expansion::put;
 use crate::marked::{Marked, Piece};

@@ -3,7 +3,7 @@ ghost use Rattle.std.specs.Prelude.{◌≡◌, ◌+◌, ◌≤◌, ◌++◌, ◌
 ghost use Rattle.std.specs.Option.{option_map};
 ghost use Rattle.pp_tokens.specs.Tokens.{token_seen};
 ghost use Rattle.macro_expand.specs.Replacement.{after_open};
-ghost use Rattle.macro_expand.specs.Pending.{run_tokens};
+ghost use Rattle.macro_expand.specs.parts.Pending.{run_tokens};
 ghost use Rattle.macro_expand.specs.Seen.{marked_of, kept_plain, kept_token};
 
 use crate::marked::Marked;
@@ -24,7 +24,7 @@ pub(crate) struct Pending<'a> {
 impl<'a> Model for Pending<'a> {
     ghost use Rattle.std.specs.Prelude.{List, map, ◌++◌};
     ghost use Rattle.macro_expand.specs.declared.marked.Marked.{Marked};
-    ghost use Rattle.macro_expand.specs.Pending.{run_tokens};
+    ghost use Rattle.macro_expand.specs.parts.Pending.{run_tokens};
     ghost use Rattle.macro_expand.specs.Seen.{kept_plain};
 
     ghost Value = { List Marked };

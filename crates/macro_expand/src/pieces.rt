@@ -5,7 +5,7 @@ ghost use Rattle.macro_defs.specs.MacroDefinition.{without_line};
 ghost use Rattle.pp_tokens.specs.Marks.{is_comma};
 ghost use Rattle.macro_expand.specs.Replacement as spec;
 ghost use Rattle.macro_expand.specs.Replacement.{unmarked, with_space, as_pieces, argument_at, is_variable, is_comma_part, is_join, first_part, rest_parts, is_empty_argument, pieces_of_part, pieces_of, Real};
-ghost use Rattle.macro_expand.specs.Pieces.{arguments_seen, spaced_at};
+ghost use Rattle.macro_expand.specs.parts.Pieces.{arguments_seen, spaced_at};
 ghost use Rattle.macro_expand.specs.Seen.{marked_of, piece_of, part_seen, parts_seen, lists_of};
 
 use crate::marked::{Marked, Piece};

@@ -3,7 +3,7 @@ ghost use Rattle.std.specs.Prelude.{◌≡◌, map, length, IfOk, IfSome, OnOk};
 ghost use Rattle.macro_expand.specs.Sets.{names_in};
 ghost use Rattle.macro_expand.specs.Replacement.{with_space, put_in_for};
 ghost use Rattle.macro_expand.specs.Seen.{marked_of};
-ghost use Rattle.macro_expand.specs.Placing.{placed, IsUnion, KnowsUnion};
+ghost use Rattle.macro_expand.specs.parts.Placing.{placed, IsUnion, KnowsUnion};
 
 use crate::hide_set::HideSet;
 use crate::marked::Marked;

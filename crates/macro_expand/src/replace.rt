@@ -3,8 +3,8 @@ ghost use Rattle.std.specs.Prelude.{◌≡◌, ◌≤◌, ◌<◌, ℕ, List, So
 ghost use Rattle.macro_defs.specs.MacroDefinition.{without_line};
 ghost use Rattle.macro_defs.specs.Arguments.{parameters_in};
 ghost use Rattle.macro_expand.specs.Replacement.{parts_after, parts_of, one_joins, stands_alone, object_parts, is_join, first_part, with_name, common_names, replacement};
-ghost use Rattle.macro_expand.specs.Parts.{operand_part, part_of, begins_spelling, object_part, Marks};
-ghost use Rattle.macro_expand.specs.Pieces.{arguments_seen};
+ghost use Rattle.macro_expand.specs.parts.Parts.{operand_part, part_of, begins_spelling, object_part, Marks};
+ghost use Rattle.macro_expand.specs.parts.Pieces.{arguments_seen};
 ghost use Rattle.macro_expand.specs.Sets.{names_in};
 ghost use Rattle.macro_expand.specs.Expansion.{object_replacement, variable_of};
 ghost use Rattle.macro_expand.specs.Seen.{marked_of, lists_of, part_seen, parts_seen, Reports, call_replaced_by};

@@ -3,7 +3,7 @@ ghost use Rattle.std.specs.Prelude.{◌≡◌, ◌∷◌, [], MatchOption};
 ghost use Rattle.std.specs.Option.{option_map};
 ghost use Rattle.std.specs.Prelude.{slice_get};
 ghost use Rattle.pp_tokens.specs.Tokens.{token_seen};
-ghost use Rattle.macro_expand.specs.Pending.{run_tokens};
+ghost use Rattle.macro_expand.specs.parts.Pending.{run_tokens};
 
 use pp_tokens::{Token, TokenRef, Tokens};
 

@@ -5,7 +5,7 @@ ghost use Rattle.macro_expand.specs.Replacement.{unmarked};
 ghost use Rattle.macro_expand.specs.Expansion.{expanded_by};
 ghost use Rattle.macro_expand.specs.Answered.{expanded_for, table_answerer};
 ghost use Rattle.macro_expand.specs.Seen.{marked_of, kept_plain, place_of, Gives, Stops, ReportsResult};
-ghost use Rattle.macro_expand.specs.Pending.{run_tokens};
+ghost use Rattle.macro_expand.specs.parts.Pending.{run_tokens};
 ghost use Rattle.macro_expand.specs.Stream.{to_come, at_hand, FirstReady, GivesNext, StandsAfter, IsAnswer, StaysAsItIs, Becomes};
 
 use crate::answers::{Presumed, TablePlace};

@@ -3,7 +3,7 @@ use Rattle.std.specs.Prelude.{◌≡◌, ℕ, Bool, true, false, not, ◌&&◌, 
 use Rattle.std.specs.List.{list_all}
 use Rattle.std.proofs.lemmas.Bool.{not-true}
 use Rattle.pp_tokens.specs.Plain.{is_plain_line, lines_of, ends_line, is_plain_body}
-use Rattle.pp_tokens.specs.Text.{no_newline}
+use Rattle.pp_tokens.specs.parts.Text.{no_newline}
 use Rattle.pp_tokens.proofs.Headers.{both_hold}
 
 lines_cut : (line more : List ℕ) → no_newline line ≡ true → lines_of (line ++ (10 ∷ more)) ≡ line ∷ lines_of more

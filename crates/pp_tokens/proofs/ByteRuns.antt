@@ -5,7 +5,7 @@ use Rattle.std.proofs.lemmas.Bool.{eqb-true, ne_eqb, false_from_ne_true}
 use Rattle.std.proofs.Math.Numerals.{one-add}
 use Rattle.std.proofs.lemmas.List.{drop-drop, drop_all}
 use Rattle.memchr.specs.Find.{IsFirstByte, NoneBefore, Passes, is_byte}
-use Rattle.pp_tokens.specs.Text.{comment_length}
+use Rattle.pp_tokens.specs.parts.Text.{comment_length}
 
 -- how many bytes stand before the first that is this one
 abbrev pub before : ℕ → List ℕ → ℕ

@@ -8,8 +8,8 @@ use Rattle.std.proofs.lemmas.List.{append-nil, length-append, length-drop, drop-
 use Rattle.std.proofs.Math.Seq.{drop-cons, take-append_seam}
 use Rattle.pp_tokens.specs.declared.unpaired.Unpaired.{Unpaired}
 use Rattle.pp_tokens.specs.Grammar.{closes, closes_header, is_empty}
-use Rattle.pp_tokens.specs.Text.{no_newline}
-use Rattle.pp_tokens.specs.Unpaired.{closing_length, delimiter_length, NonePairs, KnowsUnpaired}
+use Rattle.pp_tokens.specs.parts.Text.{no_newline}
+use Rattle.pp_tokens.specs.parts.Unpaired.{closing_length, delimiter_length, NonePairs, KnowsUnpaired}
 use Rattle.pp_tokens.proofs.Headers.{both_hold}
 use Rattle.pp_tokens.proofs.Longest.{map_none}
 use Rattle.pp_tokens.proofs.FirstBytes.{run_of}

@@ -7,7 +7,7 @@ use Rattle.std.proofs.lemmas.List.{append-nil}
 use Rattle.std.proofs.Math.Bool.{or-false}
 use Rattle.pp_tokens.specs.Grammar.{is_identifier, is_number, is_string, is_character, is_punctuator, kind_of}
 use Rattle.pp_tokens.specs.Lines.{comment, open_comment, has_end, ends_comment, part_of, is_comment, is_open_comment, NoLonger, first_part}
-use Rattle.pp_tokens.specs.Text.{comment_length}
+use Rattle.pp_tokens.specs.parts.Text.{comment_length}
 use Rattle.pp_tokens.proofs.Reading.{stands_first}
 use Rattle.pp_tokens.proofs.FirstBytes.{Run, run_of, some_fails}
 

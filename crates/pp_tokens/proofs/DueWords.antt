@@ -5,7 +5,7 @@ use Rattle.std.proofs.lemmas.Slice.Eq.{bytes_eq-Decides}
 use Rattle.pp_tokens.specs.declared.due.Before.{Before}
 use Rattle.pp_tokens.specs.declared.due.Before.TheVariants.{Nothing, Hash, Include, Condition, Probe, Probed, Other}
 use Rattle.pp_tokens.specs.Lines.{spells_hash, ends_with_probe, header_due}
-use Rattle.pp_tokens.specs.Text.{after_word, is_due}
+use Rattle.pp_tokens.specs.parts.Text.{after_word, is_due}
 
 -- what stands on a line with these words more
 unfoldable pub after_words : Before → List (List ℕ) → Before

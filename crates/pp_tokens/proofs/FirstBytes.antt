@@ -9,7 +9,7 @@ use Rattle.std.proofs.lemmas.List.{append-nil}
 use Rattle.pp_tokens.specs.declared.token.Kind.TheVariants.{Ident}
 use Rattle.pp_tokens.specs.Grammar.{is_digit, is_identifier_start, is_identifier_byte, is_identifier, is_number, is_quoted, is_string, is_character, is_punctuator, punctuators, kind_of}
 use Rattle.pp_tokens.specs.Lines.{token, part_of, is_comment, is_open_comment, NoLonger, first_part}
-use Rattle.pp_tokens.specs.Text.{is_quote}
+use Rattle.pp_tokens.specs.parts.Text.{is_quote}
 use Rattle.pp_tokens.proofs.Headers.{and_fails, or_fails, both_hold}
 use Rattle.pp_tokens.proofs.Reading.{stands_first}
 

@@ -5,7 +5,7 @@ use Rattle.std.proofs.Common.{sym, ◌∙◌, ap, arith}
 use Rattle.std.proofs.lemmas.List.{map-append, drop-drop, length-map, length-take-le}
 use Rattle.pp_tokens.specs.declared.lexer.Place.{Place}
 use Rattle.pp_tokens.specs.declared.token.Token.{Token}
-use Rattle.pp_tokens.specs.Seen.{token_at, seen_lines, last_end, Ascends}
+use Rattle.pp_tokens.specs.parts.Seen.{token_at, seen_lines, last_end, Ascends}
 use Rattle.pp_tokens.proofs.Places.{ascends_last, start_of, token_within, token_past}
 
 -- the front of a list in two parts

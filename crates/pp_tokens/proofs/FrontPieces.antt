@@ -4,7 +4,7 @@ use Rattle.std.specs.List.{list_all, starts_with}
 use Rattle.std.proofs.Common.{sym, ◌∙◌, ap, inl, inr, subst, arith}
 use Rattle.std.proofs.lemmas.List.{drop-append-le, drop-drop}
 use Rattle.pp_tokens.specs.Phases.{Cell, cell, with_newlines, numbered, without_trigraphs, spliced}
-use Rattle.pp_tokens.specs.Pieces.{characters, source_from, newline_length, front_trigraph, or_byte, front_character, is_kept, line_behind}
+use Rattle.pp_tokens.specs.parts.Pieces.{characters, source_from, newline_length, front_trigraph, or_byte, front_character, is_kept, line_behind}
 use Rattle.pp_tokens.proofs.Headers.{both_hold, and_fails}
 use Rattle.pp_tokens.proofs.Fronts.{byte_front, newline_front, character_front, character_visible}
 

@@ -4,7 +4,7 @@ use Rattle.std.specs.List.{starts_with}
 use Rattle.std.proofs.Common.{sym, ◌∙◌, ap, inl, inr, subst, arith}
 use Rattle.std.proofs.lemmas.Bool.{eqb-true, ne_eqb}
 use Rattle.pp_tokens.specs.Phases.{Cell, cell, trigraph, with_newlines, numbered, without_trigraphs}
-use Rattle.pp_tokens.specs.Pieces.{characters, newline_length, front_trigraph, or_byte, front_character}
+use Rattle.pp_tokens.specs.parts.Pieces.{characters, newline_length, front_trigraph, or_byte, front_character}
 use Rattle.pp_tokens.proofs.Headers.{both_hold, and_fails}
 
 -- TRIGRAPHS

@@ -3,7 +3,7 @@ use Rattle.std.specs.Prelude.{◌≡◌, Bool, true, false, cond, List, [], ◌�
 use Rattle.std.proofs.Common.{sym, ◌∙◌, ap, append_assoc}
 use Rattle.std.proofs.lemmas.List.{append-nil}
 use Rattle.pp_tokens.specs.declared.token.Token.{Token}
-use Rattle.pp_tokens.specs.Gathered.{joined}
+use Rattle.pp_tokens.specs.parts.Gathered.{joined}
 use Rattle.pp_tokens.specs.Phases.{Cell}
 use Rattle.pp_tokens.specs.Lines.{Part, newline, white, comment, open_comment, token, Element, cut_at_newlines, onto_first, line_tokens}
 

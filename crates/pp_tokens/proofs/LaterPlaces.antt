@@ -2,7 +2,7 @@
 use Rattle.std.specs.Prelude.{ℕ, ◌+◌, false, List, Option}
 use Rattle.std.proofs.Common.{arith}
 use Rattle.pp_tokens.specs.declared.unpaired.Unpaired.{Unpaired}
-use Rattle.pp_tokens.specs.Unpaired.{closing_length, delimiter_length, NonePairs, KnowsUnpaired}
+use Rattle.pp_tokens.specs.parts.Unpaired.{closing_length, delimiter_length, NonePairs, KnowsUnpaired}
 
 none_later : (partner : List ℕ → Option ℕ) (byte : ℕ) (text : List ℕ) (at n bound : ℕ) → NonePairs partner byte text at bound → NonePairs partner byte text (at + n) bound
 none_later partner byte text at n bound h place from below is = h place (omega (arith, from)) below is

@@ -11,9 +11,9 @@ use Rattle.pp_tokens.specs.declared.lexer.Gathering.{Gathering}
 use Rattle.pp_tokens.specs.Phases.{Cell, cell, bytes}
 use Rattle.pp_tokens.specs.Lined.{lined, spliced_up_to}
 use Rattle.pp_tokens.specs.Lines.{Part, newline, white, comment, open_comment, token, Element, header_due, words_after, line_of, unended_line, first_part, elements, file_of, or_else, Stands}
-use Rattle.pp_tokens.specs.Seen.{seen_lines, seen_file, last_end, Ascends, EachWithin}
-use Rattle.pp_tokens.specs.Text.{after_word, is_due}
-use Rattle.pp_tokens.specs.Gathered.{newlines, joined, present_tokens, file_with, before_with, IsGathered, IsPart, GathersNothing, EndsLine, EndsLastLine, AddsToken, AddsGap, Gathers}
+use Rattle.pp_tokens.specs.parts.Seen.{seen_lines, seen_file, last_end, Ascends, EachWithin}
+use Rattle.pp_tokens.specs.parts.Text.{after_word, is_due}
+use Rattle.pp_tokens.specs.parts.Gathered.{newlines, joined, present_tokens, file_with, before_with, IsGathered, IsPart, GathersNothing, EndsLine, EndsLastLine, AddsToken, AddsGap, Gathers}
 use Rattle.pp_tokens.proofs.Reading.{cut_off, next_element, drop_one_more, first_stands, some_length}
 use Rattle.pp_tokens.proofs.LinedRests.{lined_bytes, lined_past, cut_bytes, cut_line}
 use Rattle.pp_tokens.proofs.Joining.{lines_joined}

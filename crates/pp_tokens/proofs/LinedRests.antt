@@ -6,7 +6,7 @@ use Rattle.std.proofs.lemmas.List.Sums.{sum_by-cons}
 use Rattle.pp_tokens.specs.Phases.{Cell, bytes}
 use Rattle.pp_tokens.specs.Lined.{lined, spliced_up_to}
 use Rattle.pp_tokens.specs.Lines.{line_of}
-use Rattle.pp_tokens.specs.Gathered.{newlines}
+use Rattle.pp_tokens.specs.parts.Gathered.{newlines}
 
 pub lined_bytes : (splices : List ℕ) (at line : ℕ) (xs : List ℕ) → bytes (lined splices at line xs) ≡ xs
 unfolding lined

@@ -5,8 +5,8 @@ use Rattle.std.proofs.lemmas.Bool.{lt-leb, le-leb}
 use Rattle.std.proofs.Math.Nat.{add-zero}
 use Rattle.pp_tokens.specs.Phases.{Cell, cell, numbered}
 use Rattle.pp_tokens.specs.Lined.{spliced_up_to, lined, Rising}
-use Rattle.pp_tokens.specs.Seen.{Ascends}
-use Rattle.pp_tokens.specs.Pieces.{line_behind}
+use Rattle.pp_tokens.specs.parts.Seen.{Ascends}
+use Rattle.pp_tokens.specs.parts.Pieces.{line_behind}
 use Rattle.pp_tokens.proofs.Places.{ascends_last}
 
 -- THE LINE BEHIND A TEXT

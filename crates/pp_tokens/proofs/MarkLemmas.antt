@@ -5,7 +5,7 @@ use Rattle.std.proofs.lemmas.Bool.{ne_eqb, and_left, and_parts, and_right, or_pa
 use Rattle.pp_tokens.specs.declared.token.Kind.TheVariants.{Punct, Other}
 use Rattle.pp_tokens.specs.Grammar.{is_white, is_newline, is_digit, is_identifier_start, is_identifier, is_number, number_goes_on, is_string, is_character, is_punctuator, kind_of}
 use Rattle.pp_tokens.specs.Lines.{Part, token, part_of, is_comment, is_open_comment, NoLonger, first_part}
-use Rattle.pp_tokens.specs.Text.{is_quote, begins_number, begins_comment, is_single, is_pair, is_triple, is_quadruple, is_second, mark_length}
+use Rattle.pp_tokens.specs.parts.Text.{is_quote, begins_number, begins_comment, is_single, is_pair, is_triple, is_quadruple, is_second, mark_length}
 use Rattle.pp_tokens.proofs.Reading.{stands_first}
 use Rattle.pp_tokens.proofs.Punctuators.{no_zero, single_is, pair_is, triple_is, quadruple_is, no_quintuple, no_single, no_second}
 

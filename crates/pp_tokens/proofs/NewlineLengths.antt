@@ -2,7 +2,7 @@
 use Rattle.std.specs.Prelude.{◌≡◌, ℕ, Bool, true, false, cond, ◌&&◌, ◌||◌, List, [], ◌∷◌, ◌++◌, length, get_or, refl, ◌==◌, nat_eq}
 use Rattle.std.proofs.Common.{sym, ◌∙◌, arith, eq-eqb}
 use Rattle.std.proofs.lemmas.Bool.{ne_eqb, eqb-true, eqb-false}
-use Rattle.pp_tokens.specs.Pieces.{newline_length}
+use Rattle.pp_tokens.specs.parts.Pieces.{newline_length}
 
 -- the order of two numbers makes no difference to a test of them
 swapped : (a b : ℕ) → (a == b) ≡ (b == a)

@@ -5,7 +5,7 @@ use Rattle.std.proofs.Common.{get_or, drop-cons, add-one, sym, ◌∙◌, ap, in
 use Rattle.std.proofs.lemmas.Bool.{eqb-true, leb-true, ne_eqb}
 use Rattle.pp_tokens.specs.declared.token.Kind.TheVariants.{Number}
 use Rattle.pp_tokens.specs.Grammar.{is_digit, is_identifier_start, is_identifier, is_number, number_goes_on, continues_number, is_string, is_character, is_punctuator, kind_of, number_length}
-use Rattle.pp_tokens.specs.Text.{begins_number}
+use Rattle.pp_tokens.specs.parts.Text.{begins_number}
 use Rattle.pp_tokens.specs.Lines.{Part, token, part_of, is_comment, is_open_comment, NoLonger, first_part}
 use Rattle.pp_tokens.proofs.Headers.{and_fails, both_hold, either_holds}
 use Rattle.pp_tokens.proofs.Reading.{stands_first}

@@ -8,8 +8,8 @@ use Rattle.pp_tokens.specs.declared.token.Kind.{Kind}
 use Rattle.pp_tokens.specs.declared.token.Kind.TheVariants.{Ident, Number, Char, Str, Punct, Other}
 use Rattle.pp_tokens.specs.Grammar.{is_identifier_start, is_identifier_byte, is_identifier, is_newline, is_white, continues_number, number_goes_on, is_digit, begins_with_digit, is_number, is_empty, closes, is_quoted, is_literal, is_string, is_character, closes_header, is_delimited, is_header, punctuators, is_punctuator, is_one_byte, kind_of}
 use Rattle.pp_tokens.specs.Lines.{Part, newline, white, comment, open_comment, token, is_one, is_comment, is_open_comment, part_of}
-use Rattle.pp_tokens.specs.Text.{no_newline}
-use Rattle.pp_tokens.specs.Gathered.{newlines, IsPart, is_long}
+use Rattle.pp_tokens.specs.parts.Text.{no_newline}
+use Rattle.pp_tokens.specs.parts.Gathered.{newlines, IsPart, is_long}
 use Rattle.pp_tokens.proofs.Headers.{both_hold, either_holds}
 use Rattle.pp_tokens.proofs.FirstBytes.{apart}
 use Rattle.pp_tokens.proofs.LinedRests.{newline_next}

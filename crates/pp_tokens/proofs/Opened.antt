@@ -8,9 +8,9 @@ use Rattle.pp_tokens.specs.declared.token.Kind.{Kind}
 use Rattle.pp_tokens.specs.declared.token.Kind.TheVariants.{Ident, Char, Str, Header, Other}
 use Rattle.pp_tokens.specs.Grammar.{closes, closes_header, is_empty, is_header, is_identifier, is_number, is_string, is_character, is_punctuator, kind_of}
 use Rattle.pp_tokens.specs.Lines.{token, part_of, is_comment, is_open_comment, NoLonger, NoHeader, longest_from, header_part, first_part}
-use Rattle.pp_tokens.specs.Literals.{literal_kind, closing_delimiter}
-use Rattle.pp_tokens.specs.Text.{is_quote}
-use Rattle.pp_tokens.specs.Unpaired.{closing_length, delimiter_length}
+use Rattle.pp_tokens.specs.parts.Literals.{literal_kind, closing_delimiter}
+use Rattle.pp_tokens.specs.parts.Text.{is_quote}
+use Rattle.pp_tokens.specs.parts.Unpaired.{closing_length, delimiter_length}
 use Rattle.pp_tokens.proofs.Headers.{either_holds, and_fails, or_fails}
 use Rattle.pp_tokens.proofs.Longest.{none_longest}
 use Rattle.pp_tokens.proofs.Reading.{stands_first}

@@ -6,7 +6,7 @@ use Rattle.std.proofs.lemmas.List.{map-append, drop-append-le, take-append-le, l
 use Rattle.std.proofs.lemmas.Option.{slice_get-map, slice_get_past}
 use Rattle.pp_tokens.specs.declared.lexer.Place.{Place}
 use Rattle.pp_tokens.specs.declared.token.Token.{Token}
-use Rattle.pp_tokens.specs.Seen.{token_at, seen_lines, last_end, Ascends, EachWithin}
+use Rattle.pp_tokens.specs.parts.Seen.{token_at, seen_lines, last_end, Ascends, EachWithin}
 
 pub ascends_last : (from : ℕ) (ends : List ℕ) (last : ℕ) → Ascends from ends last → (from ≤ last_end from ends) × (last_end from ends ≤ last)
 unfolding last_end Ascends

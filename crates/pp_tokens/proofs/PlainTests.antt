@@ -7,7 +7,7 @@ use Rattle.std.proofs.lemmas.Bool.{eqb-true}
 use Rattle.std.proofs.lemmas.Slice.Eq.{bytes_eq-Decides}
 use Rattle.std.specs.Cmp.Derive.{both_true}
 use Rattle.pp_tokens.specs.Plain.{is_simple_name, include_line, included_name, is_include_line, is_plain_line, is_plain_body, lines_of, ends_line}
-use Rattle.pp_tokens.specs.Text.{no_newline}
+use Rattle.pp_tokens.specs.parts.Text.{no_newline}
 use Rattle.pp_tokens.proofs.Headers.{both_hold, and_fails}
 use Rattle.pp_tokens.proofs.FirstBytes.{Run, run_of}
 use Rattle.pp_tokens.proofs.Bodies.{body_cut, no_end}

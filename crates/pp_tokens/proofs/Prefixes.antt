@@ -12,8 +12,8 @@ use Rattle.pp_tokens.specs.declared.token.Kind.TheVariants.{Ident, Char, Str}
 use Rattle.pp_tokens.specs.declared.unpaired.Unpaired.{Unpaired}
 use Rattle.pp_tokens.specs.Grammar.{is_identifier_start, is_identifier_byte, is_quoted, is_string, is_character}
 use Rattle.pp_tokens.specs.Lines.{token, part_of, NoLonger, first_part}
-use Rattle.pp_tokens.specs.Literals.{opens_character, opens_string, opens_literal, literal_kind}
-use Rattle.pp_tokens.specs.Unpaired.{closing_length, delimiter_length, KnowsUnpaired}
+use Rattle.pp_tokens.specs.parts.Literals.{opens_character, opens_string, opens_literal, literal_kind}
+use Rattle.pp_tokens.specs.parts.Unpaired.{closing_length, delimiter_length, KnowsUnpaired}
 use Rattle.pp_tokens.proofs.Headers.{both_hold, either_holds, or_fails}
 use Rattle.pp_tokens.proofs.Reading.{stands_first}
 use Rattle.pp_tokens.proofs.FirstBytes.{apart, not_quoted, start_plain, word_part, word_is, some_fails, Run, run_of}

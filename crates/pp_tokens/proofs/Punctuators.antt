@@ -6,7 +6,7 @@ use Rattle.std.proofs.lemmas.Bool.{eqb-true, and_parts, or_cases}
 use Rattle.std.proofs.lemmas.Slice.Eq.{bytes_eq-Decides}
 use Rattle.pp_tokens.specs.Grammar.{is_punctuator, punctuators}
 use Rattle.pp_tokens.specs.Plain.{is_text_mark}
-use Rattle.pp_tokens.specs.Text.{is_single, is_operator, takes_equals, is_doubled, is_mixed, is_pair, is_triple, is_quadruple, is_second}
+use Rattle.pp_tokens.specs.parts.Text.{is_single, is_operator, takes_equals, is_doubled, is_mixed, is_pair, is_triple, is_quadruple, is_second}
 
 -- THE TABLE AND THE TESTS
 

@@ -5,7 +5,7 @@ use Rattle.std.proofs.Common.{sym, ◌∙◌, ap, append_assoc, subst, arith}
 use Rattle.std.proofs.Math.Seq.{take-add}
 use Rattle.std.proofs.lemmas.List.{drop-drop, take-append-drop, take-append-le}
 use Rattle.pp_tokens.specs.Phases.{Cell, cell, numbered}
-use Rattle.pp_tokens.specs.Pieces.{source_from, newline_length, is_kept, line_behind, IsRun}
+use Rattle.pp_tokens.specs.parts.Pieces.{source_from, newline_length, is_kept, line_behind, IsRun}
 use Rattle.pp_tokens.proofs.Closing.{rest_is}
 use Rattle.pp_tokens.proofs.FrontPieces.{kept_front, backslash_front, kept_run}
 use Rattle.pp_tokens.proofs.LinedText.{line_behind-append}

@@ -10,7 +10,7 @@ use Rattle.pp_tokens.specs.declared.token.Kind.TheVariants.{Header}
 use Rattle.pp_tokens.specs.declared.token.Token.{Token}
 use Rattle.pp_tokens.specs.Phases.{Cell, bytes, source_text}
 use Rattle.pp_tokens.specs.Lines.{Part, newline, white, comment, open_comment, token, Element, has_end, is_open_comment, part_of, header_due, words_after, Stands, Reads, cut_at_newlines, onto_first, line_of, line_tokens, unended_line, first_part, elements, lexed, file_of}
-use Rattle.pp_tokens.specs.Text.{comment_length}
+use Rattle.pp_tokens.specs.parts.Text.{comment_length}
 use Rattle.pp_tokens.specs.Slices.{IsSliceOf, StandInOrder, EndsWithOpenComment, EachTokenIsSlice, TokensStandInOrder, OpenCommentIsRest}
 use Rattle.pp_tokens.proofs.Reading.{stands_first, stands_some, reads_function}
 use Rattle.pp_tokens.proofs.Comments.{block_closed, block_open}

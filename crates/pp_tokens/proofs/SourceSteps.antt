@@ -5,8 +5,8 @@ use Rattle.std.proofs.lemmas.List.{append-nil, length-append, drop-append-le, dr
 use Rattle.pp_tokens.specs.declared.source.Piece.TheVariants.{Byte, Splice}
 use Rattle.pp_tokens.specs.Phases.{Cell, cell, ended, with_newlines, numbered, without_trigraphs, spliced, source_text}
 use Rattle.pp_tokens.specs.Lined.{lined}
-use Rattle.pp_tokens.specs.Seen.{Ascends}
-use Rattle.pp_tokens.specs.Pieces.{characters, source_from, line_behind, IsRun, IsFront}
+use Rattle.pp_tokens.specs.parts.Seen.{Ascends}
+use Rattle.pp_tokens.specs.parts.Pieces.{characters, source_from, line_behind, IsRun, IsFront}
 use Rattle.pp_tokens.proofs.LinedText.{line_behind-append, line_behind-add, next_line, lined_more, lined_splice}
 use Rattle.pp_tokens.proofs.FrontPieces.{source_end}
 

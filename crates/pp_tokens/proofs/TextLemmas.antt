@@ -5,7 +5,7 @@ use Rattle.std.proofs.lemmas.Bool.{eqb-true, or_cases, or_parts}
 use Rattle.pp_tokens.specs.declared.token.Kind.TheVariants.{Header}
 use Rattle.pp_tokens.specs.Grammar.{is_white, is_identifier, is_number, number_goes_on, is_string, is_character, is_header, is_punctuator, kind_of}
 use Rattle.pp_tokens.specs.Lines.{newline, white, token, part_of, is_comment, is_open_comment, NoLonger, longest_from, header_part, first_part}
-use Rattle.pp_tokens.specs.Text.{opens_header}
+use Rattle.pp_tokens.specs.parts.Text.{opens_header}
 use Rattle.pp_tokens.proofs.Longest.{none_longest}
 use Rattle.pp_tokens.proofs.Reading.{stands_first}
 use Rattle.pp_tokens.proofs.Numbers.{single_stands}

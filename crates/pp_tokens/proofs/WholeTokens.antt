@@ -6,7 +6,7 @@ use Rattle.std.proofs.lemmas.List.{append-nil, length-append}
 use Rattle.pp_tokens.specs.declared.token.Kind.{Kind}
 use Rattle.pp_tokens.specs.Grammar.{is_newline, is_white, is_identifier, is_number, number_goes_on, is_string, is_character, is_punctuator, closes, kind_of}
 use Rattle.pp_tokens.specs.Lines.{Part, newline, white, comment, open_comment, token, part_of, is_comment, is_open_comment, Stands, NoLonger, first_part}
-use Rattle.pp_tokens.specs.Text.{whole_kind}
+use Rattle.pp_tokens.specs.parts.Text.{whole_kind}
 use Rattle.pp_tokens.proofs.Reading.{stands_first, first_stands, Front}
 use Rattle.pp_tokens.proofs.TextLemmas.{white_byte}
 

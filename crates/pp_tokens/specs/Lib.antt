@@ -7,12 +7,7 @@
 --     Tokens      owned and borrowed tokens
 --     Marks       the tests of tokens that directives and macros are read by
 --     Plain       plain bodies and simple names
---     Seen        what a lexed file's fields show
---     Gathered    what the lexer has gathered of a text so far
---     Pieces      what the reading of phases 1 and 2 tells of the rest of a body
---     Unpaired    what the lexer knows of quotes that have no partner
---     Literals    what opens a literal or a header name
---     Text        what the lexer's functions tell of a text
+--     parts       helpers of contracts, on which none of these rests
 pub mod Grammar
 pub mod Phases
 pub mod Lined
@@ -21,9 +16,4 @@ pub mod Slices
 pub mod Tokens
 pub mod Marks
 pub mod Plain
-pub mod Seen
-pub mod Pieces
-pub mod Unpaired
-pub mod Literals
-pub mod Text
-pub mod Gathered
+pub mod parts

@@ -2,7 +2,7 @@
 ghost use Rattle.std.specs.Prelude.{◌≡◌, ◌≤◌, ◌<◌, ◌==◌, false, not, length, get_or, drop, take_while};
 ghost use Rattle.std.specs.Option.{IfSome};
 ghost use Rattle.pp_tokens.specs.Lines.{Part, first_part, comment};
-ghost use Rattle.pp_tokens.specs.Text.{part_told, comment_length};
+ghost use Rattle.pp_tokens.specs.parts.Text.{part_told, comment_length};
 
 use crate::marks::{byte_at, mark_part};
 use crate::part::What;

@@ -1,6 +1,6 @@
 // Whether a header name is due behind the tokens of a logical line so far (ISO C 6.4.7, 6.10.1, 6.10.2).
 ghost use Rattle.std.specs.Prelude.{◌≡◌};
-ghost use Rattle.pp_tokens.specs.Text.{after_word, is_due};
+ghost use Rattle.pp_tokens.specs.parts.Text.{after_word, is_due};
 
 /// What stands on a logical line so far.
 #[derive(Clone, Copy, Debug, PartialEq, Eq, Drop)]
@@ -30,7 +30,7 @@ pub fn is_due(before: Before) -> bool
     }
 }
 
-#[tactic(auto, unfolding(crate::specs::Text::after_word))]
+#[tactic(auto, unfolding(crate::specs::parts::Text::after_word))]
 /// What stands there with one more token, of this spelling.
 pub fn after_word(before: Before, word: &[u8]) -> Before
     ensures { result ≡ after_word before word.now }
@@ -52,7 +52,7 @@ pub fn after_word(before: Before, word: &[u8]) -> Before
     }
 }
 
-#[tactic(auto, unfolding(crate::specs::Text::after_word))]
+#[tactic(auto, unfolding(crate::specs::parts::Text::after_word))]
 fn after_nothing(word: &[u8]) -> Before
     ensures { result ≡ after_word Before.Nothing word.now }
 {
@@ -63,7 +63,7 @@ fn after_nothing(word: &[u8]) -> Before
     }
 }
 
-#[tactic(auto, unfolding(crate::specs::Text::after_word))]
+#[tactic(auto, unfolding(crate::specs::parts::Text::after_word))]
 fn after_hash(word: &[u8]) -> Before
     ensures { result ≡ after_word Before.Hash word.now }
 {
@@ -76,7 +76,7 @@ fn after_hash(word: &[u8]) -> Before
     }
 }
 
-#[tactic(auto, unfolding(crate::specs::Text::after_word))]
+#[tactic(auto, unfolding(crate::specs::parts::Text::after_word))]
 fn after_condition(word: &[u8]) -> Before
     ensures { result ≡ after_word Before.Condition word.now }
 {

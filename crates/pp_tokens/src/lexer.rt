@@ -8,11 +8,11 @@
 ghost use Rattle.std.specs.Prelude.{◌≡◌, ◌≤◌, ◌+◌, ◌∷◌, [], None, zero, length, take, drop, get_or, IfOk, slice_get, option_map, option_and_then};
 ghost use Rattle.std.specs.List.{flat_map};
 ghost use Rattle.std.specs.Option.{option_map_or};
-ghost use Rattle.pp_tokens.specs.Gathered.{newlines, GathersNothing, EndsLine, AddsToken, AddsGap, EndsLastLine, IsGathered, IsPart, Gathers};
+ghost use Rattle.pp_tokens.specs.parts.Gathered.{newlines, GathersNothing, EndsLine, AddsToken, AddsGap, EndsLastLine, IsGathered, IsPart, Gathers};
 ghost use Rattle.pp_tokens.specs.Lined.{lined, spliced_up_to, Rising};
 ghost use Rattle.pp_tokens.specs.Lines.{all_tokens, elements, file_of, lexed};
-ghost use Rattle.pp_tokens.specs.Seen.{seen_file, token_at};
-ghost use Rattle.pp_tokens.specs.Text.{part_told};
+ghost use Rattle.pp_tokens.specs.parts.Seen.{seen_file, token_at};
+ghost use Rattle.pp_tokens.specs.parts.Text.{part_told};
 ghost use Rattle.pp_tokens.specs.Tokens.{token_seen};
 
 use crate::due::{Before, after_word, is_due};
@@ -45,7 +45,7 @@ pub struct Lexed {
 
 impl Model for Lexed {
     ghost use Rattle.pp_tokens.specs.Lines.{LexedFile};
-    ghost use Rattle.pp_tokens.specs.Seen.{seen_file, Ascends, EachWithin};
+    ghost use Rattle.pp_tokens.specs.parts.Seen.{seen_file, Ascends, EachWithin};
     ghost use Rattle.std.specs.Prelude.{length};
 
     ghost Value = { LexedFile };
@@ -271,7 +271,7 @@ fn token_of(text: &[u8], place: Place) -> TokenRef<'_>
 
 impl Lexed {
     /// A file without lines.
-    #[tactic(auto, unfolding(crate::specs::Seen::Ascends, crate::specs::Seen::EachWithin, crate::specs::Seen::seen_lines))]
+    #[tactic(auto, unfolding(crate::specs::parts::Seen::Ascends, crate::specs::parts::Seen::EachWithin, crate::specs::parts::Seen::seen_lines))]
     pub fn empty(alloc: Global) -> Lexed
         ensures { result ≡ record { lines = []; unended = None } }
     {

@@ -2,7 +2,7 @@
 ghost use Rattle.std.specs.Prelude.{◌≡◌, ◌≤◌, ◌<◌, [], ◌∷◌, true, false, ◌&&◌, ◌||◌, ◌==◌, length, get_or};
 ghost use Rattle.pp_tokens.specs.Grammar.{is_digit, is_identifier_byte, is_identifier_start, is_white, is_newline, is_punctuator, continues_number, number_length};
 ghost use Rattle.pp_tokens.specs.Lines.{Part, first_part};
-ghost use Rattle.pp_tokens.specs.Text.{part_told, is_quote, begins_number, begins_comment, is_single, is_operator, takes_equals, is_doubled, is_mixed, is_pair, is_triple, is_quadruple, is_second, mark_length};
+ghost use Rattle.pp_tokens.specs.parts.Text.{part_told, is_quote, begins_number, begins_comment, is_single, is_operator, takes_equals, is_doubled, is_mixed, is_pair, is_triple, is_quadruple, is_second, mark_length};
 
 use crate::part::{What, is_digit, is_identifier_byte, is_text_mark};
 use crate::token::Kind;

@@ -4,8 +4,8 @@ ghost use Rattle.pp_tokens.specs.declared.token.Kind.TheVariants.{Header};
 ghost use Rattle.pp_tokens.specs.Grammar.{is_digit, is_identifier_byte, is_identifier_start, is_white};
 ghost use Rattle.pp_tokens.specs.Lines.{Part, token, first_part};
 ghost use Rattle.pp_tokens.specs.Plain.{is_text_mark};
-ghost use Rattle.pp_tokens.specs.Text.{part_told, is_quote, opens_header, begins_number};
-ghost use Rattle.pp_tokens.specs.Unpaired.{KnowsUnpaired};
+ghost use Rattle.pp_tokens.specs.parts.Text.{part_told, is_quote, opens_header, begins_number};
+ghost use Rattle.pp_tokens.specs.parts.Unpaired.{KnowsUnpaired};
 
 use crate::comment::slash_part;
 use crate::marks::{byte_at, mark_part, number_part};

@@ -4,9 +4,9 @@ ghost use Rattle.std.specs.Prelude.{◌≡◌, ◌≤◌, ◌<◌, ◌+◌, ℕ,
 ghost use Rattle.pp_tokens.specs.declared.token.Kind.TheVariants.{Header};
 ghost use Rattle.pp_tokens.specs.Grammar.{is_identifier_start};
 ghost use Rattle.pp_tokens.specs.Lines.{Part, token, first_part};
-ghost use Rattle.pp_tokens.specs.Text.{part_told, is_quote};
-ghost use Rattle.pp_tokens.specs.Literals.{opens_character, opens_string, opens_literal, literal_kind, closing_delimiter};
-ghost use Rattle.pp_tokens.specs.Unpaired.{closing_length, delimiter_length, NonePairs, KnowsUnpaired};
+ghost use Rattle.pp_tokens.specs.parts.Text.{part_told, is_quote};
+ghost use Rattle.pp_tokens.specs.parts.Literals.{opens_character, opens_string, opens_literal, literal_kind, closing_delimiter};
+ghost use Rattle.pp_tokens.specs.parts.Unpaired.{closing_length, delimiter_length, NonePairs, KnowsUnpaired};
 
 use crate::comment::line_length;
 use crate::part::{What, word_length};

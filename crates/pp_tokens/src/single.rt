@@ -1,7 +1,7 @@
 // Whether a whole spelling is one token (ISO C 6.4).
 ghost use Rattle.std.specs.Prelude.{◌≡◌};
 ghost use Rattle.pp_tokens.specs.Grammar.{kind_of};
-ghost use Rattle.pp_tokens.specs.Text.{part_told, whole_kind};
+ghost use Rattle.pp_tokens.specs.parts.Text.{part_told, whole_kind};
 
 use crate::part::{What, next_part};
 use crate::token::Kind;

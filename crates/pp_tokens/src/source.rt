@@ -4,7 +4,7 @@ ghost use Rattle.std.specs.List.{list_all};
 ghost use Rattle.memchr.specs.Find.{IsFirstByte};
 ghost use Rattle.pp_tokens.specs.Lined.{lined, Rising};
 ghost use Rattle.pp_tokens.specs.Phases.{ended, trigraph, source_text};
-ghost use Rattle.pp_tokens.specs.Pieces.{newline_length, front_trigraph, front_character, is_kept, IsRun, IsFront};
+ghost use Rattle.pp_tokens.specs.parts.Pieces.{newline_length, front_trigraph, front_character, is_kept, IsRun, IsFront};
 
 use memchr::{memchr2, memchr3};
 use std::alloc::{AllocError, Global};

@@ -1,6 +1,6 @@
 // Quotes and delimiters that have no partner on their line.
 ghost use Rattle.std.specs.Prelude.{ℕ, List};
-ghost use Rattle.pp_tokens.specs.Unpaired.{KnowsUnpaired};
+ghost use Rattle.pp_tokens.specs.parts.Unpaired.{KnowsUnpaired};
 
 /// Up to which places of a text it is known that its quotes and the delimiters of its header names have no partner on
 /// their line. Where a line has none for one of them, it has none for those behind it, so each line is looked through

@@ -5,7 +5,7 @@ use Rattle.std.proofs.lemmas.List.{length-map}
 use Rattle.tree_model.specs.Paths.{Text}
 use Rattle.run_words.specs.declared.asked.Asked.{Asked}
 use Rattle.run_words.specs.Asked.{Settings, settings_of}
-use Rattle.run_words.specs.Flagged.{settings_by_asked}
+use Rattle.run_words.specs.parts.Flagged.{settings_by_asked}
 
 module _ {E S : Type 0} (seen : E → S) (ends : List E) (words : List Text) (number : ℕ) (is : number ≡ length ends) where
   as-seen : (asked : Option Settings) → asked ≡ settings_of number words → settings_of (length (map seen ends)) words ≡ asked

@@ -13,7 +13,7 @@ use Rattle.job_ends.specs.Works.{IsFresh}
 use Rattle.client_order.specs.Ran.{ClientsRan}
 use Rattle.client_order.specs.declared.totals.Totals.{Totals}
 use Rattle.pump_run.specs.Run.{EachAnsweredBy}
-use Rattle.pump_run.specs.Steps.{ClientsDid}
+use Rattle.pump_run.specs.parts.Steps.{ClientsDid}
 use Rattle.pump_run.proofs.Still.{fresh-answered}
 
 take-mapped : {X Y : Type 0} (f : X → Y) (n : ℕ) (xs : List X) → take n (map f xs) ≡ map f (take n xs)

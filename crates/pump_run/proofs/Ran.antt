@@ -10,10 +10,10 @@ use Rattle.job_ends.specs.Record.{known}
 use Rattle.job_ends.specs.Works.{Work, EachEnd, is_memory, is_out_fault, is_tree_fault, is_diag}
 use Rattle.client_order.specs.declared.totals.Totals.{Totals}
 use Rattle.run_words.specs.Asked.{Settings}
-use Rattle.compile_list.specs.Steps.{ListGives}
+use Rattle.compile_list.specs.parts.Steps.{ListGives}
 use Rattle.pump_run.specs.Report.{Ran, run_text}
 use Rattle.pump_run.specs.Run.{IsRun, Outside, Given, IsPut, OutsideRose, StatusIs, some_outcome, asked_for}
-use Rattle.pump_run.specs.Steps.{ClientsDid, JobsAreTold, some_record, status_for}
+use Rattle.pump_run.specs.parts.Steps.{ClientsDid, JobsAreTold, some_record, status_for}
 use Rattle.pump_run.proofs.Beyond.{all-ends}
 use Rattle.pump_run.proofs.Calm.{all-calm, first-served}
 

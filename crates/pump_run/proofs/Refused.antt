@@ -12,7 +12,7 @@ use Rattle.job_ends.specs.Outside.{EndSeen}
 use Rattle.job_ends.specs.Works.{IsFresh}
 use Rattle.pump_run.specs.Run.{IsRun, Outside, Given, IsPut, Reports, HasEnding, ran, StatusIs, NoFaults, IsComplete, AsksSomething, asked_for}
 use Rattle.job_ends.specs.Works.{EachEnd}
-use Rattle.pump_run.specs.Steps.{LineIsPut, refusal_text_of}
+use Rattle.pump_run.specs.parts.Steps.{LineIsPut, refusal_text_of}
 use Rattle.pump_run.proofs.Still.{still-ends, fresh-answered}
 
 no_settings : (asked : Option Settings) (settings : Settings) → asked ≡ None → asked ≡ Some settings → ⊥

@@ -4,7 +4,7 @@ ghost use Rattle.std.specs.List.{All, AllByRecursion};
 ghost use Rattle.host_slots.specs.Slots.{HasSlots};
 ghost use Rattle.job_ends.specs.Outside.{seen_end};
 ghost use Rattle.job_ends.specs.Works.{IsFresh};
-ghost use Rattle.pump_run.specs.Steps.{ClientsDid};
+ghost use Rattle.pump_run.specs.parts.Steps.{ClientsDid};
 
 use build_clients::{Done, End, Progress, Totals, run_order_watched};
 use io_edges::{Outs, Wire};

@@ -1,7 +1,7 @@
 // How a run ends: a line or the report of its jobs is put on the report, and its status.
 ghost use Rattle.std.specs.Prelude.{◌≡◌, ◌≤◌};
 ghost use Rattle.job_ends.specs.Works.{is_memory, is_out_fault, is_tree_fault, is_diag};
-ghost use Rattle.pump_run.specs.Steps.{some_record, status_for, LineIsPut, TextIsPut, JobsAreTold};
+ghost use Rattle.pump_run.specs.parts.Steps.{some_record, status_for, LineIsPut, TextIsPut, JobsAreTold};
 
 use crate::report::report_of;
 use build_clients::{Done, JobOutcome, Totals};
@@ -62,7 +62,7 @@ fn put_report<K: Sink>(report: &mut K, text: &[u8], status: u8) -> u8
 }
 
 // The status by the outcomes of the jobs, where their report is put.
-#[tactic(auto, unfolding(crate::specs::Steps::status_for))]
+#[tactic(auto, unfolding(crate::specs::parts::Steps::status_for))]
 fn status_of(records: &[Done]) -> u8
     ensures { result ≡ status_for records.now }
 {

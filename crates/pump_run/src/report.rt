@@ -1,6 +1,6 @@
 // The report of the jobs.
 ghost use Rattle.std.specs.Prelude.{◌≡◌, ◌++◌, [], ◌∷◌, count_by, codes, IfOk, OnOk};
-ghost use Rattle.pump_run.specs.Steps.{refusal_text_of};
+ghost use Rattle.pump_run.specs.parts.Steps.{refusal_text_of};
 ghost use Rattle.pump_run.specs.Report.{why_text, word_number, run_text, jobs_text, job_text, totals_text, looks_text, outcome_text, after_text, way_text, refusal_text, is_remote, is_local, is_broken};
 
 use base_types::Bytes;
@@ -50,7 +50,7 @@ fn add_looks(alloc: Global, text: &mut Vec<u8>, totals: Totals) -> Result<(), Al
 }
 
 /// The line that says why a list is refused.
-#[tactic(auto, unfolding(crate::specs::Steps::refusal_text_of))]
+#[tactic(auto, unfolding(crate::specs::parts::Steps::refusal_text_of))]
 pub fn refusal_line(alloc: Global, error: ListError) -> Result<Bytes, AllocError>
     ensures { IfOk result (λ line. line ≡ refusal_text_of error) }
 {

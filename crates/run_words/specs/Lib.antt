@@ -1,5 +1,5 @@
 -- The words of the top call.
 --     Asked      what they ask for
---     Flagged    what the flags so far give
+--     parts      helpers of contracts, on which none of these rests
 pub mod Asked
-pub mod Flagged
+pub mod parts

@@ -4,7 +4,7 @@ ghost use Rattle.std.specs.List.{All, list_all};
 ghost use Rattle.std.specs.Option.{option_map};
 ghost use Rattle.host_slots.specs.Slots.{HasSlots};
 ghost use Rattle.run_words.specs.Asked.{settings_of, settings_by, settings_with, settings_given, order_in, with_flags, nothing_given};
-ghost use Rattle.run_words.specs.Flagged.{given_by, settings_by_asked, Fits};
+ghost use Rattle.run_words.specs.parts.Flagged.{given_by, settings_by_asked, Fits};
 
 use crate::flags::{Flags, flags_in};
 use crate::order::order_in;

@@ -4,7 +4,7 @@ ghost use Rattle.std.specs.List.{All};
 ghost use Rattle.std.specs.Option.{option_map};
 ghost use Rattle.host_slots.specs.Slots.{HasSlots};
 ghost use Rattle.run_words.specs.Asked.{with_hosts, with_clients, with_budget, with_flag, with_flags, nothing_given, hosts_in};
-ghost use Rattle.run_words.specs.Flagged.{given_by, Fits};
+ghost use Rattle.run_words.specs.parts.Flagged.{given_by, Fits};
 
 use crate::numbers::number_in;
 use host_slots::{HostError, read_hosts};

@@ -3,10 +3,10 @@
 --     Asks       what is asked for, by its name
 --     Search     the places of a search, in order, and the file that it finds
 --     Laws       laws of searches
---     Steps      how the search goes on, in the words of the code
+--     parts      helpers of contracts, on which none of these rests
 pub mod SetupOf
 pub mod Asks
 pub mod Search
 pub mod Laws
 pub mod Keys
-pub mod Steps
+pub mod parts

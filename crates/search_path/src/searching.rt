@@ -12,7 +12,7 @@ ghost use Rattle.search_path.specs.SetupOf as setups;
 ghost use Rattle.search_path.specs.SetupOf.{SetupData};
 ghost use Rattle.search_path.specs.Search as searches;
 ghost use Rattle.search_path.specs.Search.{NeedsFrom, Candidate, first_located, chain_from, quote_candidates, angle_candidates, next_candidates, relative_candidates};
-ghost use Rattle.search_path.specs.Steps.{resumed};
+ghost use Rattle.search_path.specs.parts.Steps.{resumed};
 
 use crate::{Ask, Form, Found, Setup, Visit};
 use std::alloc::{AllocError, Global};

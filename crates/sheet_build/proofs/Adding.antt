@@ -22,7 +22,7 @@ use Rattle.search_path.specs.declared.asking.Ask.{Ask}
 use Rattle.search_path.specs.declared.asking.Visit.{Visit}
 use Rattle.tree_model.specs.declared.walk.Located.{Located}
 use Rattle.sheet_build.specs.Sheet.{SheetData, ComputedAsk, Asking, asking, plain_hit, computed_of, includes_in, probes_in, probes_for, definition_in, is_line, sheet_from}
-use Rattle.sheet_build.specs.Stored.{joined, with_includes, with_probes}
+use Rattle.sheet_build.specs.parts.Stored.{joined, with_includes, with_probes}
 
 abbrev sheet_made : List Named → List Hit → List Located → List ComputedAsk → Bool → SheetData
 sheet_made defs plain probes computed has_line = record { defs = defs; plain = plain; probes = probes; computed = computed; has_line = has_line }

@@ -8,7 +8,7 @@ ghost use Rattle.tree_model.specs.Bodies.{body_within};
 ghost use Rattle.tree_model.specs.Trees.{body_limit};
 ghost use Rattle.search_path.specs.Search.{search};
 ghost use Rattle.sheet_build.specs.Sheet.{sheet_of, sheet_from, body_of_place, IsLargeAt};
-ghost use Rattle.sheet_build.specs.Stored.{sheet_of_parts};
+ghost use Rattle.sheet_build.specs.parts.Stored.{sheet_of_parts};
 
 use crate::directives::add_piece;
 use crate::sheets::{Parts, Sheet};

@@ -7,7 +7,7 @@ ghost use Rattle.directive_scan.specs.Spots.{piece_seen};
 ghost use Rattle.directive_scan.specs.declared.Piece.TheVariants.{Line};
 ghost use Rattle.macro_defs.specs.Defining.{defined_by};
 ghost use Rattle.sheet_build.specs.Sheet.{accepted};
-ghost use Rattle.sheet_build.specs.Stored.{sheet_of_parts, with_definitions, Adds};
+ghost use Rattle.sheet_build.specs.parts.Stored.{sheet_of_parts, with_definitions, Adds};
 
 use crate::sheets::Parts;
 use crate::targets::{add_include, add_probes};

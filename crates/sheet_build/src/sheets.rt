@@ -1,6 +1,6 @@
 // Sheets.
 ghost use Rattle.std.specs.Prelude.{◌≡◌, ◌-◌, ◌^◌, length, min, sum_by, IfOk};
-ghost use Rattle.sheet_build.specs.Stored.{sheet_of_parts};
+ghost use Rattle.sheet_build.specs.parts.Stored.{sheet_of_parts};
 
 use crate::computed::Computed;
 use base_types::{Bytes, List};
@@ -29,7 +29,7 @@ pub struct Parts {
 
 impl Parts {
     ghost use Rattle.std.specs.Prelude.{◌≡◌};
-    ghost use Rattle.sheet_build.specs.Stored.{sheet_of_parts};
+    ghost use Rattle.sheet_build.specs.parts.Stored.{sheet_of_parts};
     ghost use Rattle.sheet_build.specs.Sheet.{empty_sheet};
 
     // Those of a file without directives.
@@ -49,7 +49,7 @@ impl Parts {
 impl Model for Sheet {
     ghost use Rattle.std.specs.Arc.{arc_value};
     ghost use Rattle.sheet_build.specs.Sheet.{SheetData};
-    ghost use Rattle.sheet_build.specs.Stored.{sheet_of_parts};
+    ghost use Rattle.sheet_build.specs.parts.Stored.{sheet_of_parts};
 
     ghost Value = { SheetData };
 

@@ -5,7 +5,7 @@ ghost use Rattle.base_types.specs.Causes.{HasCause};
 ghost use Rattle.directive_scan.specs.Operands.{operands_of};
 ghost use Rattle.search_path.specs.Search as searches;
 ghost use Rattle.sheet_build.specs.Sheet.{asking, asked_for, probes_for, quote_form};
-ghost use Rattle.sheet_build.specs.Stored.{sheet_of_parts, with_includes, with_probes};
+ghost use Rattle.sheet_build.specs.parts.Stored.{sheet_of_parts, with_includes, with_probes};
 ghost use Rattle.sheet_build.specs.declared.sheets.Parts.{Parts};
 
 use crate::computed::Computed;

@@ -17,9 +17,9 @@ use Rattle.macro_expand.specs.Choice.{Sets, Choice, Ending, Gave, Failed, Presum
 use Rattle.macro_expand.specs.Laws.{IsCutOff}
 use Rattle.symbolic_expand.specs.declared.outcome.SymError.{SymError}
 use Rattle.symbolic_expand.specs.Texts.{text_inserted, all_inserted}
-use Rattle.symbolic_expand.specs.Enumeration.{choices_of, choice_at, Numbered, meets_first, At, run_at}
-use Rattle.symbolic_expand.specs.Choosing.{Choosing, chosen, choosing_answerer}
-use Rattle.symbolic_expand.specs.Search.{computed, EndsWith, RefusesRun, refusal_of}
+use Rattle.symbolic_expand.specs.parts.Enumeration.{choices_of, choice_at, Numbered, meets_first, At, run_at}
+use Rattle.symbolic_expand.specs.parts.Choosing.{Choosing, chosen, choosing_answerer}
+use Rattle.symbolic_expand.specs.parts.Search.{computed, EndsWith, RefusesRun, refusal_of}
 
 at_number : (ds : List MacroDefinition) (j : ℕ) (d : MacroDefinition) → j < length ds → d ≡ get_or ds j d → Some d ≡ choice_at (map Some ds) j
 at_number [] j d h e = absurd (omega arith)

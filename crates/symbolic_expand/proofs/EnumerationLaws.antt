@@ -7,7 +7,7 @@ use Rattle.std.proofs.lemmas.List.{length-map}
 use Rattle.macro_defs.specs.MacroDefinition.{MacroDefinition}
 use Rattle.macro_expand.specs.Asking.{Asking, give, fail, ask_definition, ask_file, ask_line}
 use Rattle.macro_expand.specs.Choice.{Sets, Choice}
-use Rattle.symbolic_expand.specs.Enumeration.{Visit, meets, choices_of, choice_at, visits_of, visits, Numbered, raised, next_numbers, At, run_at, From, visits_from, rest_of}
+use Rattle.symbolic_expand.specs.parts.Enumeration.{Visit, meets, choices_of, choice_at, visits_of, visits, Numbered, raised, next_numbers, At, run_at, From, visits_from, rest_of}
 
 from_nil : {A : Type 0} (f : Choice → List ℕ → List (Visit A)) (all : Choice → List (Visit A)) (ds : List MacroDefinition) →
     ((c : Choice) → f c [] ≡ all c) → From f all ds [] ≡ visits_of all ds

@@ -10,7 +10,7 @@ use Rattle.directive_scan.specs.HeaderNames.{header_named}
 use Rattle.macro_expand.specs.Choice.{Sets, MayName}
 use Rattle.symbolic_expand.specs.Texts.{text_cmp}
 use Rattle.symbolic_expand.specs.Found.{NamesExactly, header_cmp}
-use Rattle.symbolic_expand.specs.Search.{FoundAll, header_at}
+use Rattle.symbolic_expand.specs.parts.Search.{FoundAll, header_at}
 use Rattle.symbolic_expand.proofs.Elements.{contains_map, contains_map_from}
 
 all_append : {A : Type 0} (P : A → Type 0) (xs ys : List A) → AllByRecursion P xs → AllByRecursion P ys → AllByRecursion P (xs ++ ys)

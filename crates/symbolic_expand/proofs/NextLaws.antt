@@ -1,7 +1,7 @@
 -- The next list of numbers, from the end.
 use Rattle.std.proofs.Common.{◌≡◌, ℕ, suc, ◌<◌, ◌≤◌, ◌+◌, Bool, true, false, List, [], ◌∷◌, ◌++◌, map, refl, ap, ◌∙◌, Option, Some, None, arith, nat_lt}
 use Rattle.std.proofs.lemmas.Bool.{le-ltb, lt-ltb}
-use Rattle.symbolic_expand.specs.Enumeration.{raised, next_numbers}
+use Rattle.symbolic_expand.specs.parts.Enumeration.{raised, next_numbers}
 
 -- the numbers alone
 abbrev pub numbers_of : List (ℕ × ℕ) → List ℕ

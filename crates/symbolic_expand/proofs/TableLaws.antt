@@ -10,7 +10,7 @@ use Rattle.std.proofs.lemmas.Option.{slice_get_within, get_or_from_slice_get, sl
 use Rattle.macro_defs.specs.MacroDefinition.{MacroDefinition}
 use Rattle.macro_defs.specs.Table.{Entries, names_of, lookup}
 use Rattle.symbolic_expand.specs.Defined.{Defined, sets_of, Adds}
-use Rattle.symbolic_expand.specs.Stored.{HasBefore, one_where}
+use Rattle.symbolic_expand.specs.parts.Stored.{HasBefore, one_where}
 use Rattle.symbolic_expand.proofs.Elements.{contains_none, contains_first}
 
 abbrev before : Entries → ℕ → List ℕ → Bool

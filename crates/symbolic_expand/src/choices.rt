@@ -1,7 +1,7 @@
 // A run by a list of numbers answers what expansion asks.
 ghost use Rattle.std.specs.Prelude.{◌≡◌, IfOk};
 ghost use Rattle.std.specs.Option.{option_copied};
-ghost use Rattle.symbolic_expand.specs.Enumeration.{choice_at, choices_of};
+ghost use Rattle.symbolic_expand.specs.parts.Enumeration.{choice_at, choices_of};
 
 use crate::run::RunEnd;
 use crate::sets::DefSets;
@@ -31,7 +31,7 @@ pub(crate) struct Choices<'f> {
 
 impl<'f> Model for Choices<'f> {
     ghost use Rattle.std.specs.Option.{option_copied};
-    ghost use Rattle.symbolic_expand.specs.Choosing.{Choosing};
+    ghost use Rattle.symbolic_expand.specs.parts.Choosing.{Choosing};
 
     ghost Value = { Choosing };
 
@@ -41,7 +41,7 @@ impl<'f> Model for Choices<'f> {
 impl<'f> Choices<'f> {
     ghost use Rattle.std.specs.Prelude.{◌≡◌, [], IfOk, OnOk};
     ghost use Rattle.std.specs.Option.{option_copied};
-    ghost use Rattle.symbolic_expand.specs.Choosing.{chosen, meeting};
+    ghost use Rattle.symbolic_expand.specs.parts.Choosing.{chosen, meeting};
 
     pub(crate) fn new(
         alloc: Global,
@@ -124,7 +124,7 @@ fn definition_at<'s>(definitions: &'s [Definition], k: usize) -> Option<&'s Defi
 }
 
 impl<'f> Answers<DefSets> for Choices<'f> {
-    ghost use Rattle.symbolic_expand.specs.Choosing.{choosing_answerer};
+    ghost use Rattle.symbolic_expand.specs.parts.Choosing.{choosing_answerer};
     ghost use Rattle.symbolic_expand.specs.Defined.{sets_of};
 
     ghost answerer = { λ entries. choosing_answerer (sets_of entries) };

@@ -1,7 +1,7 @@
 // The headers that runs name.
 ghost use Rattle.std.specs.Prelude.{◌≡◌, ◌++◌, ◌∷◌, [], map, true, false, Some, IfOk, OnOk};
 ghost use Rattle.std.specs.List.Sorted.{IsStrictlySortedBy};
-ghost use Rattle.symbolic_expand.specs.Search.{with_header, header_at};
+ghost use Rattle.symbolic_expand.specs.parts.Search.{with_header, header_at};
 ghost use Rattle.symbolic_expand.specs.Texts.{text_cmp};
 
 use crate::texts::TextSet;

@@ -1,7 +1,7 @@
 // The list of numbers of the next run.
 ghost use Rattle.std.specs.Prelude.{◌≡◌, ℕ, ◌+◌, ◌<◌, ◌≤◌, ◌++◌, ◌∷◌, [], map, IfOk, OnOk, IsTrue, IsFalse};
-ghost use Rattle.symbolic_expand.specs.Enumeration.{next_numbers};
-ghost use Rattle.symbolic_expand.specs.Search.{KeepsNext};
+ghost use Rattle.symbolic_expand.specs.parts.Enumeration.{next_numbers};
+ghost use Rattle.symbolic_expand.specs.parts.Search.{KeepsNext};
 
 use std::alloc::{AllocError, Global};
 use std::collections::VecDeque;

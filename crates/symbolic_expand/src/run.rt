@@ -2,8 +2,8 @@
 ghost use Rattle.std.specs.Prelude.{◌≡◌, IfOk, IfErr};
 ghost use Rattle.std.specs.Option.{option_copied};
 ghost use Rattle.symbolic_expand.specs.Defined.{sets_of};
-ghost use Rattle.symbolic_expand.specs.Enumeration.{run_at};
-ghost use Rattle.symbolic_expand.specs.Search.{computed, EndsWith, RefusesRun, refusal_of};
+ghost use Rattle.symbolic_expand.specs.parts.Enumeration.{run_at};
+ghost use Rattle.symbolic_expand.specs.parts.Search.{computed, EndsWith, RefusesRun, refusal_of};
 
 use crate::choices::Choices;
 use crate::outcome::SymError;

@@ -4,7 +4,7 @@ ghost use Rattle.std.specs.Option.{option_copied};
 ghost use Rattle.macro_expand.specs.Choice.{IsDistinct};
 ghost use Rattle.symbolic_expand.specs.Defined.{sets_of};
 ghost use Rattle.symbolic_expand.specs.Found.{NamesExactly, NothingRefuses, Refuses, known_name};
-ghost use Rattle.symbolic_expand.specs.Search.{FoundAll};
+ghost use Rattle.symbolic_expand.specs.parts.Search.{FoundAll};
 
 use crate::found::{Found, headers_in_order, put_header, texts_in_order};
 use crate::next::next_list;

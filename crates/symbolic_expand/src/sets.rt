@@ -1,7 +1,7 @@
 // Sets of definitions, by name.
 ghost use Rattle.std.specs.Prelude.{◌≡◌, ◌↔◌, IsTrue, Contains, OnOk, OnErr, None, bytes_eq};
 ghost use Rattle.std.specs.Map.{lookup as value_of};
-ghost use Rattle.symbolic_expand.specs.Stored.{with_more, seen};
+ghost use Rattle.symbolic_expand.specs.parts.Stored.{with_more, seen};
 
 use crate::texts::key_of;
 use indexmap::IndexMap;
@@ -19,7 +19,7 @@ pub struct DefSets {
 impl Model for DefSets {
     ghost use Rattle.macro_expand.specs.Choice.{IsDistinct};
     ghost use Rattle.symbolic_expand.specs.Defined.{Defined, sets_of};
-    ghost use Rattle.symbolic_expand.specs.Stored.{seen};
+    ghost use Rattle.symbolic_expand.specs.parts.Stored.{seen};
 
     ghost Value = { Defined };
 
@@ -34,7 +34,7 @@ impl DefSets {
     ghost use Rattle.macro_defs.specs.Table.{lookup};
     ghost use Rattle.macro_expand.specs.Choice.{IsDistinct, IsPart};
     ghost use Rattle.symbolic_expand.specs.Defined.{Adds, sets_of};
-    ghost use Rattle.symbolic_expand.specs.Stored.{HasBefore};
+    ghost use Rattle.symbolic_expand.specs.parts.Stored.{HasBefore};
 
     /// Sets in which no name has a definition.
     pub fn new(alloc: Global) -> DefSets

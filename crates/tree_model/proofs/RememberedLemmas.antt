@@ -6,7 +6,7 @@ use Rattle.std.specs.Option.{unwrap_or}
 use Rattle.std.proofs.lemmas.Bool.{false_from_ne_true}
 use Rattle.tree_model.specs.Paths.{Path, is_same_path, is_same_path-Decides}
 use Rattle.tree_model.specs.Trees.{FileTree, node_at, IsNode}
-use Rattle.tree_model.specs.Remembered.{Known, known_in, IsTrueOf}
+use Rattle.tree_model.specs.parts.Remembered.{Known, known_in, IsTrueOf}
 use Rattle.tree_model.specs.declared.entry.Node.{Node}
 use Rattle.tree_model.proofs.StepLemmas.{node_told}
 

@@ -7,7 +7,7 @@ use Rattle.std.proofs.lemmas.List.{append-nil}
 use Rattle.tree_model.specs.Paths.{Text, Path, slash, parent, child_of, is_canonical}
 use Rattle.tree_model.specs.Trees.{FileTree, entry_at, node_at, shown, IsTree}
 use Rattle.tree_model.specs.Walk.{Look, components, Component, Stay, Up, Down, component_of, start, End, Nowhere, AtDir, AtFile, Walked, through, ended, file_end, entered, taken, walk_with, walk, but_last, last_of, first_nodes, located_at, located_in, last_looked_up, can_locate, located_by}
-use Rattle.tree_model.specs.Steps.{GoesOn, followed, onward, end_of}
+use Rattle.tree_model.specs.parts.Steps.{GoesOn, followed, onward, end_of}
 use Rattle.tree_model.specs.declared.entry.Entry.{Entry}
 use Rattle.tree_model.specs.declared.entry.Entry.TheVariants.{Dir, File, Link}
 use Rattle.tree_model.specs.declared.entry.Node.{Node}

@@ -12,7 +12,7 @@ ghost use Rattle.tree_model.specs.Paths.{slash};
 ghost use Rattle.tree_model.specs.Trees.{FileTree, entry_at};
 ghost use Rattle.tree_model.specs.Walk as walks;
 ghost use Rattle.tree_model.specs.Walk.{Look, components, but_last, last_of, component_of, entered, located_in, walk, ended, is_absolute};
-ghost use Rattle.tree_model.specs.Steps.{GoesOn, components_left, asked, onward, followed, end_of};
+ghost use Rattle.tree_model.specs.parts.Steps.{GoesOn, components_left, asked, onward, followed, end_of};
 
 use crate::{CanonPath, Node, Tree, TreeError};
 use base_types::{Bytes, List};

@@ -1,6 +1,6 @@
 use Rattle.std.proofs.Common.{◌≡◌, ℕ, List, [], ◌++◌, length, Option, None, replicate, take, drop, ap, ◌∙◌, take_at}
 use Rattle.job_ends.specs.declared.record.Done.{Done}
-use Rattle.client_order.specs.Merged.{in_order, job_number, in_places, placed, records_of, AtMostOnce}
+use Rattle.client_order.specs.parts.Merged.{in_order, job_number, in_places, placed, records_of, AtMostOnce}
 use Rattle.client_order.proofs.InOrder.{in-placed, length-placed}
 use Rattle.client_order.proofs.merging.merge.Goals as goal
 

@@ -1,5 +1,5 @@
 use Rattle.std.proofs.Common.{◌≡◌}
-use Rattle.client_order.specs.Merged.{placed}
+use Rattle.client_order.specs.parts.Merged.{placed}
 use Rattle.client_order.proofs.merging.put.Given as goal
 
 abbrev pub invariant-loop-done : goal.invariant-loop-done

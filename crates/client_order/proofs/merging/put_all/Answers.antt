@@ -4,8 +4,8 @@ use Rattle.std.specs.Vec.Iter.{into_iter_items}
 use Rattle.job_ends.specs.declared.record.Done.{Done}
 use Rattle.client_steps.specs.declared.client.Client.{Client}
 use Rattle.client_steps.specs.declared.phase.Phase.TheVariants.{Ended}
-use Rattle.client_order.specs.World.{AllEnded}
-use Rattle.client_order.specs.Merged.{placed, records_of, EachBelow}
+use Rattle.client_order.specs.parts.World.{AllEnded}
+use Rattle.client_order.specs.parts.Merged.{placed, records_of, EachBelow}
 use Rattle.client_order.proofs.InOrder.{below-first, below-second, placed-append, length-placed}
 use Rattle.client_order.proofs.merging.put_all.Goals as goal
 

@@ -1,7 +1,7 @@
 use Rattle.std.proofs.Common.{◌≡◌, length}
 use Rattle.std.specs.Vec.Iter.{into_iter_items, into_iter_len}
-use Rattle.client_order.specs.World.{AllEnded}
-use Rattle.client_order.specs.Merged.{placed, records_of, EachBelow}
+use Rattle.client_order.specs.parts.World.{AllEnded}
+use Rattle.client_order.specs.parts.Merged.{placed, records_of, EachBelow}
 use Rattle.client_order.proofs.merging.put_all.Given as goal
 
 -- to put what is left gives what was to be put

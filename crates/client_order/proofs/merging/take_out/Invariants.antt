@@ -1,6 +1,6 @@
 use Rattle.std.proofs.Common.{◌≡◌, ◌+◌, ◌≤◌, ◌++◌, length}
 use Rattle.std.specs.Vec.{vec_len, vec_capacity}
-use Rattle.client_order.specs.Merged.{in_places}
+use Rattle.client_order.specs.parts.Merged.{in_places}
 use Rattle.client_order.proofs.merging.take_out.Given as goal
 
 abbrev pub invariant-loop-place : goal.invariant-loop-place

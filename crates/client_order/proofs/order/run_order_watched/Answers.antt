@@ -7,8 +7,8 @@ use Rattle.job_ends.specs.Outside.{seen_end}
 use Rattle.job_ends.specs.Record.{known}
 use Rattle.client_steps.specs.declared.client.Client.{Client}
 use Rattle.client_order.specs.Ran.{ClientsRan, calls_of}
-use Rattle.client_order.specs.World.{AllEnded, seen_memo}
-use Rattle.client_order.specs.Merged.{AreNew, AtMostOnce, EachBelow, in_order, job_number, records_of}
+use Rattle.client_order.specs.parts.World.{AllEnded, seen_memo}
+use Rattle.client_order.specs.parts.Merged.{AreNew, AtMostOnce, EachBelow, in_order, job_number, records_of}
 use Rattle.client_order.proofs.Parts.{at-most-once, each-below}
 use Rattle.client_order.proofs.Begins.{fresh-links, named-whole, no-calls, nothing-done}
 use Rattle.client_order.proofs.Runs.{clients-ran}

@@ -1,5 +1,5 @@
 use Rattle.std.specs.Vec.{vec_len}
-use Rattle.client_order.specs.Merged.{AllRest}
+use Rattle.client_order.specs.parts.Merged.{AllRest}
 use Rattle.client_order.proofs.starting.cancel_all.Given as goal
 
 abbrev pub invariant-loop-client : goal.invariant-loop-client

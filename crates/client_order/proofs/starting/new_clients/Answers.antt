@@ -1,7 +1,7 @@
 use Rattle.std.proofs.Common.{arith, ◌≡◌, ℕ, ◌+◌, List, [], ◌∷◌, ◌++◌, length, sym, ap, ◌∙◌, subst, zero-add, length-append}
 use Rattle.client_steps.specs.declared.client.Client.{Client}
 use Rattle.client_steps.specs.Ledger.{IsNew, HasRoom}
-use Rattle.client_order.specs.Merged.{AreNew}
+use Rattle.client_order.specs.parts.Merged.{AreNew}
 use Rattle.client_order.proofs.Begins.{new-snoc, new-rest}
 use Rattle.client_order.proofs.starting.new_clients.Goals as goal
 

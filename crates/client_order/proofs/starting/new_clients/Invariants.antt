@@ -1,6 +1,6 @@
 use Rattle.std.proofs.Common.{◌≡◌, length}
 use Rattle.std.specs.Vec.{vec_len, vec_capacity}
-use Rattle.client_order.specs.Merged.{AreNew}
+use Rattle.client_order.specs.parts.Merged.{AreNew}
 use Rattle.client_order.proofs.starting.new_clients.Given as goal
 
 abbrev pub invariant-loop-number : goal.invariant-loop-number

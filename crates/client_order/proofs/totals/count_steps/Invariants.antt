@@ -1,5 +1,5 @@
 use Rattle.std.proofs.Common.{◌≡◌, ◌≤◌, take}
-use Rattle.client_order.specs.Merged.{totals_of}
+use Rattle.client_order.specs.parts.Merged.{totals_of}
 use Rattle.client_order.proofs.totals.count_steps.Given as goal
 
 abbrev pub invariant-loop-step : goal.invariant-loop-step

@@ -1,6 +1,6 @@
 use Rattle.std.proofs.Common.{ℕ, length, subst}
 use Rattle.client_steps.specs.declared.need.Reply.TheVariants.{Drawn}
-use Rattle.client_order.specs.World.{seen_memo, IsDrawn}
+use Rattle.client_order.specs.parts.World.{seen_memo, IsDrawn}
 use Rattle.client_order.proofs.TurnLaws.{draw-answers, draw-call, draw-right, no-call-keeps}
 use Rattle.client_order.proofs.turns.answer_draw.Goals as goal
 

@@ -1,6 +1,6 @@
 use Rattle.std.proofs.Common.{length, refl}
 use Rattle.client_steps.specs.declared.need.Reply.TheVariants.{Given}
-use Rattle.client_order.specs.World.{seen_memo}
+use Rattle.client_order.specs.parts.World.{seen_memo}
 use Rattle.client_order.proofs.TurnLaws.{give-answers, give-says, no-call-keeps}
 use Rattle.client_order.proofs.turns.answer_give.Goals as goal
 

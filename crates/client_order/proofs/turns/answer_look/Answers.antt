@@ -2,7 +2,7 @@ use Rattle.std.proofs.Common.{◌≡◌, ℕ, length, refl, ap, ◌∙◌, sym}
 use Rattle.closure_memo.specs.Memo.{look_of}
 use Rattle.client_steps.specs.declared.need.Need.TheVariants.{Look}
 use Rattle.client_steps.specs.declared.need.Reply.TheVariants.{Looked, Refused}
-use Rattle.client_order.specs.World.{seen_memo}
+use Rattle.client_order.specs.parts.World.{seen_memo}
 use Rattle.client_order.proofs.Histories.{with_call}
 use Rattle.client_order.proofs.TurnLaws.{look-says, look-frees, look-right, look-refused, look-seen, answers-still, call-keeps, call-others, refused-keeps}
 use Rattle.client_order.proofs.turns.answer_look.Goals as goal

@@ -3,7 +3,7 @@ use Rattle.closure_memo.specs.Memo.{what_of}
 use Rattle.sheet_build.specs.Weights.{sheet_weight}
 use Rattle.client_steps.specs.declared.need.Need.TheVariants.{Publish}
 use Rattle.client_steps.specs.declared.need.Reply.TheVariants.{Kept, Refused}
-use Rattle.client_order.specs.World.{seen_memo}
+use Rattle.client_order.specs.parts.World.{seen_memo}
 use Rattle.client_order.proofs.Histories.{with_call}
 use Rattle.client_order.proofs.TurnLaws.{answers-still, publish-says, publish-refused, publish-seen, call-keeps, call-others, refused-keeps}
 use Rattle.client_order.proofs.turns.answer_publish.Goals as goal

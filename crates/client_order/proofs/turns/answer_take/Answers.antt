@@ -1,6 +1,6 @@
 use Rattle.std.proofs.Common.{length}
 use Rattle.client_steps.specs.declared.need.Reply.TheVariants.{Leased}
-use Rattle.client_order.specs.World.{seen_memo}
+use Rattle.client_order.specs.parts.World.{seen_memo}
 use Rattle.client_order.proofs.TurnLaws.{take-answers, take-call, take-right, no-call-keeps}
 use Rattle.client_order.proofs.turns.answer_take.Goals as goal
 

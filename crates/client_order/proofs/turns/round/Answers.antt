@@ -1,5 +1,5 @@
 use Rattle.std.proofs.Common.{rules, arith, ◌≤◌, ◌∙◌, ℕ, length, sym, subst}
-use Rattle.client_order.specs.World.{seen_memo}
+use Rattle.client_order.specs.parts.World.{seen_memo}
 use Rattle.client_order.proofs.Worlds.{so-far-more, round-done}
 use Rattle.client_order.proofs.TurnRuns.{run-then, strangers-then}
 use Rattle.client_order.proofs.turns.round.Goals as goal

@@ -3,7 +3,7 @@ use Rattle.std.specs.List.{All}
 use Rattle.io_edges.specs.declared.wire.LinkState.TheVariants.{Closed}
 use Rattle.io_edges.specs.Talk.{EachAnswered}
 use Rattle.job_ends.specs.Outside.{seen_end}
-use Rattle.client_order.specs.World.{WorldHolds, AreNumberedFrom, RunKeeps, StrangersStay, seen_memo}
+use Rattle.client_order.specs.parts.World.{WorldHolds, AreNumberedFrom, RunKeeps, StrangersStay, seen_memo}
 use Rattle.client_order.proofs.Worlds.{SoFar}
 use Rattle.client_order.proofs.turns.round.Given as goal
 

@@ -1,5 +1,5 @@
 use Rattle.std.proofs.Common.{rules, ◌≤◌, ◌∙◌, ℕ, length, IsTrue, sym, subst}
-use Rattle.client_order.specs.World.{AllEnded, seen_memo}
+use Rattle.client_order.specs.parts.World.{AllEnded, seen_memo}
 use Rattle.client_order.proofs.Worlds.{ended-free}
 use Rattle.client_order.proofs.TurnRuns.{run-then, strangers-then}
 use Rattle.client_order.proofs.turns.take_turns.Goals as goal

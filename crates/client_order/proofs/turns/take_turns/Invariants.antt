@@ -3,7 +3,7 @@ use Rattle.std.specs.List.{All}
 use Rattle.io_edges.specs.declared.wire.LinkState.TheVariants.{Closed}
 use Rattle.io_edges.specs.Talk.{EachAnswered}
 use Rattle.job_ends.specs.Outside.{seen_end}
-use Rattle.client_order.specs.World.{WorldHolds, AreNumberedFrom, RunKeeps, StrangersStay, seen_memo, distance}
+use Rattle.client_order.specs.parts.World.{WorldHolds, AreNumberedFrom, RunKeeps, StrangersStay, seen_memo, distance}
 use Rattle.client_order.proofs.turns.take_turns.Given as goal
 
 abbrev pub invariant-loop-client : goal.invariant-loop-client

@@ -7,7 +7,7 @@ use Rattle.job_ends.specs.declared.record.End.{End}
 use Rattle.client_steps.specs.declared.client.Client.{Client}
 use Rattle.client_order.proofs.Worlds.{world-turned, moves-turned}
 use Rattle.client_order.proofs.TurnRuns.{number-at, numbered-set, run-turned-at, strangers-turned}
-use Rattle.client_order.specs.World.{seen_memo}
+use Rattle.client_order.specs.parts.World.{seen_memo}
 use Rattle.client_order.proofs.turns.turn_at.Goals as goal
 
 pub returns-clause-numbered : goal.returns-clause-numbered

@@ -2,7 +2,7 @@ use Rattle.std.proofs.Common.{◌∙◌, sym, subst, ℕ, List, Option, Some}
 use Rattle.std.specs.Prelude.{IfSome}
 use Rattle.directive_scan.specs.declared.HeaderName.{HeaderName}
 use Rattle.closure_fixpoint.specs.declared.wanting.Want.{Want}
-use Rattle.closure_fixpoint.specs.Wanting.{WantsOfHeaders}
+use Rattle.closure_fixpoint.specs.parts.Wanting.{WantsOfHeaders}
 use Rattle.closure_fixpoint.proofs.NamesLaws.{follows_on}
 use Rattle.closure_fixpoint.proofs.TargetLaws.{rest_wants}
 use Rattle.closure_fixpoint.proofs.targets.of_rest.Goals as goal

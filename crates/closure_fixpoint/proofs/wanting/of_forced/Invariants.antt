@@ -1,5 +1,5 @@
 use Rattle.std.proofs.Common.{take}
-use Rattle.closure_fixpoint.specs.Wanting.{AllForced}
+use Rattle.closure_fixpoint.specs.parts.Wanting.{AllForced}
 use Rattle.closure_fixpoint.proofs.wanting.of_forced.Given as goal
 
 -- the searches for the files so far were made

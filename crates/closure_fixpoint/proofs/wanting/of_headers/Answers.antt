@@ -1,7 +1,7 @@
 use Rattle.std.proofs.Common.{sym, subst, inl, inr, None, Some}
 use Rattle.directive_scan.specs.declared.HeaderName.{HeaderName}
 use Rattle.closure_fixpoint.specs.Progress.{IsMade}
-use Rattle.closure_fixpoint.specs.Wanting.{named_ask}
+use Rattle.closure_fixpoint.specs.parts.Wanting.{named_ask}
 use Rattle.closure_fixpoint.proofs.LoopLaws.{item_there, so_far}
 use Rattle.closure_fixpoint.proofs.WantingLaws.{wanted_as}
 use Rattle.closure_fixpoint.proofs.wanting.of_headers.Goals as goal

@@ -1,5 +1,5 @@
 use Rattle.std.proofs.Common.{take}
-use Rattle.closure_fixpoint.specs.Wanting.{AllMade}
+use Rattle.closure_fixpoint.specs.parts.Wanting.{AllMade}
 use Rattle.closure_fixpoint.proofs.wanting.of_headers.Given as goal
 
 -- the searches of the headers so far were made

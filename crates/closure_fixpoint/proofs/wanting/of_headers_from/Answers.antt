@@ -1,5 +1,5 @@
 use Rattle.std.proofs.Common.{Some}
-use Rattle.closure_fixpoint.specs.Wanting.{named_ask}
+use Rattle.closure_fixpoint.specs.parts.Wanting.{named_ask}
 use Rattle.closure_fixpoint.proofs.LoopLaws.{item_there}
 use Rattle.closure_fixpoint.proofs.WantingLaws.{wanted_as}
 use Rattle.closure_fixpoint.proofs.wanting.of_headers_from.Goals as goal

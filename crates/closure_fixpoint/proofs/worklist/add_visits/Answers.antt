@@ -1,7 +1,7 @@
 use Rattle.std.proofs.Common.{◌∙◌, ◌+◌, sym, ap, map, drop}
 use Rattle.search_path.specs.declared.asking.Visit.{Visit}
 use Rattle.std.specs.Prelude.{List}
-use Rattle.closure_fixpoint.specs.Worklist.{with_visit, with_visits}
+use Rattle.closure_fixpoint.specs.parts.Worklist.{with_visit, with_visits}
 use Rattle.closure_fixpoint.proofs.WorklistLaws.{one_left, one_more}
 use Rattle.closure_fixpoint.proofs.worklist.add_visits.Goals as goal
 

@@ -1,5 +1,5 @@
 use Rattle.std.proofs.Common.{◌≡◌, map, drop, take}
-use Rattle.closure_fixpoint.specs.Worklist.{with_visits}
+use Rattle.closure_fixpoint.specs.parts.Worklist.{with_visits}
 use Rattle.closure_fixpoint.proofs.worklist.add_visits.Given as goal
 
 -- the files that are left give what all gave, and those so far were added

@@ -1,5 +1,5 @@
 use Rattle.std.proofs.Common.{sym, ◌∙◌, ◌++◌}
-use Rattle.compile_list.specs.Steps.{word_in}
+use Rattle.compile_list.specs.parts.Steps.{word_in}
 use Rattle.compile_list.proofs.LineWords.{full}
 use Rattle.compile_list.proofs.line.add_word.Goals as goal
 

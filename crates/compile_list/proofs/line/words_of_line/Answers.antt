@@ -1,6 +1,6 @@
 use Rattle.std.proofs.Common.{Some, sym, ap, ◌∙◌}
 use Rattle.std.specs.Option.{option_map}
-use Rattle.compile_list.specs.Steps.{kept}
+use Rattle.compile_list.specs.parts.Steps.{kept}
 use Rattle.compile_list.proofs.Units.{units-none}
 use Rattle.compile_list.proofs.line.words_of_line.Goals as goal
 

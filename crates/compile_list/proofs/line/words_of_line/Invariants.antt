@@ -1,7 +1,7 @@
 use Rattle.std.proofs.Common.{◌≡◌, ◌≤◌, length, take}
 use Rattle.std.specs.Option.{option_map}
 use Rattle.compile_list.specs.Listed.{line_words, units}
-use Rattle.compile_list.specs.Steps.{kept}
+use Rattle.compile_list.specs.parts.Steps.{kept}
 use Rattle.compile_list.proofs.line.words_of_line.Given as goal
 
 abbrev pub invariant-loop-rest : goal.invariant-loop-rest

@@ -2,7 +2,7 @@ use Rattle.std.proofs.Common.{◌≡◌, ◌+◌, ◌≤◌, [], length}
 use Rattle.std.specs.List.{AllByRecursion}
 use Rattle.job_words.specs.Words.{IsJob}
 use Rattle.compile_list.specs.Listed.{jobs_from, list_lines}
-use Rattle.compile_list.specs.Steps.{HasOutputs}
+use Rattle.compile_list.specs.parts.Steps.{HasOutputs}
 use Rattle.compile_list.proofs.lists.read_list.Given as goal
 
 abbrev pub invariant-loop-line : goal.invariant-loop-line

@@ -1,6 +1,6 @@
 use Rattle.macro_expand.specs.declared.Mode.TheVariants.{Condition}
 use Rattle.daemon_cpp.specs.Prep.{expand_line, expanded_condition}
-use Rattle.daemon_cpp.specs.Showing.{here_seen}
+use Rattle.daemon_cpp.specs.parts.Showing.{here_seen}
 use Rattle.daemon_cpp.proofs.Steps.{leads-then}
 use Rattle.daemon_cpp.proofs.condition.answered_condition.Goals as goal
 

@@ -3,7 +3,7 @@ use Rattle.directive_scan.specs.declared.ConditionPart.{ConditionPart}
 use Rattle.directive_scan.specs.Operands.{parts_of}
 use Rattle.daemon_cpp.specs.Prep.{world_of, condition}
 use Rattle.daemon_cpp.specs.Diagnostics.{BadProbe}
-use Rattle.daemon_cpp.specs.Showing.{here_seen}
+use Rattle.daemon_cpp.specs.parts.Showing.{here_seen}
 use Rattle.daemon_cpp.proofs.Conditions.{probeless-leads, parts-lead, malformed-same, refused-leads}
 use Rattle.daemon_cpp.proofs.condition.condition.Goals as goal
 

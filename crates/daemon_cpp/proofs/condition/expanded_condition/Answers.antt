@@ -1,7 +1,7 @@
 use Rattle.std.proofs.Common.{◌≡◌, Some, sym, ◌∙◌}
 use Rattle.macro_defs.specs.Table.{lookup}
 use Rattle.daemon_cpp.specs.Prep.{is_defined, with_defined}
-use Rattle.daemon_cpp.specs.Showing.{here_seen}
+use Rattle.daemon_cpp.specs.parts.Showing.{here_seen}
 use Rattle.daemon_cpp.proofs.Conditions.{expanded-leads}
 use Rattle.daemon_cpp.proofs.condition.expanded_condition.Goals as goal
 

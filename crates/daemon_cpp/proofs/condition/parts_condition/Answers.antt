@@ -1,7 +1,7 @@
 use Rattle.std.proofs.Common.{List, subst}
 use Rattle.pp_tokens.specs.declared.Token.{Token}
 use Rattle.daemon_cpp.specs.Prep.{world_of, answer_parts, answered_condition}
-use Rattle.daemon_cpp.specs.Showing.{Leads, here_seen}
+use Rattle.daemon_cpp.specs.parts.Showing.{Leads, here_seen}
 use Rattle.daemon_cpp.proofs.Steps.{leads-then}
 use Rattle.daemon_cpp.proofs.condition.parts_condition.Goals as goal
 

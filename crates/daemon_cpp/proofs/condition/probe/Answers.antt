@@ -1,7 +1,7 @@
 use Rattle.std.proofs.Common.{Some, None, Ok, Err, refl, ◌∙◌, ap}
 use Rattle.daemon_cpp.specs.Diagnostics.{BadProbe}
 use Rattle.daemon_cpp.specs.Prep.{world_of, header_reached, probe_named}
-use Rattle.daemon_cpp.specs.Showing.{here_seen}
+use Rattle.daemon_cpp.specs.parts.Showing.{here_seen}
 use Rattle.daemon_cpp.proofs.Conditions.{then-leads, refused-leads}
 use Rattle.daemon_cpp.proofs.condition.probe.Goals as goal
 

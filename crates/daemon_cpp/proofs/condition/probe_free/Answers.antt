@@ -1,7 +1,7 @@
 use Rattle.std.proofs.Common.{◌≡◌, false, sym, ◌∙◌, codes}
 use Rattle.std.specs.List.{list_any}
 use Rattle.pp_tokens.specs.Marks.{is_word}
-use Rattle.daemon_cpp.specs.Showing.{here_seen}
+use Rattle.daemon_cpp.specs.parts.Showing.{here_seen}
 use Rattle.daemon_cpp.proofs.Conditions.{free-leads}
 use Rattle.daemon_cpp.proofs.condition.probe_free.Goals as goal
 

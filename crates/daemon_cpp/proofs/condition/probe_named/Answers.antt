@@ -1,5 +1,5 @@
 use Rattle.daemon_cpp.specs.Prep.{world_of}
-use Rattle.daemon_cpp.specs.Showing.{here_seen}
+use Rattle.daemon_cpp.specs.parts.Showing.{here_seen}
 use Rattle.daemon_cpp.proofs.Conditions.{named-leads}
 use Rattle.daemon_cpp.proofs.condition.probe_named.Goals as goal
 

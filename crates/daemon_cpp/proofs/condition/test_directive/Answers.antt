@@ -1,7 +1,7 @@
 use Rattle.std.proofs.Common.{sym, ◌∙◌, ap}
 use Rattle.directive_scan.specs.declared.Directive.TheVariants.{If, Elif, Ifdef, Ifndef}
 use Rattle.daemon_cpp.specs.Prep.{world_of}
-use Rattle.daemon_cpp.specs.Showing.{here_seen}
+use Rattle.daemon_cpp.specs.parts.Showing.{here_seen}
 use Rattle.daemon_cpp.proofs.Conditions.{directive-leads}
 use Rattle.daemon_cpp.proofs.condition.test_directive.Goals as goal
 

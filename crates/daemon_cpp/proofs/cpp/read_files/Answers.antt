@@ -1,10 +1,10 @@
 use Rattle.std.proofs.Common.{◌≡◌, List, subst}
 use Rattle.daemon_cpp.specs.declared.cpp.Told.{Told}
 use Rattle.daemon_cpp.specs.Prep.{World, world_of}
-use Rattle.daemon_cpp.specs.Files.{After, ComesTo, source_behind}
+use Rattle.daemon_cpp.specs.parts.Files.{After, ComesTo, source_behind}
 use Rattle.std.proofs.lemmas.Result.{IfOk-weaker}
 use Rattle.job_words.specs.declared.MacroWord.{MacroWord}
-use Rattle.daemon_cpp.specs.Files.{IsEnd, source_told}
+use Rattle.daemon_cpp.specs.parts.Files.{IsEnd, source_told}
 use Rattle.daemon_cpp.proofs.Readers.{brings-end}
 use Rattle.daemon_cpp.proofs.cpp.read_files.Goals as goal
 

@@ -4,7 +4,7 @@ use Rattle.directive_scan.specs.Groups.{role_of}
 use Rattle.directive_scan.specs.Spots.{piece_seen}
 use Rattle.daemon_cpp.specs.declared.stop.Stop.{Stop}
 use Rattle.daemon_cpp.specs.Prep.{world_of, piece_test}
-use Rattle.daemon_cpp.specs.Showing.{Leads, here_seen}
+use Rattle.daemon_cpp.specs.parts.Showing.{Leads, here_seen}
 use Rattle.daemon_cpp.proofs.Readers.{opening-holds, opening-seeks, opening-stops}
 use Rattle.daemon_cpp.proofs.cpp.read_opening.Goals as goal
 

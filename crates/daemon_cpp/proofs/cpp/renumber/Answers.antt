@@ -7,7 +7,7 @@ use Rattle.cpp_output.specs.declared.LayError.{LayError}
 use Rattle.tree_model.specs.Paths.{Text}
 use Rattle.macro_expand.specs.declared.answers.Presumed.{Presumed}
 use Rattle.daemon_cpp.specs.Prep.{Here, line_set, presumed_line, renumbered, say}
-use Rattle.daemon_cpp.specs.Files.{here_of, Turns}
+use Rattle.daemon_cpp.specs.parts.Files.{here_of, Turns}
 use Rattle.daemon_cpp.proofs.Markers.{turns-one, turns-full}
 use Rattle.daemon_cpp.proofs.cpp.renumber.Goals as goal
 

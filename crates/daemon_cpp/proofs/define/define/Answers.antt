@@ -1,4 +1,4 @@
-use Rattle.daemon_cpp.specs.Showing.{here_seen}
+use Rattle.daemon_cpp.specs.parts.Showing.{here_seen}
 use Rattle.daemon_cpp.proofs.Defines.{define-sets}
 use Rattle.daemon_cpp.proofs.define.define.Goals as goal
 

@@ -3,7 +3,7 @@ use Rattle.std.proofs.lemmas.List.{nil_from_length}
 use Rattle.pp_tokens.specs.declared.Token.{Token}
 use Rattle.macro_defs.specs.Table.{lookup}
 use Rattle.daemon_cpp.specs.Prep.{is_defined, with_defined}
-use Rattle.daemon_cpp.specs.Showing.{stage_told, answered_behind, stage_reached}
+use Rattle.daemon_cpp.specs.parts.Showing.{stage_told, answered_behind, stage_reached}
 use Rattle.daemon_cpp.proofs.DefinedSteps.{at-first, all-answered, left-open}
 use Rattle.daemon_cpp.proofs.defined.with_defined.Goals as goal
 

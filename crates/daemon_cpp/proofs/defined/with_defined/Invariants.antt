@@ -1,7 +1,7 @@
 use Rattle.std.proofs.Common.{◌≡◌}
 use Rattle.macro_defs.specs.Table.{lookup}
 use Rattle.daemon_cpp.specs.Prep.{is_defined, with_defined}
-use Rattle.daemon_cpp.specs.Showing.{stage_told, answered_behind}
+use Rattle.daemon_cpp.specs.parts.Showing.{stage_told, answered_behind}
 use Rattle.daemon_cpp.proofs.defined.with_defined.Given as goal
 
 abbrev pub invariant-loop-token : goal.invariant-loop-token

@@ -3,7 +3,7 @@ use Rattle.directive_scan.specs.declared.HeaderName.{HeaderName}
 use Rattle.directive_scan.specs.HeaderNames.{header_named}
 use Rattle.macro_expand.specs.declared.Mode.TheVariants.{Text}
 use Rattle.daemon_cpp.specs.Prep.{Gives, expand_line}
-use Rattle.daemon_cpp.specs.Showing.{here_seen}
+use Rattle.daemon_cpp.specs.parts.Showing.{here_seen}
 use Rattle.daemon_cpp.proofs.Steps.{leads-gives, leads-then}
 use Rattle.daemon_cpp.proofs.header.computed.Goals as goal
 

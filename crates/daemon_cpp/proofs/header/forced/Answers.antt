@@ -1,7 +1,7 @@
 use Rattle.std.proofs.Common.{false}
 use Rattle.search_path.specs.Asks.{forced_ask}
 use Rattle.daemon_cpp.specs.Prep.{world_of, found_file}
-use Rattle.daemon_cpp.specs.Showing.{here_seen}
+use Rattle.daemon_cpp.specs.parts.Showing.{here_seen}
 use Rattle.daemon_cpp.proofs.Including.{includes-forced, includes-silent}
 use Rattle.daemon_cpp.proofs.header.forced.Goals as goal
 

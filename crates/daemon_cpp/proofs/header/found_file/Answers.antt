@@ -1,4 +1,4 @@
-use Rattle.daemon_cpp.specs.Showing.{here_seen}
+use Rattle.daemon_cpp.specs.parts.Showing.{here_seen}
 use Rattle.daemon_cpp.proofs.Including.{includes-found}
 use Rattle.daemon_cpp.proofs.header.found_file.Goals as goal
 

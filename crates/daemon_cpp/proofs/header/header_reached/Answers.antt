@@ -4,7 +4,7 @@ use Rattle.directive_scan.specs.declared.Target.TheVariants.{Computed}
 use Rattle.directive_scan.specs.HeaderNames.{header_named}
 use Rattle.macro_expand.specs.declared.Mode.TheVariants.{Text}
 use Rattle.daemon_cpp.specs.Prep.{Gives, reach, expand_line, header_reached}
-use Rattle.daemon_cpp.specs.Showing.{here_seen}
+use Rattle.daemon_cpp.specs.parts.Showing.{here_seen}
 use Rattle.daemon_cpp.proofs.Steps.{leads-same}
 use Rattle.daemon_cpp.proofs.header.header_reached.Goals as goal
 

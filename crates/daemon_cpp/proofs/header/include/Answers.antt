@@ -1,5 +1,5 @@
 use Rattle.daemon_cpp.specs.Prep.{world_of, header_reached, include_named}
-use Rattle.daemon_cpp.specs.Showing.{here_seen}
+use Rattle.daemon_cpp.specs.parts.Showing.{here_seen}
 use Rattle.daemon_cpp.proofs.Including.{includes-then}
 use Rattle.daemon_cpp.proofs.header.include.Goals as goal
 

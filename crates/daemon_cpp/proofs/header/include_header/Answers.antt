@@ -1,6 +1,6 @@
 use Rattle.std.proofs.Common.{Some}
 use Rattle.daemon_cpp.specs.Prep.{world_of, include_named}
-use Rattle.daemon_cpp.specs.Showing.{here_seen}
+use Rattle.daemon_cpp.specs.parts.Showing.{here_seen}
 use Rattle.daemon_cpp.proofs.Including.{includes-header, includes-silent}
 use Rattle.daemon_cpp.proofs.header.include_header.Goals as goal
 

@@ -2,7 +2,7 @@ use Rattle.std.proofs.Common.{Option, ap}
 use Rattle.directive_scan.specs.declared.HeaderName.{HeaderName}
 use Rattle.daemon_cpp.specs.Prep.{world_of, include_named}
 use Rattle.std.proofs.Common.{Some}
-use Rattle.daemon_cpp.specs.Showing.{here_seen}
+use Rattle.daemon_cpp.specs.parts.Showing.{here_seen}
 use Rattle.daemon_cpp.proofs.Including.{includes-same}
 use Rattle.daemon_cpp.proofs.header.include_named.Goals as goal
 

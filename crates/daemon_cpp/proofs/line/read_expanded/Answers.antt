@@ -1,4 +1,4 @@
-use Rattle.daemon_cpp.specs.Showing.{here_seen}
+use Rattle.daemon_cpp.specs.parts.Showing.{here_seen}
 use Rattle.daemon_cpp.proofs.Lines.{expanded-told}
 use Rattle.daemon_cpp.proofs.line.read_expanded.Goals as goal
 

@@ -1,8 +1,8 @@
 use Rattle.std.proofs.Common.{Result, subst}
 use Rattle.daemon_cpp.specs.declared.stop.Stop.{Stop}
 use Rattle.daemon_cpp.specs.Prep.{say}
-use Rattle.daemon_cpp.specs.Reading.{front_events}
-use Rattle.daemon_cpp.specs.Showing.{Goes}
+use Rattle.daemon_cpp.specs.parts.Reading.{front_events}
+use Rattle.daemon_cpp.specs.parts.Showing.{Goes}
 use Rattle.daemon_cpp.proofs.Openings.{begins-announced, begins-full}
 use Rattle.daemon_cpp.proofs.opening.announced.Goals as goal
 

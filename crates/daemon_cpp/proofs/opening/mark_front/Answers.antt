@@ -6,8 +6,8 @@ use Rattle.tree_model.specs.Paths.{Text}
 use Rattle.tree_model.specs.Shown as showing
 use Rattle.tree_model.specs.Shown.{presumed_name}
 use Rattle.daemon_cpp.specs.Prep.{say}
-use Rattle.daemon_cpp.specs.Reading.{front_events}
-use Rattle.daemon_cpp.specs.Showing.{Goes}
+use Rattle.daemon_cpp.specs.parts.Reading.{front_events}
+use Rattle.daemon_cpp.specs.parts.Showing.{Goes}
 use Rattle.daemon_cpp.proofs.Markers.{goes-none, goes-one, goes-full}
 use Rattle.daemon_cpp.proofs.opening.mark_front.Goals as goal
 

@@ -1,7 +1,7 @@
 use Rattle.std.proofs.Common.{◌≡◌, Bool, sym, ◌∙◌, ap, subst}
 use Rattle.pp_tokens.specs.Lines.{lexed, LexedFile}
-use Rattle.daemon_cpp.specs.Reading.{front_events, run_body}
-use Rattle.daemon_cpp.specs.Showing.{Begins}
+use Rattle.daemon_cpp.specs.parts.Reading.{front_events, run_body}
+use Rattle.daemon_cpp.specs.parts.Showing.{Begins}
 use Rattle.daemon_cpp.proofs.Openings.{begins-paid}
 use Rattle.daemon_cpp.proofs.opening.open_body.Goals as goal
 

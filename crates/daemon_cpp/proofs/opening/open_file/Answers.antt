@@ -2,8 +2,8 @@ use Rattle.std.proofs.Common.{Err, refl, sym, ◌∙◌, subst}
 use Rattle.pp_tokens.specs.Lines.{lexed}
 use Rattle.tree_model.specs.Paths.{Text}
 use Rattle.daemon_cpp.specs.Prep.{world_of, here_at, open_file}
-use Rattle.daemon_cpp.specs.Reading.{front_events, run_body}
-use Rattle.daemon_cpp.specs.Showing.{Opens, Begins}
+use Rattle.daemon_cpp.specs.parts.Reading.{front_events, run_body}
+use Rattle.daemon_cpp.specs.parts.Showing.{Opens, Begins}
 use Rattle.daemon_cpp.specs.declared.kept.Kept.{Kept}
 use Rattle.daemon_cpp.proofs.Openings.{opens-body, opens-large, opens-nothing}
 use Rattle.daemon_cpp.proofs.opening.open_file.Goals as goal

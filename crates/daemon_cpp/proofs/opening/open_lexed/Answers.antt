@@ -3,7 +3,7 @@ use Rattle.std.proofs.lemmas.Result.{IfOk-weaker}
 use Rattle.directive_scan.specs.declared.Piece.{Piece}
 use Rattle.directive_scan.specs.Groups.{outline, role_of}
 use Rattle.daemon_cpp.specs.Prep.{run_file, run_outline}
-use Rattle.daemon_cpp.specs.Reading.{front_events, token_count}
+use Rattle.daemon_cpp.specs.parts.Reading.{front_events, token_count}
 use Rattle.daemon_cpp.proofs.Fewer.{pieces-few}
 use Rattle.daemon_cpp.proofs.Openings.{begins-same}
 use Rattle.daemon_cpp.proofs.opening.open_lexed.Goals as goal

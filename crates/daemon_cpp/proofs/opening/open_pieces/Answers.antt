@@ -1,7 +1,7 @@
 use Rattle.std.proofs.Common.{◌≡◌, None, sym, ◌∙◌}
 use Rattle.directive_scan.specs.Groups.{malformed_by, outline, role_of}
 use Rattle.daemon_cpp.specs.Prep.{and_then, say, run_outline}
-use Rattle.daemon_cpp.specs.Reading.{front_events, run_flat, reading}
+use Rattle.daemon_cpp.specs.parts.Reading.{front_events, run_flat, reading}
 use Rattle.daemon_cpp.proofs.Openings.{begins-same, run-outline}
 use Rattle.daemon_cpp.proofs.opening.open_pieces.Goals as goal
 

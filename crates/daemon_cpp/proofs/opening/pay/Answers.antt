@@ -1,5 +1,5 @@
 use Rattle.std.proofs.Common.{◌≡◌, ◌<◌, ◌≤◌, ◌-◌, suc, length, sym, arith}
-use Rattle.daemon_cpp.specs.Reading.{token_count}
+use Rattle.daemon_cpp.specs.parts.Reading.{token_count}
 use Rattle.daemon_cpp.proofs.Work.{enough, short, next_tokens, no_tokens}
 use Rattle.daemon_cpp.proofs.opening.pay.Goals as goal
 

@@ -1,5 +1,5 @@
 use Rattle.std.proofs.Common.{◌≡◌, ◌+◌, suc, drop}
-use Rattle.daemon_cpp.specs.Reading.{token_count}
+use Rattle.daemon_cpp.specs.parts.Reading.{token_count}
 use Rattle.daemon_cpp.proofs.opening.pay.Given as goal
 
 abbrev pub invariant-loop-line : goal.invariant-loop-line

@@ -1,6 +1,6 @@
 use Rattle.std.proofs.Common.{ap, Err}
 use Rattle.cpp_output.specs.Layout.{pragma}
-use Rattle.daemon_cpp.specs.Showing.{here_seen}
+use Rattle.daemon_cpp.specs.parts.Showing.{here_seen}
 use Rattle.daemon_cpp.proofs.Moving.{moves-laid, moves-full}
 use Rattle.daemon_cpp.proofs.pieces.lay_pragma.Goals as goal
 

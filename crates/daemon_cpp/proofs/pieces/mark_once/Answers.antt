@@ -1,4 +1,4 @@
-use Rattle.daemon_cpp.specs.Showing.{here_seen}
+use Rattle.daemon_cpp.specs.parts.Showing.{here_seen}
 use Rattle.daemon_cpp.proofs.Moving.{moves-marked}
 use Rattle.daemon_cpp.proofs.pieces.mark_once.Goals as goal
 

@@ -1,4 +1,4 @@
-use Rattle.daemon_cpp.specs.Showing.{here_seen}
+use Rattle.daemon_cpp.specs.parts.Showing.{here_seen}
 use Rattle.daemon_cpp.proofs.Moving.{moves-renumbered}
 use Rattle.daemon_cpp.proofs.pieces.renumber.Goals as goal
 

@@ -2,7 +2,7 @@ use Rattle.std.proofs.Common.{sym, ap, ◌∙◌}
 use Rattle.directive_scan.specs.declared.Directive.TheVariants as named
 use Rattle.macro_defs.specs.Defining.{defined_by}
 use Rattle.daemon_cpp.specs.Prep.{world_of, define_step, undef_step}
-use Rattle.daemon_cpp.specs.Showing.{here_seen}
+use Rattle.daemon_cpp.specs.parts.Showing.{here_seen}
 use Rattle.daemon_cpp.proofs.Moving.{moves-onward, directive-moves}
 use Rattle.daemon_cpp.proofs.pieces.run_directive.Goals as goal
 

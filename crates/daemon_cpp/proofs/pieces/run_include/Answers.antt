@@ -1,7 +1,7 @@
 use Rattle.std.proofs.Common.{Ok, Option, subst}
 use Rattle.search_path.specs.Search.{Hit}
 use Rattle.daemon_cpp.specs.Prep.{world_of, include}
-use Rattle.daemon_cpp.specs.Showing.{Includes, here_seen}
+use Rattle.daemon_cpp.specs.parts.Showing.{Includes, here_seen}
 use Rattle.daemon_cpp.proofs.pieces.run_include.Goals as goal
 
 pub returns-in-Ok-Some-clause-moves : goal.returns-in-Ok-Some-clause-moves

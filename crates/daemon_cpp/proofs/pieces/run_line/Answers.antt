@@ -1,7 +1,7 @@
 use Rattle.std.proofs.Common.{sym}
 use Rattle.directive_scan.specs.Spots.{directive_seen}
 use Rattle.daemon_cpp.specs.Prep.{world_of}
-use Rattle.daemon_cpp.specs.Showing.{here_seen}
+use Rattle.daemon_cpp.specs.parts.Showing.{here_seen}
 use Rattle.daemon_cpp.proofs.Moving.{directive-moves}
 use Rattle.daemon_cpp.proofs.pieces.run_line.Goals as goal
 

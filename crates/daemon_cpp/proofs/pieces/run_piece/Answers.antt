@@ -3,7 +3,7 @@ use Rattle.pp_tokens.specs.Tokens.{rest_of}
 use Rattle.directive_scan.specs.declared.Piece.TheVariants.{Run, Line}
 use Rattle.directive_scan.specs.Spots.{directive_seen, piece_seen}
 use Rattle.daemon_cpp.specs.Prep.{world_of, text_step}
-use Rattle.daemon_cpp.specs.Showing.{here_seen}
+use Rattle.daemon_cpp.specs.parts.Showing.{here_seen}
 use Rattle.daemon_cpp.proofs.Moving.{moves-onward, piece-moves}
 use Rattle.daemon_cpp.proofs.pieces.run_piece.Goals as goal
 

@@ -1,6 +1,6 @@
 use Rattle.std.proofs.Common.{◌≡◌, ◌≤◌, ◌-◌, length, drop}
 use Rattle.daemon_cpp.specs.Prep.{World, Entering, State}
-use Rattle.daemon_cpp.specs.Reading.{run_flat, passing}
+use Rattle.daemon_cpp.specs.parts.Reading.{run_flat, passing}
 use Rattle.daemon_cpp.proofs.section.pass.Given as goal
 
 -- what is left to pass over comes to the same

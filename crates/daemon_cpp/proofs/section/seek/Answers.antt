@@ -1,7 +1,7 @@
 use Rattle.std.proofs.Common.{Bool, true, if◌then◌else◌, ◌+◌, ◌∙◌, ap, subst, drop, length, arith}
 use Rattle.daemon_cpp.specs.Prep.{world_of}
-use Rattle.daemon_cpp.specs.Reading.{Stage, run_flat, seeking, stage_of}
-use Rattle.daemon_cpp.specs.Showing.{GoesOnAt, IsBetween, here_seen}
+use Rattle.daemon_cpp.specs.parts.Reading.{Stage, run_flat, seeking, stage_of}
+use Rattle.daemon_cpp.specs.parts.Showing.{GoesOnAt, IsBetween, here_seen}
 use Rattle.daemon_cpp.proofs.Sections.{line-on, line-stops}
 use Rattle.daemon_cpp.proofs.section.seek.Goals as goal
 

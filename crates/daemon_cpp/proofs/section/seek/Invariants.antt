@@ -1,8 +1,8 @@
 use Rattle.std.proofs.Common.{◌≡◌, ◌≤◌, ◌-◌, length, drop}
 use Rattle.std.specs.Option.{ForSome}
 use Rattle.daemon_cpp.specs.Prep.{world_of}
-use Rattle.daemon_cpp.specs.Reading.{run_flat, seeking}
-use Rattle.daemon_cpp.specs.Showing.{GoesOnAt, here_seen}
+use Rattle.daemon_cpp.specs.parts.Reading.{run_flat, seeking}
+use Rattle.daemon_cpp.specs.parts.Showing.{GoesOnAt, here_seen}
 use Rattle.daemon_cpp.proofs.section.seek.Given as goal
 
 -- what is left to look for is the same, from a state that is shown now

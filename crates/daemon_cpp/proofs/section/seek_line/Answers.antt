@@ -1,7 +1,7 @@
 use Rattle.std.proofs.Common.{sym, ◌<◌, ◌≤◌, length, arith}
 use Rattle.directive_scan.specs.Spots.{role_told, piece_seen}
 use Rattle.daemon_cpp.specs.Prep.{world_of}
-use Rattle.daemon_cpp.specs.Showing.{here_seen}
+use Rattle.daemon_cpp.specs.parts.Showing.{here_seen}
 use Rattle.daemon_cpp.proofs.Sections.{at-end, at-endif, at-test, test-stops}
 use Rattle.daemon_cpp.proofs.section.seek_line.Goals as goal
 

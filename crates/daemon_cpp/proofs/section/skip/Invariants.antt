@@ -1,5 +1,5 @@
 use Rattle.std.proofs.Common.{◌≡◌, ◌≤◌, ◌-◌, length, drop}
-use Rattle.daemon_cpp.specs.Reading.{skipped}
+use Rattle.daemon_cpp.specs.parts.Reading.{skipped}
 use Rattle.daemon_cpp.proofs.section.skip.Given as goal
 
 -- what is left to skip comes to the same line

@@ -1,7 +1,7 @@
 use Rattle.std.proofs.Common.{◌≡◌, ◌+◌, ◌≤◌}
 use Rattle.macro_expand.specs.declared.stream.Standing.TheVariants.{Going}
 use Rattle.macro_expand.specs.Stream.{to_come, at_hand}
-use Rattle.daemon_cpp.specs.Showing.{ending}
+use Rattle.daemon_cpp.specs.parts.Showing.{ending}
 use Rattle.daemon_cpp.proofs.text.expand_rest.Given as goal
 
 abbrev pub invariant-loop : goal.invariant-loop

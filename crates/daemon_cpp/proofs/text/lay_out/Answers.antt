@@ -2,7 +2,7 @@ use Rattle.std.proofs.Common.{ap, sym, arith, ◌∙◌}
 use Rattle.pp_tokens.specs.Tokens.{rest_of}
 use Rattle.macro_expand.specs.declared.outcome.Mode.TheVariants as mode
 use Rattle.macro_expand.specs.Stream.{Stream, to_come}
-use Rattle.daemon_cpp.specs.Showing.{laid_from}
+use Rattle.daemon_cpp.specs.parts.Showing.{laid_from}
 use Rattle.daemon_cpp.proofs.Texts.{lays-init}
 use Rattle.daemon_cpp.proofs.text.lay_out.Goals as goal
 

@@ -8,7 +8,7 @@ use Rattle.macro_expand.specs.Expansion.{expanded_by}
 use Rattle.macro_expand.specs.Seen.{place_of}
 use Rattle.macro_expand.specs.Stream.{given, to_come, at_hand}
 use Rattle.cpp_output.specs.Layout.{text_limit}
-use Rattle.daemon_cpp.specs.Showing.{laid_from}
+use Rattle.daemon_cpp.specs.parts.Showing.{laid_from}
 use Rattle.daemon_cpp.proofs.text.lay_out.Given as goal
 
 -- the output so far, before what is still to come

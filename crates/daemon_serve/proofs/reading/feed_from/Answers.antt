@@ -1,7 +1,7 @@
 use Rattle.std.proofs.Common.{◌≡◌, ℕ, ◌≤◌, length, take, arith, ap, subst, Err}
 use Rattle.std.specs.Io.KnownBytes.{prepend_known}
 use Rattle.std.proofs.lemmas.List.{length-take}
-use Rattle.job_frames.specs.Readers.{left}
+use Rattle.job_frames.specs.parts.Readers.{left}
 use Rattle.daemon_serve.proofs.RequestReads.{begun, only-fault, read-fault, read-end, read-on, read-refused, read-whole, read-out}
 use Rattle.daemon_serve.proofs.reading.feed_from.Goals as goal
 

@@ -1,5 +1,5 @@
-use Rattle.job_frames.specs.Readers.{left}
-use Rattle.daemon_serve.specs.Parts.{IsReading}
+use Rattle.job_frames.specs.parts.Readers.{left}
+use Rattle.daemon_serve.specs.parts.Parts.{IsReading}
 use Rattle.daemon_serve.proofs.reading.feed_from.Given as goal
 
 abbrev pub invariant-loop : goal.invariant-loop

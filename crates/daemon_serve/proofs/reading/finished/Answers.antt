@@ -1,5 +1,5 @@
 use Rattle.std.proofs.Common.{sym, ◌∙◌, ap}
-use Rattle.job_frames.specs.Readers.{request_of}
+use Rattle.job_frames.specs.parts.Readers.{request_of}
 use Rattle.daemon_serve.proofs.WholeRequests.{never-none}
 use Rattle.daemon_serve.proofs.reading.finished.Goals as goal
 

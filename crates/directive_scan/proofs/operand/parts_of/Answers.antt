@@ -1,5 +1,5 @@
 use Rattle.std.proofs.Common.{◌≤◌, length, ◌∙◌, arith}
-use Rattle.directive_scan.specs.PartsSoFar.{stage_told}
+use Rattle.directive_scan.specs.parts.PartsSoFar.{stage_told}
 use Rattle.directive_scan.proofs.PartSteps.{at_first, all_read, left_open}
 use Rattle.directive_scan.proofs.operand.parts_of.Goals as goal
 

@@ -1,6 +1,6 @@
 use Rattle.std.proofs.Common.{◌≡◌, ◌≤◌, drop}
 use Rattle.directive_scan.specs.Operands.{parts_of}
-use Rattle.directive_scan.specs.PartsSoFar.{stage_told, open_count, so_far}
+use Rattle.directive_scan.specs.parts.PartsSoFar.{stage_told, open_count, so_far}
 use Rattle.directive_scan.proofs.operand.parts_of.Given as goal
 
 abbrev pub invariant-loop-token : goal.invariant-loop-token

@@ -1,6 +1,6 @@
 use Rattle.std.proofs.Common.{◌<◌, ◌≤◌, length, map, ◌∙◌, ap, arith}
 use Rattle.std.proofs.lemmas.List.{length-map}
-use Rattle.directive_scan.specs.OpenStack.{unended_last}
+use Rattle.directive_scan.specs.parts.OpenStack.{unended_last}
 use Rattle.directive_scan.specs.Spots.{piece_at}
 use Rattle.directive_scan.proofs.OpenFronts.{read_none, read_more, read_wrong, read_all}
 use Rattle.directive_scan.proofs.Roles.{role_at, shown_at, length_shown}

@@ -1,6 +1,6 @@
 use Rattle.std.proofs.Common.{◌+◌, drop, sym, ap, ◌∙◌, arith}
 use Rattle.std.proofs.lemmas.List.{drop_more, drop_all}
-use Rattle.host_slots.specs.Numbers.{number_behind}
+use Rattle.host_slots.specs.parts.Numbers.{number_behind}
 use Rattle.host_slots.proofs.Digits.{behind-some, behind-none, behind-end}
 use Rattle.host_slots.proofs.number.number_behind.Goals as goal
 

@@ -1,5 +1,5 @@
 use Rattle.std.proofs.Common.{◌≡◌, ◌≤◌, drop}
-use Rattle.host_slots.specs.Numbers.{number_behind}
+use Rattle.host_slots.specs.parts.Numbers.{number_behind}
 use Rattle.host_slots.proofs.number.number_behind.Given as goal
 
 abbrev pub invariant-loop-b : goal.invariant-loop-b

@@ -1,5 +1,5 @@
 use Rattle.std.proofs.Common.{subst, inr}
-use Rattle.job_frames.specs.Stages.{HasRunTo}
+use Rattle.job_frames.specs.parts.Stages.{HasRunTo}
 use Rattle.job_frames.proofs.ImageLemmas.{image_more, image_refused, image_done, image_longer}
 use Rattle.job_frames.proofs.image.run_whole.Goals as goal
 

@@ -1,7 +1,7 @@
 use Rattle.std.proofs.Common.{◌≡◌, ◌<◌, ℕ, List, ◌++◌, sym, ◌∙◌, ap, subst, Vec, Global}
 use Rattle.tree_model.specs.declared.entry.Entry.TheVariants as node
 use Rattle.job_frames.specs.declared.machine.Due.{Due}
-use Rattle.job_frames.specs.Stages.{reading, rank, names_due, Ready, IsPushed}
+use Rattle.job_frames.specs.parts.Stages.{reading, rank, names_due, Ready, IsPushed}
 use Rattle.job_frames.proofs.StageLemmas.{pushed_moves, body_reads, node_falls}
 use Rattle.job_frames.proofs.machine.body_move.Goals as goal
 

@@ -1,7 +1,7 @@
 use Rattle.std.proofs.Common.{◌≡◌, ◌≤◌, ℕ, List, length, get_or, sym, ◌∙◌, subst, arith}
 use Rattle.job_frames.specs.declared.machine.Due.{Due}
 use Rattle.job_frames.specs.declared.machine.Due.TheVariants.{Kind}
-use Rattle.job_frames.specs.Stages.{Ready}
+use Rattle.job_frames.specs.parts.Stages.{Ready}
 use Rattle.job_frames.proofs.StageLemmas.{moved, kind_dir, kind_link, kind_file, kind_falls, token_lengths, same_default}
 use Rattle.job_frames.proofs.machine.kind_move.Goals as goal
 

@@ -2,7 +2,7 @@ use Rattle.std.proofs.Common.{◌<◌, ℕ, List, ◌++◌, sym, ◌∙◌, ap, 
 use Rattle.tree_model.specs.declared.entry.Entry.TheVariants as node
 use Rattle.job_frames.specs.declared.machine.Due.{Due}
 use Rattle.job_frames.specs.declared.machine.Due.TheVariants.{Made}
-use Rattle.job_frames.specs.Stages.{reading, rank, names_due, Ready}
+use Rattle.job_frames.specs.parts.Stages.{reading, rank, names_due, Ready}
 use Rattle.job_frames.proofs.StageLemmas.{pushed_moves, made_reads, node_falls, nothing_pending, empty_wanted}
 use Rattle.job_frames.proofs.machine.made_move.Goals as goal
 

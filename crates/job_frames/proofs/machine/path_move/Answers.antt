@@ -5,7 +5,7 @@ use Rattle.tree_model.specs.declared.mem_tree.MirrorError.{MirrorError}
 use Rattle.job_frames.specs.declared.machine.Due.{Due}
 use Rattle.job_frames.specs.declared.machine.Due.TheVariants.{Path, Kind}
 use Rattle.tree_model.specs.Entries.{judged_path}
-use Rattle.job_frames.specs.Stages.{reading, wanted_of}
+use Rattle.job_frames.specs.parts.Stages.{reading, wanted_of}
 use Rattle.job_frames.specs.Fields.{refused}
 use Rattle.job_frames.proofs.StageLemmas.{moved, path_passes, path_fails, path_falls, judged_ready}
 use Rattle.job_frames.proofs.machine.path_move.Goals as goal

@@ -1,7 +1,7 @@
 use Rattle.std.proofs.Common.{◌≡◌, ◌≤◌, ℕ, List, [], ◌++◌, length, sym, ◌∙◌, ap, subst, arith, Vec, Global}
 use Rattle.job_frames.specs.declared.machine.Due.{Due}
 use Rattle.job_frames.specs.declared.machine.Due.TheVariants.{PlaceBody, Argc}
-use Rattle.job_frames.specs.Stages.{reading, wanted_of, Ready}
+use Rattle.job_frames.specs.parts.Stages.{reading, wanted_of, Ready}
 use Rattle.job_frames.proofs.StageLemmas.{moved, place_passes, place_falls}
 use Rattle.job_frames.proofs.machine.place_move.Goals as goal
 

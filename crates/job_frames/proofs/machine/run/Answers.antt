@@ -1,5 +1,5 @@
 use Rattle.std.proofs.Common.{◌+◌, subst, List, ℕ}
-use Rattle.job_frames.specs.Stages.{Filled}
+use Rattle.job_frames.specs.parts.Stages.{Filled}
 use Rattle.job_frames.proofs.RunLemmas.{run_rest, moved_passed, filled_passed}
 use Rattle.job_frames.proofs.machine.run.Goals as goal
 

@@ -2,7 +2,7 @@ use Rattle.std.proofs.Common.{◌≡◌, ◌≤◌, ◌<◌, ℕ, List, length, 
 use Rattle.std.proofs.lemmas.Bool.{ltb-true, ltb-false}
 use Rattle.job_frames.specs.declared.machine.Due.{Due}
 use Rattle.job_frames.specs.declared.machine.Due.TheVariants.{PlaceBody, WordBody, Path, Kind, Target, Body}
-use Rattle.job_frames.specs.Stages.{wanted_of}
+use Rattle.job_frames.specs.parts.Stages.{wanted_of}
 use Rattle.job_frames.proofs.StageLemmas.{field_waits, body_lengths}
 use Rattle.job_frames.proofs.machine.step.Goals as goal
 

@@ -1,7 +1,7 @@
 use Rattle.std.proofs.Common.{◌≡◌, ◌≤◌, ◌<◌, ◌+◌, ◌-◌, ℕ, List, [], ◌++◌, length, drop, sym, ◌∙◌, ap, subst, arith, refl, inr, true}
 use Rattle.job_frames.specs.declared.machine.Due.{Due}
 use Rattle.job_frames.specs.Fields.{number_at, taken}
-use Rattle.job_frames.specs.Stages.{wanted_of, reading, letters_of, rank, is_token, Ready}
+use Rattle.job_frames.specs.parts.Stages.{wanted_of, reading, letters_of, rank, is_token, Ready}
 use Rattle.job_frames.proofs.FieldLemmas.{past_end}
 use Rattle.job_frames.proofs.TokenLemmas.{same_number}
 use Rattle.job_frames.proofs.StageLemmas.{token_waits, token_fails, token_judged, token_passes, letters_length, token_wanted, ready_next, rank_falls, behind}

@@ -3,7 +3,7 @@ use Rattle.std.specs.Prelude.{Result, Ok, Err, OnOk}
 use Rattle.std.specs.Result.{is_err}
 use Rattle.job_frames.specs.declared.machine.Due.{Due}
 use Rattle.job_frames.specs.declared.machine.Due.TheVariants.{WordBody}
-use Rattle.job_frames.specs.Stages.{reading, wanted_of, Ready, rank}
+use Rattle.job_frames.specs.parts.Stages.{reading, wanted_of, Ready, rank}
 use Rattle.job_frames.proofs.StageLemmas.{moved, word_passes, word_falls, word_ready}
 use Rattle.job_frames.proofs.machine.word_move.Goals as goal
 

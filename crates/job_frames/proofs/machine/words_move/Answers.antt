@@ -7,7 +7,7 @@ use Rattle.job_frames.specs.declared.machine.Due.TheVariants.{Words, Count}
 use Rattle.job_frames.specs.Fields.{Step, refused}
 use Rattle.job_frames.specs.Outcomes.{number_of}
 use Rattle.job_frames.specs.Request.{Got}
-use Rattle.job_frames.specs.Stages.{reading, wanted_of, Ready}
+use Rattle.job_frames.specs.parts.Stages.{reading, wanted_of, Ready}
 use Rattle.job_frames.proofs.StageLemmas.{moved, words_pass, words_fail, words_fall, nothing_pending, empty_wanted}
 use Rattle.job_frames.proofs.machine.words_move.Goals as goal
 

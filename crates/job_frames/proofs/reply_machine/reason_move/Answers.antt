@@ -1,6 +1,6 @@
 use Rattle.std.proofs.Common.{◌≡◌, ◌≤◌, ℕ, List, [], ◌++◌, length, sym, subst, arith}
 use Rattle.job_frames.specs.declared.reply_machine.ReplyDue.TheVariants.{Reason, Whole}
-use Rattle.job_frames.specs.ReplyStages.{wanted_of}
+use Rattle.job_frames.specs.parts.ReplyStages.{wanted_of}
 use Rattle.job_frames.proofs.ReplyStageLemmas.{moved, reason_passes, field_falls, field_lengths, nothing_pending}
 use Rattle.job_frames.proofs.reply_machine.reason_move.Goals as goal
 

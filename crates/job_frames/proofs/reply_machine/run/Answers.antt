@@ -1,5 +1,5 @@
 use Rattle.std.proofs.Common.{◌+◌, subst, sym, List, ℕ}
-use Rattle.job_frames.specs.ReplyStages.{Filled, HasRun}
+use Rattle.job_frames.specs.parts.ReplyStages.{Filled, HasRun}
 use Rattle.job_frames.proofs.ReplyRunLemmas.{run_rest, moved_passed, filled_passed}
 use Rattle.job_frames.proofs.reply_machine.run.Goals as goal
 

@@ -1,4 +1,4 @@
-use Rattle.job_frames.specs.ReplyStages.{Passed, rank}
+use Rattle.job_frames.specs.parts.ReplyStages.{Passed, rank}
 use Rattle.job_frames.proofs.reply_machine.run.Given as goal
 
 abbrev pub invariant-loop-n : goal.invariant-loop-n

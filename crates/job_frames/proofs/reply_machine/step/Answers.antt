@@ -2,7 +2,7 @@ use Rattle.std.proofs.Common.{◌≡◌, ◌≤◌, ◌<◌, ℕ, List, length, 
 use Rattle.std.proofs.lemmas.Bool.{ltb-true, ltb-false}
 use Rattle.job_frames.specs.declared.reply_machine.ReplyDue.{ReplyDue}
 use Rattle.job_frames.specs.declared.reply_machine.ReplyDue.TheVariants.{Start, WordsBody, TextBody}
-use Rattle.job_frames.specs.ReplyStages.{wanted_of, Ready}
+use Rattle.job_frames.specs.parts.ReplyStages.{wanted_of, Ready}
 use Rattle.job_frames.proofs.ReplyStageLemmas.{field_waits, field_lengths}
 use Rattle.job_frames.proofs.reply_machine.step.Goals as goal
 

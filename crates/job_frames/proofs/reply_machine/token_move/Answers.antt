@@ -1,7 +1,7 @@
 use Rattle.std.proofs.Common.{◌≡◌, ◌≤◌, ◌<◌, ℕ, List, [], ◌++◌, length, drop, sym, ◌∙◌, ap, subst, arith, refl, true}
 use Rattle.job_frames.specs.declared.reply_machine.ReplyDue.{ReplyDue}
 use Rattle.job_frames.specs.Fields.{number_at, taken}
-use Rattle.job_frames.specs.ReplyStages.{wanted_of, reading, letters_of, judge_of, rank, is_token, Ready}
+use Rattle.job_frames.specs.parts.ReplyStages.{wanted_of, reading, letters_of, judge_of, rank, is_token, Ready}
 use Rattle.job_frames.proofs.FieldLemmas.{past_end}
 use Rattle.job_frames.proofs.TokenLemmas.{same_number, number_waits, number_fails, number_judged, number_passes}
 use Rattle.job_frames.proofs.ReplyStageLemmas.{onward, token_read, letters_length, token_wanted, ready_next, rank_falls}

@@ -1,7 +1,7 @@
 use Rattle.std.proofs.Common.{◌≡◌, ◌≤◌, ℕ, List, [], ◌++◌, length, sym, ◌∙◌, ap, subst, arith, Some, Vec, Global}
 use Rattle.job_frames.specs.declared.answer.Answer.TheVariants as said
 use Rattle.job_frames.specs.declared.reply_machine.ReplyDue.TheVariants.{WordsBody, NoText}
-use Rattle.job_frames.specs.ReplyStages.{reading, wanted_of}
+use Rattle.job_frames.specs.parts.ReplyStages.{reading, wanted_of}
 use Rattle.job_frames.proofs.ReplyStageLemmas.{moved, words_pass, field_falls}
 use Rattle.job_frames.proofs.reply_machine.words_move.Goals as goal
 

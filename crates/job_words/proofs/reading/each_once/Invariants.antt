@@ -1,6 +1,6 @@
 use Rattle.std.proofs.Common.{◌≡◌, take}
 use Rattle.job_words.specs.Words.{each_once}
-use Rattle.job_words.specs.Told.{HasTexts}
+use Rattle.job_words.specs.parts.Told.{HasTexts}
 use Rattle.job_words.proofs.reading.each_once.Given as goal
 
 abbrev pub invariant-loop-text : goal.invariant-loop-text

@@ -1,7 +1,7 @@
 use Rattle.std.proofs.Common.{None, ◌∙◌, ap, inr, [], ◌+◌, drop, arith}
 use Rattle.std.proofs.lemmas.Result.{err_from_is_err_and}
 use Rattle.job_words.specs.Words.{read_on, nothing}
-use Rattle.job_words.specs.Told.{at_any}
+use Rattle.job_words.specs.parts.Told.{at_any}
 use Rattle.job_words.proofs.Steps.{at-place, at-end, error-at}
 use Rattle.job_words.proofs.reading.read_all.Goals as goal
 

@@ -1,6 +1,6 @@
 use Rattle.std.proofs.Common.{◌≡◌, ◌≤◌, drop, None}
 use Rattle.job_words.specs.Words.{read_on, nothing}
-use Rattle.job_words.specs.Told.{texts_given}
+use Rattle.job_words.specs.parts.Told.{texts_given}
 use Rattle.job_words.proofs.reading.read_all.Given as goal
 
 abbrev pub invariant-loop-word : goal.invariant-loop-word

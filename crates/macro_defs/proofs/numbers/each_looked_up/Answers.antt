@@ -1,4 +1,4 @@
-use Rattle.macro_defs.specs.Stored.{number_named}
+use Rattle.macro_defs.specs.parts.Stored.{number_named}
 use Rattle.macro_defs.proofs.Places.{mapped-more}
 use Rattle.macro_defs.proofs.numbers.each_looked_up.Goals as goal
 

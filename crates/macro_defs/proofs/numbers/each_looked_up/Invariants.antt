@@ -1,5 +1,5 @@
 use Rattle.std.proofs.Common.{◌≡◌, map, take}
-use Rattle.macro_defs.specs.Stored.{number_named}
+use Rattle.macro_defs.specs.parts.Stored.{number_named}
 use Rattle.macro_defs.proofs.numbers.each_looked_up.Given as goal
 
 abbrev pub invariant-loop-token : goal.invariant-loop-token

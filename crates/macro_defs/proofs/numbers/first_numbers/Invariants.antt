@@ -1,7 +1,7 @@
 use Rattle.std.proofs.Common.{◌≡◌, ℕ, List, drop}
 use Rattle.std.specs.Prelude.{bytes_eq}
 use Rattle.std.specs.List.{position_from}
-use Rattle.macro_defs.specs.Stored.{number_at}
+use Rattle.macro_defs.specs.parts.Stored.{number_at}
 use Rattle.macro_defs.proofs.numbers.first_numbers.Given as goal
 
 -- the numbers of the first parameters from a place on

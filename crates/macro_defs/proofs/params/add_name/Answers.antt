@@ -1,7 +1,7 @@
 use Rattle.std.proofs.Common.{sym, ap, ◌∙◌}
 use Rattle.std.specs.Prelude.{not, ◌||◌, bytes_eq}
 use Rattle.std.specs.List.{list_any}
-use Rattle.macro_defs.specs.Stored.{spelled}
+use Rattle.macro_defs.specs.parts.Stored.{spelled}
 use Rattle.macro_defs.proofs.Names.{spelled_any, inserted}
 use Rattle.macro_defs.proofs.params.add_name.Goals as goal
 

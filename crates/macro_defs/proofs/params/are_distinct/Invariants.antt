@@ -1,7 +1,7 @@
 use Rattle.std.proofs.Common.{◌≡◌, ℕ, List, take, true}
 use Rattle.std.specs.Prelude.{bytes_eq}
 use Rattle.std.specs.List.{list_any}
-use Rattle.macro_defs.specs.Stored.{spelled}
+use Rattle.macro_defs.specs.parts.Stored.{spelled}
 use Rattle.macro_defs.specs.Defining as spec
 use Rattle.macro_defs.proofs.params.are_distinct.Given as goal
 

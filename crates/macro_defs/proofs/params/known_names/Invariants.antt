@@ -1,7 +1,7 @@
 use Rattle.std.proofs.Common.{◌≡◌, ℕ, List, take}
 use Rattle.std.specs.Prelude.{bytes_eq}
 use Rattle.std.specs.List.{list_any}
-use Rattle.macro_defs.specs.Stored.{spelled}
+use Rattle.macro_defs.specs.parts.Stored.{spelled}
 use Rattle.macro_defs.proofs.params.known_names.Given as goal
 
 abbrev pub invariant-loop-name : goal.invariant-loop-name

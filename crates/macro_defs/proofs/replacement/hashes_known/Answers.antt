@@ -1,5 +1,5 @@
 use Rattle.std.proofs.Common.{sym, ◌∙◌, true, false}
-use Rattle.macro_defs.specs.Stored.{spelled}
+use Rattle.macro_defs.specs.parts.Stored.{spelled}
 use Rattle.macro_defs.proofs.Bodies.{hashes_turn, hashes_end}
 use Rattle.macro_defs.proofs.replacement.hashes_known.Goals as goal
 

@@ -1,6 +1,6 @@
 use Rattle.std.proofs.Common.{◌≡◌, drop}
 use Rattle.macro_defs.specs.Defining as spec
-use Rattle.macro_defs.specs.Stored.{spelled}
+use Rattle.macro_defs.specs.parts.Stored.{spelled}
 use Rattle.macro_defs.proofs.replacement.hashes_known.Given as goal
 
 abbrev pub invariant-loop-i : goal.invariant-loop-i

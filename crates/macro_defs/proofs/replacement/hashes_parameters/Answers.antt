@@ -1,5 +1,5 @@
 use Rattle.std.proofs.Common.{◌∙◌}
-use Rattle.macro_defs.specs.Stored.{spelled}
+use Rattle.macro_defs.specs.parts.Stored.{spelled}
 use Rattle.macro_defs.proofs.Names.{hashes_alike}
 use Rattle.macro_defs.proofs.replacement.hashes_parameters.Goals as goal
 

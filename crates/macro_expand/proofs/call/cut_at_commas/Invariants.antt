@@ -1,7 +1,7 @@
 use Rattle.std.proofs.Common.{◌≡◌, ◌+◌, ◌≤◌, map}
 use Rattle.std.specs.VecDeque.{deque_len}
 use Rattle.macro_expand.specs.Replacement.{cut_at_commas}
-use Rattle.macro_expand.specs.Reading.{cut_from}
+use Rattle.macro_expand.specs.parts.Reading.{cut_from}
 use Rattle.macro_expand.specs.Seen.{marked_of}
 use Rattle.macro_expand.proofs.call.cut_at_commas.Given as goal
 

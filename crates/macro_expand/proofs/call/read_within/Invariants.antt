@@ -1,7 +1,7 @@
 use Rattle.std.proofs.Common.{◌≡◌, ◌≤◌, map, length}
 use Rattle.std.specs.VecDeque.{deque_len}
 use Rattle.macro_expand.specs.Replacement.{call_in}
-use Rattle.macro_expand.specs.Reading.{call_with_all}
+use Rattle.macro_expand.specs.parts.Reading.{call_with_all}
 use Rattle.macro_expand.specs.Seen.{marked_of}
 use Rattle.macro_expand.proofs.call.read_within.Given as goal
 

@@ -1,6 +1,6 @@
 use Rattle.std.proofs.Common.{◌≡◌, drop}
 use Rattle.std.specs.List.{list_any}
-use Rattle.macro_expand.specs.Parts.{takes_written}
+use Rattle.macro_expand.specs.parts.Parts.{takes_written}
 use Rattle.macro_expand.specs.Seen.{parts_seen}
 use Rattle.macro_expand.proofs.call.take_written.Given as goal
 

@@ -2,7 +2,7 @@ use Rattle.std.proofs.Common.{map, length, ◌∷◌, ap, sym, ◌∙◌, arith}
 use Rattle.std.proofs.lemmas.List.{nil_from_length}
 use Rattle.std.proofs.lemmas.Result.{err_from_is_err_and}
 use Rattle.macro_expand.specs.Answered.{expanded_for, arguments_for}
-use Rattle.macro_expand.specs.Naming.{named_for, called_for}
+use Rattle.macro_expand.specs.parts.Naming.{named_for, called_for}
 use Rattle.macro_expand.specs.Seen.{marked_of, lists_of, parts_seen}
 use Rattle.macro_expand.proofs.AnsweredLaws.{before-nothing, before_all-nothing}
 use Rattle.macro_expand.proofs.LoopLaws.{Stops-is, on_ok-map, on_ok-both, if_err-map, put_in-paid, put_in-stops, goes_on-left, goes_on-behind, goes_on-ordinary, keeps_step, stops_step, keeps_end}

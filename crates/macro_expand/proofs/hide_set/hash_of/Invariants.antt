@@ -1,5 +1,5 @@
 use Rattle.std.proofs.Common.{◌≡◌, take, fold}
-use Rattle.macro_expand.specs.Tries.{fnv_step}
+use Rattle.macro_expand.specs.parts.Tries.{fnv_step}
 use Rattle.macro_expand.proofs.hide_set.hash_of.Given as goal
 
 abbrev pub invariant-loop-b : goal.invariant-loop-b

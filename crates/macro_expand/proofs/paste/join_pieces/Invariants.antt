@@ -1,6 +1,6 @@
 use Rattle.std.proofs.Common.{◌≡◌, map, None, false}
 use Rattle.macro_expand.specs.Replacement.{joined}
-use Rattle.macro_expand.specs.Pasting.{joined_from}
+use Rattle.macro_expand.specs.parts.Pasting.{joined_from}
 use Rattle.macro_expand.specs.Seen.{piece_of}
 use Rattle.macro_expand.proofs.paste.join_pieces.Given as goal
 

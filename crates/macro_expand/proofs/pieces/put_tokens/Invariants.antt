@@ -1,6 +1,6 @@
 use Rattle.std.proofs.Common.{◌≡◌, ◌++◌, map, drop}
 use Rattle.macro_expand.specs.Replacement.{with_space, Real}
-use Rattle.macro_expand.specs.Pieces.{spaced_from}
+use Rattle.macro_expand.specs.parts.Pieces.{spaced_from}
 use Rattle.macro_expand.specs.Seen.{marked_of, piece_of}
 use Rattle.macro_expand.proofs.pieces.put_tokens.Given as goal
 

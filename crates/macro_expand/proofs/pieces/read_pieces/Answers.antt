@@ -1,7 +1,7 @@
 use Rattle.std.proofs.Common.{None, map}
 use Rattle.std.specs.Option.{option_map, option_copied}
 use Rattle.macro_expand.specs.Replacement.{pieces_of}
-use Rattle.macro_expand.specs.Pieces.{arguments_seen}
+use Rattle.macro_expand.specs.parts.Pieces.{arguments_seen}
 use Rattle.macro_expand.specs.Seen.{part_seen, parts_seen, piece_of}
 use Rattle.macro_expand.proofs.PieceLemmas.{pieces-turn, pieces-done}
 use Rattle.macro_expand.proofs.pieces.read_pieces.Goals as goal

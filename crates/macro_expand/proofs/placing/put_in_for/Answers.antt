@@ -1,6 +1,6 @@
 use Rattle.std.proofs.Common.{◌<◌, ◌∙◌, length, arith, ap, sym}
 use Rattle.macro_expand.specs.Sets.{names_in}
-use Rattle.macro_expand.specs.Placing.{placed}
+use Rattle.macro_expand.specs.parts.Placing.{placed}
 use Rattle.macro_expand.specs.Seen.{marked_of}
 use Rattle.macro_expand.proofs.PlacingLemmas.{place-turn, place-left, place-same}
 use Rattle.macro_expand.proofs.placing.put_in_for.Goals as goal

@@ -1,6 +1,6 @@
 use Rattle.std.proofs.Common.{◌≡◌, map, length, take, drop}
 use Rattle.macro_expand.specs.Sets.{names_in}
-use Rattle.macro_expand.specs.Placing.{placed, KnowsUnion}
+use Rattle.macro_expand.specs.parts.Placing.{placed, KnowsUnion}
 use Rattle.macro_expand.specs.Seen.{marked_of}
 use Rattle.macro_expand.proofs.placing.put_in_for.Given as goal
 

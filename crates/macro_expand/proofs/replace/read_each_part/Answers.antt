@@ -4,7 +4,7 @@ use Rattle.pp_tokens.specs.declared.Token.{Token}
 use Rattle.macro_defs.specs.MacroDefinition.{without_line}
 use Rattle.macro_defs.specs.Arguments.{argument_named, parameters_in}
 use Rattle.macro_expand.specs.Replacement.{parts_after}
-use Rattle.macro_expand.specs.Parts.{part_of}
+use Rattle.macro_expand.specs.parts.Parts.{part_of}
 use Rattle.macro_expand.specs.Seen.{parts_seen}
 use Rattle.macro_expand.proofs.PartLemmas.{named-at, read-hash, read-part, read-done}
 use Rattle.macro_expand.proofs.replace.read_each_part.Goals as goal

@@ -1,7 +1,7 @@
 use Rattle.std.proofs.Common.{map}
 use Rattle.std.proofs.lemmas.Result.{err_from_is_err_and}
 use Rattle.macro_expand.specs.Sets.{names_in}
-use Rattle.macro_expand.specs.Pieces.{arguments_seen}
+use Rattle.macro_expand.specs.parts.Pieces.{arguments_seen}
 use Rattle.macro_expand.specs.Seen.{parts_seen, piece_of, marked_of}
 use Rattle.macro_expand.proofs.PieceLemmas.{replacement-made, replacement-fails}
 use Rattle.macro_expand.proofs.replace.replaced.Goals as goal

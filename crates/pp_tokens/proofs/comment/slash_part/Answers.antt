@@ -1,6 +1,6 @@
 use Rattle.std.proofs.Common.{sym, ◌∙◌, ap, ◌+◌}
 use Rattle.pp_tokens.specs.Lines.{comment}
-use Rattle.pp_tokens.specs.Text.{comment_length}
+use Rattle.pp_tokens.specs.parts.Text.{comment_length}
 use Rattle.pp_tokens.proofs.ByteRuns.{before}
 use Rattle.pp_tokens.proofs.Comments.{block_closed, block_open, line_comment}
 use Rattle.pp_tokens.proofs.comment.slash_part.Goals as goal

@@ -3,8 +3,8 @@ use Rattle.std.proofs.lemmas.List.Sums.{count_by-le-length}
 use Rattle.std.proofs.lemmas.List.{length-take-le}
 use Rattle.pp_tokens.specs.Lined.{spliced_up_to}
 use Rattle.pp_tokens.specs.Lines.{Part, first_part}
-use Rattle.pp_tokens.specs.Gathered.{newlines, Gathers}
-use Rattle.pp_tokens.specs.Text.{is_due, part_told}
+use Rattle.pp_tokens.specs.parts.Gathered.{newlines, Gathers}
+use Rattle.pp_tokens.specs.parts.Text.{is_due, part_told}
 use Rattle.pp_tokens.proofs.LaterPlaces.{known_later}
 use Rattle.pp_tokens.proofs.Splices.{up_to_all, up_to_later}
 use Rattle.pp_tokens.proofs.LexSteps.{first_within, first_is_part, nothing_gathered, lex_start, lex_step, lex_end}

@@ -1,7 +1,7 @@
 use Rattle.std.proofs.Common.{◌≤◌, ◌-◌, ◌+◌, length}
-use Rattle.pp_tokens.specs.Gathered.{IsGathered}
+use Rattle.pp_tokens.specs.parts.Gathered.{IsGathered}
 use Rattle.pp_tokens.specs.Lined.{spliced_up_to}
-use Rattle.pp_tokens.specs.Unpaired.{KnowsUnpaired}
+use Rattle.pp_tokens.specs.parts.Unpaired.{KnowsUnpaired}
 use Rattle.pp_tokens.proofs.LexSteps.{LexState}
 use Rattle.pp_tokens.proofs.lexer.gather.Given as goal
 

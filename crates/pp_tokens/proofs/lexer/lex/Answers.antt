@@ -2,7 +2,7 @@ use Rattle.std.proofs.Common.{◌∙◌, ap, sym, List, [], ℕ, zero}
 use Rattle.pp_tokens.specs.Phases.{Cell}
 use Rattle.pp_tokens.specs.Lined.{lined}
 use Rattle.pp_tokens.specs.Lines.{elements, file_of, lexed}
-use Rattle.pp_tokens.specs.Seen.{seen_file}
+use Rattle.pp_tokens.specs.parts.Seen.{seen_file}
 use Rattle.pp_tokens.proofs.lexer.lex.Goals as goal
 
 pub returns : goal.returns

@@ -1,6 +1,6 @@
 use Rattle.std.proofs.Common.{sym, subst, refl, inl, inr}
-use Rattle.pp_tokens.specs.Gathered.{IsPart}
-use Rattle.pp_tokens.specs.Text.{part_told}
+use Rattle.pp_tokens.specs.parts.Gathered.{IsPart}
+use Rattle.pp_tokens.specs.parts.Text.{part_told}
 use Rattle.pp_tokens.specs.Lines.{white, token}
 use Rattle.pp_tokens.proofs.OneLine.{short_newlines, newline_newlines}
 use Rattle.pp_tokens.proofs.lexer.newlines.Goals as goal

@@ -1,5 +1,5 @@
 use Rattle.std.proofs.Common.{sym, ◌∙◌, ap, arith, ℕ, ◌+◌, drop}
-use Rattle.pp_tokens.specs.Unpaired.{closing_length}
+use Rattle.pp_tokens.specs.parts.Unpaired.{closing_length}
 use Rattle.pp_tokens.proofs.Closing.{further, closing_here, closing_line, closing_more, closing_end}
 use Rattle.pp_tokens.proofs.quoted.closing_length.Goals as goal
 

@@ -1,5 +1,5 @@
 use Rattle.std.proofs.Common.{◌≡◌, false, drop}
-use Rattle.pp_tokens.specs.Unpaired.{closing_length}
+use Rattle.pp_tokens.specs.parts.Unpaired.{closing_length}
 use Rattle.pp_tokens.proofs.Closing.{further}
 use Rattle.pp_tokens.proofs.quoted.closing_length.Given as goal
 

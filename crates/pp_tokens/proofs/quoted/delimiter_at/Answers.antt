@@ -1,6 +1,6 @@
 use Rattle.std.proofs.Common.{sym, ◌∙◌, get_or}
 use Rattle.pp_tokens.specs.Grammar.{closes_header}
-use Rattle.pp_tokens.specs.Unpaired.{delimiter_length}
+use Rattle.pp_tokens.specs.parts.Unpaired.{delimiter_length}
 use Rattle.pp_tokens.proofs.Closing.{delimiter_cut, found_within, line_unpaired, delimiters_passed}
 use Rattle.pp_tokens.proofs.quoted.delimiter_at.Goals as goal
 

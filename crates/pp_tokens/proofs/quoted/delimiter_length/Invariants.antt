@@ -1,5 +1,5 @@
 use Rattle.std.proofs.Common.{◌≡◌, drop}
-use Rattle.pp_tokens.specs.Unpaired.{delimiter_length}
+use Rattle.pp_tokens.specs.parts.Unpaired.{delimiter_length}
 use Rattle.pp_tokens.proofs.Closing.{further}
 use Rattle.pp_tokens.proofs.quoted.delimiter_length.Given as goal
 

@@ -1,6 +1,6 @@
 use Rattle.std.proofs.Common.{sym, ◌∙◌, get_or, false, ℕ}
 use Rattle.pp_tokens.specs.Grammar.{closes}
-use Rattle.pp_tokens.specs.Unpaired.{closing_length}
+use Rattle.pp_tokens.specs.parts.Unpaired.{closing_length}
 use Rattle.pp_tokens.proofs.Closing.{closing_cut, found_within, line_unpaired, quotes_passed}
 use Rattle.pp_tokens.proofs.quoted.find_closing.Goals as goal
 

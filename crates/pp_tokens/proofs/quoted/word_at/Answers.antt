@@ -2,7 +2,7 @@ use Rattle.std.proofs.Common.{◌≡◌, sym, ◌∙◌, ap, inl, inr, get_or, d
 use Rattle.std.proofs.lemmas.Bool.{eqb-true}
 use Rattle.pp_tokens.specs.declared.token.Kind.{Kind}
 use Rattle.pp_tokens.specs.Lines.{Part, token, first_part}
-use Rattle.pp_tokens.specs.Literals.{opens_literal, literal_kind}
+use Rattle.pp_tokens.specs.parts.Literals.{opens_literal, literal_kind}
 use Rattle.pp_tokens.proofs.Closing.{rest_is}
 use Rattle.pp_tokens.proofs.Prefixes.{IsWord, word_placed, behind_placed, word_first, prefixed_first, prefix_alone, known_before}
 use Rattle.pp_tokens.proofs.quoted.word_at.Goals as goal

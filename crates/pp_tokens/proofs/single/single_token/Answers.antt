@@ -2,7 +2,7 @@ use Rattle.std.specs.Prelude.{ℕ, length}
 use Rattle.std.proofs.Common.{sym, ◌∙◌, ap}
 use Rattle.std.proofs.lemmas.Bool.{eqb-true}
 use Rattle.pp_tokens.specs.Lines.{Part}
-use Rattle.pp_tokens.specs.Text.{whole_kind}
+use Rattle.pp_tokens.specs.parts.Text.{whole_kind}
 use Rattle.pp_tokens.proofs.WholeTokens.{kind_is, empty_kind, some_text}
 use Rattle.pp_tokens.proofs.single.single_token.Goals as goal
 

@@ -1,5 +1,5 @@
 use Rattle.std.proofs.Common.{◌≡◌, refl, sym, ◌∙◌, None, Some}
-use Rattle.pp_tokens.specs.Pieces.{front_trigraph, front_character}
+use Rattle.pp_tokens.specs.parts.Pieces.{front_trigraph, front_character}
 use Rattle.pp_tokens.proofs.source.front_character.Goals as goal
 use Rattle.pp_tokens.proofs.source.front_character.Goals.{then-trigraphs+in_default, else-trigraphs}
 

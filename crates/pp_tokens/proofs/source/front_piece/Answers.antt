@@ -1,6 +1,6 @@
 use Rattle.std.proofs.Common.{◌≡◌, ◌∷◌, ◌++◌, [], drop, List, ℕ, ap, ◌∙◌, arith, inl, inr, eq-eqb}
 use Rattle.std.proofs.lemmas.Bool.{ne_eqb}
-use Rattle.pp_tokens.specs.Pieces.{newline_length}
+use Rattle.pp_tokens.specs.parts.Pieces.{newline_length}
 use Rattle.pp_tokens.proofs.FrontPieces.{newline_piece, some_rest, read_character, read_splice}
 use Rattle.pp_tokens.proofs.source.front_piece.Goals as goal
 use Rattle.pp_tokens.proofs.source.front_piece.Goals.{else-character-eq92-via-then-character-eq92+else-next-gt0, else-character-eq92-via-else-character-eq92}

@@ -1,7 +1,7 @@
 use Rattle.std.proofs.Common.{◌≡◌, ◌≢◌, ℕ, ◌<◌, ◌≤◌, ◌∷◌, ◌==◌, ◌&&◌, [], List, length, get_or, refl, ◌∙◌, arith, true, false, eq-eqb, None}
 use Rattle.std.proofs.lemmas.Bool.{ne_eqb}
 use Rattle.pp_tokens.specs.Phases.{trigraph}
-use Rattle.pp_tokens.specs.Pieces.{front_trigraph}
+use Rattle.pp_tokens.specs.parts.Pieces.{front_trigraph}
 use Rattle.pp_tokens.proofs.Headers.{and_fails}
 use Rattle.pp_tokens.proofs.source.front_trigraph.Goals as goal
 use Rattle.pp_tokens.proofs.source.front_trigraph.Goals.{then-rest-lt3-via-then-rest-lt3, then-rest-lt3-via-else-rest-lt3+then-rest-ne63, then-rest-lt3-via-else-rest-lt3+else-rest-ne63+then-rest-ne63-2}

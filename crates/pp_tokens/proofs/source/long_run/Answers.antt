@@ -3,7 +3,7 @@ use Rattle.std.specs.List.{list_all}
 use Rattle.std.specs.Cmp.Derive.{both_true}
 use Rattle.std.proofs.lemmas.Bool.{true_from_ne_false}
 use Rattle.memchr.specs.Find.{IsFirstByte, Nowhere, Passes}
-use Rattle.pp_tokens.specs.Pieces.{is_kept}
+use Rattle.pp_tokens.specs.parts.Pieces.{is_kept}
 use Rattle.pp_tokens.proofs.source.long_run.Goals as goal
 
 -- the bytes before the first special one are kept

@@ -4,8 +4,8 @@ use Rattle.std.proofs.lemmas.Bool.{eqb-true}
 use Rattle.pp_tokens.specs.declared.source.Piece.{Piece}
 use Rattle.pp_tokens.specs.declared.source.Piece.TheVariants.{Byte, Splice}
 use Rattle.pp_tokens.specs.Lined.{Rising}
-use Rattle.pp_tokens.specs.Seen.{Ascends}
-use Rattle.pp_tokens.specs.Pieces.{IsFront}
+use Rattle.pp_tokens.specs.parts.Seen.{Ascends}
+use Rattle.pp_tokens.specs.parts.Pieces.{IsFront}
 use Rattle.pp_tokens.proofs.LinedText.{rising}
 use Rattle.pp_tokens.proofs.Places.{ascends_more, ascends_line}
 use Rattle.pp_tokens.proofs.SourceSteps.{SourceState, line_now, source_start, source_run_at, source_byte, source_splice, source_done, empty_source, rest_behind, rest_end}

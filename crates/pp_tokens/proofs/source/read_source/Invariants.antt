@@ -1,5 +1,5 @@
 use Rattle.std.proofs.Common.{◌≤◌, ◌+◌, ◌-◌, ◌++◌, ◌∷◌, [], length, drop}
-use Rattle.pp_tokens.specs.Seen.{Ascends}
+use Rattle.pp_tokens.specs.parts.Seen.{Ascends}
 use Rattle.pp_tokens.proofs.SourceSteps.{SourceState}
 use Rattle.pp_tokens.proofs.source.read_source.Given as goal
 

@@ -1,6 +1,6 @@
 use Rattle.std.proofs.Common.{◌≡◌, ◌≤◌, ◌++◌, ◌∷◌, [], List, ℕ, length, drop, subst, sym, ap, ◌∙◌, arith}
 use Rattle.std.proofs.lemmas.List.{drop-append-le}
-use Rattle.pp_tokens.specs.Pieces.{IsRun}
+use Rattle.pp_tokens.specs.parts.Pieces.{IsRun}
 use Rattle.pp_tokens.proofs.Runs.{run_kept, run_behind}
 use Rattle.pp_tokens.proofs.source.run_length.Goals as goal
 

@@ -1,6 +1,6 @@
 use Rattle.std.proofs.Common.{◌≤◌, ◌++◌, ◌∷◌, [], List, ℕ, length, subst, sym, arith}
 use Rattle.std.proofs.lemmas.List.{drop-append-le}
-use Rattle.pp_tokens.specs.Pieces.{IsRun}
+use Rattle.pp_tokens.specs.parts.Pieces.{IsRun}
 use Rattle.pp_tokens.proofs.Runs.{run_none, run_behind}
 use Rattle.pp_tokens.proofs.source.short_run.Goals as goal
 

@@ -1,5 +1,5 @@
 use Rattle.std.proofs.Common.{◌++◌, ◌∷◌, []}
-use Rattle.pp_tokens.specs.Pieces.{IsRun}
+use Rattle.pp_tokens.specs.parts.Pieces.{IsRun}
 use Rattle.pp_tokens.proofs.source.short_run.Given as goal
 
 abbrev pub invariant-loop-at : goal.invariant-loop-at

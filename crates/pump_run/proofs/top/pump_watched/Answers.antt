@@ -1,8 +1,8 @@
 use Rattle.std.proofs.Common.{ℕ, List, map, Bor, ◌∙◌, ap, refl}
 use Rattle.job_ends.specs.Outside.{seen_end}
-use Rattle.run_words.specs.Flagged.{settings_by_asked}
+use Rattle.run_words.specs.parts.Flagged.{settings_by_asked}
 use Rattle.compile_list.specs.declared.refused.ListError.{ListError}
-use Rattle.pump_run.specs.Steps.{refusal_text_of}
+use Rattle.pump_run.specs.parts.Steps.{refusal_text_of}
 use Rattle.pump_run.specs.Run.{outside, given}
 use Rattle.pump_run.proofs.Counted.{nothing-asked, asked-seen, few-seen}
 use Rattle.pump_run.proofs.FirstEnds.{written-back}

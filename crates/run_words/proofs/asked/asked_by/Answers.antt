@@ -1,6 +1,6 @@
 use Rattle.std.proofs.Common.{refl, ap}
 use Rattle.std.specs.Option.{option_map}
-use Rattle.run_words.specs.Flagged.{given_by}
+use Rattle.run_words.specs.parts.Flagged.{given_by}
 use Rattle.run_words.proofs.AllWords.{missing, asked}
 use Rattle.run_words.proofs.asked.asked_by.Goals as goal
 

@@ -1,7 +1,7 @@
 use Rattle.std.proofs.Common.{None, Some, refl, sym, ap, ◌∙◌}
 use Rattle.std.specs.Option.{option_map}
 use Rattle.std.proofs.lemmas.Bool.{not-false, not-true}
-use Rattle.run_words.specs.Flagged.{given_by}
+use Rattle.run_words.specs.parts.Flagged.{given_by}
 use Rattle.run_words.proofs.AllWords.{few-words, other-command, behind-command}
 use Rattle.run_words.proofs.asked.asked_in.Goals as goal
 

@@ -1,6 +1,6 @@
 use Rattle.std.proofs.Common.{sym, ap, ◌∙◌}
 use Rattle.std.specs.Option.{option_map}
-use Rattle.run_words.specs.Flagged.{given_by}
+use Rattle.run_words.specs.parts.Flagged.{given_by}
 use Rattle.run_words.proofs.Pairs.{more-flags, no-flags}
 use Rattle.run_words.proofs.flags.flags_in.Goals as goal
 

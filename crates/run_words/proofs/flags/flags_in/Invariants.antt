@@ -1,6 +1,6 @@
 use Rattle.std.proofs.Common.{◌≡◌, map, length, Some}
 use Rattle.run_words.specs.Asked.{with_flags, nothing_given}
-use Rattle.run_words.specs.Flagged.{given_by, Fits}
+use Rattle.run_words.specs.parts.Flagged.{given_by, Fits}
 use Rattle.run_words.proofs.flags.flags_in.Given as goal
 
 -- what is left gives, behind what is given so far, what all words give

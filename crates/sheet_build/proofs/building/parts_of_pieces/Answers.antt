@@ -4,7 +4,7 @@ use Rattle.directive_scan.specs.declared.Piece.{Piece}
 use Rattle.directive_scan.specs.Spots.{piece_seen}
 use Rattle.search_path.specs.Search.{search}
 use Rattle.sheet_build.specs.Sheet.{sheet_from}
-use Rattle.sheet_build.specs.Stored.{sheet_of_parts}
+use Rattle.sheet_build.specs.parts.Stored.{sheet_of_parts}
 use Rattle.sheet_build.proofs.Adding.{pieces-next}
 use Rattle.sheet_build.proofs.building.parts_of_pieces.Goals as goal
 

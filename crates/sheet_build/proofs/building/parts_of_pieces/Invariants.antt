@@ -2,7 +2,7 @@ use Rattle.std.proofs.Common.{◌≡◌, ◌≤◌, take}
 use Rattle.std.specs.Option.{ForSome}
 use Rattle.search_path.specs.Search.{search}
 use Rattle.sheet_build.specs.Sheet.{sheet_from}
-use Rattle.sheet_build.specs.Stored.{sheet_of_parts}
+use Rattle.sheet_build.specs.parts.Stored.{sheet_of_parts}
 use Rattle.sheet_build.proofs.building.parts_of_pieces.Given as goal
 
 abbrev pub invariant-loop-number : goal.invariant-loop-number

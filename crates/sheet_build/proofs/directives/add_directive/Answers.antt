@@ -2,7 +2,7 @@ use Rattle.std.proofs.Common.{sym, ap, ◌∙◌}
 use Rattle.std.proofs.lemmas.Result.{on_ok_weaker}
 use Rattle.directive_scan.specs.declared.Directive.TheVariants.{If, Elif, Include, Next}
 use Rattle.search_path.specs.Search.{search}
-use Rattle.sheet_build.specs.Stored.{sheet_of_parts}
+use Rattle.sheet_build.specs.parts.Stored.{sheet_of_parts}
 use Rattle.sheet_build.proofs.Adding.{on-line, include-adds, next-adds, if-adds, elif-adds}
 use Rattle.sheet_build.proofs.directives.add_directive.Goals as goal
 

@@ -6,7 +6,7 @@ use Rattle.directive_scan.specs.declared.Piece.TheVariants.{Line}
 use Rattle.directive_scan.specs.Spots.{piece_seen}
 use Rattle.search_path.specs.Search.{search}
 use Rattle.sheet_build.specs.Sheet.{sheet_from}
-use Rattle.sheet_build.specs.Stored.{sheet_of_parts, joined}
+use Rattle.sheet_build.specs.parts.Stored.{sheet_of_parts, joined}
 use Rattle.sheet_build.proofs.directives.add_piece.Goals as goal
 
 pub returns-in_ok-what-in-Line-clause-adds : goal.returns-in_ok-what-in-Line-clause-adds

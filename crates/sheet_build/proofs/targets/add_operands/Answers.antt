@@ -1,7 +1,7 @@
 use Rattle.std.proofs.Common.{◌≡◌, [], sym, ◌∙◌, arith}
 use Rattle.std.proofs.lemmas.List.{nil_from_length}
 use Rattle.search_path.specs.Search.{search}
-use Rattle.sheet_build.specs.Stored.{sheet_of_parts}
+use Rattle.sheet_build.specs.parts.Stored.{sheet_of_parts}
 use Rattle.sheet_build.proofs.Adding.{operands-next, operands-all}
 use Rattle.sheet_build.proofs.targets.add_operands.Goals as goal
 

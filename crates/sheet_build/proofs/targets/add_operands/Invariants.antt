@@ -2,7 +2,7 @@ use Rattle.std.proofs.Common.{◌≡◌, ◌≤◌, map, false, true}
 use Rattle.std.specs.Option.{ForSome}
 use Rattle.search_path.specs.Search.{search}
 use Rattle.sheet_build.specs.Sheet.{asking}
-use Rattle.sheet_build.specs.Stored.{sheet_of_parts, with_probes}
+use Rattle.sheet_build.specs.parts.Stored.{sheet_of_parts, with_probes}
 use Rattle.sheet_build.proofs.targets.add_operands.Given as goal
 
 abbrev pub invariant-loop-target : goal.invariant-loop-target

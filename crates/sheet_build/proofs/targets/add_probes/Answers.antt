@@ -1,6 +1,6 @@
 use Rattle.std.proofs.Common.{sym}
 use Rattle.search_path.specs.Search.{search}
-use Rattle.sheet_build.specs.Stored.{sheet_of_parts}
+use Rattle.sheet_build.specs.parts.Stored.{sheet_of_parts}
 use Rattle.sheet_build.proofs.Adding.{probeless-adds}
 use Rattle.sheet_build.proofs.targets.add_probes.Goals as goal
 

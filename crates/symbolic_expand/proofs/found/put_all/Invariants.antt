@@ -1,5 +1,5 @@
 use Rattle.std.proofs.Common.{◌≡◌, ◌++◌, map, length}
-use Rattle.symbolic_expand.specs.Search.{header_at}
+use Rattle.symbolic_expand.specs.parts.Search.{header_at}
 use Rattle.symbolic_expand.proofs.found.put_all.Given as goal
 
 abbrev pub invariant-loop-text : goal.invariant-loop-text

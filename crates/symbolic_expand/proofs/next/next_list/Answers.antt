@@ -1,6 +1,6 @@
 use Rattle.std.proofs.Common.{arith, ap, ◌∙◌, sym, refl, Some}
 use Rattle.std.proofs.lemmas.List.{nil_from_length}
-use Rattle.symbolic_expand.specs.Enumeration.{next_numbers}
+use Rattle.symbolic_expand.specs.parts.Enumeration.{next_numbers}
 use Rattle.symbolic_expand.proofs.NextLaws.{next_is, next_keeps}
 use Rattle.symbolic_expand.proofs.next.next_list.Goals as goal
 

@@ -1,5 +1,5 @@
 use Rattle.std.proofs.Common.{◌≡◌, vec_len}
-use Rattle.symbolic_expand.specs.Enumeration.{next_numbers}
+use Rattle.symbolic_expand.specs.parts.Enumeration.{next_numbers}
 use Rattle.symbolic_expand.proofs.next.next_list.Given as goal
 
 -- what was taken off the end can't rise

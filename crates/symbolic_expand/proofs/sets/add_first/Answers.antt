@@ -1,6 +1,6 @@
 use Rattle.std.proofs.Common.{ap, sym, ◌∙◌, ◌≡◌, subst, None, ◌++◌, ◌∷◌, []}
 use Rattle.std.specs.Map as map
-use Rattle.symbolic_expand.specs.Stored.{seen, with_more}
+use Rattle.symbolic_expand.specs.parts.Stored.{seen, with_more}
 use Rattle.symbolic_expand.proofs.DefinedLaws.{seen_first, is_key}
 use Rattle.symbolic_expand.proofs.sets.add_first.Goals as goal
 

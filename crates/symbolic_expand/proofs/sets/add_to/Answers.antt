@@ -1,5 +1,5 @@
 use Rattle.std.proofs.Common.{ap, ◌∙◌}
-use Rattle.symbolic_expand.specs.Stored.{seen}
+use Rattle.symbolic_expand.specs.parts.Stored.{seen}
 use Rattle.symbolic_expand.proofs.DefinedLaws.{seen_more, seen_same}
 use Rattle.symbolic_expand.proofs.sets.add_to.Goals as goal
 

@@ -1,4 +1,4 @@
-use Rattle.tree_model.specs.Remembered.{known_in}
+use Rattle.tree_model.specs.parts.Remembered.{known_in}
 use Rattle.tree_model.proofs.RememberedLemmas.{others_stay, one_more, still_true}
 use Rattle.tree_model.proofs.cached.remember.Goals as goal
 

@@ -1,6 +1,6 @@
 use Rattle.std.proofs.Common.{◌∙◌, ap, sym, List, ℕ, Bor, Option}
 use Rattle.std.specs.Option.{option_map}
-use Rattle.tree_model.specs.Steps.{onward, components_left}
+use Rattle.tree_model.specs.parts.Steps.{onward, components_left}
 use Rattle.tree_model.specs.declared.walk.Step.TheVariants as step
 use Rattle.tree_model.proofs.StepLemmas.{file_left}
 use Rattle.tree_model.proofs.walk.file_step.Goals as goal

@@ -1,7 +1,7 @@
 use Rattle.std.proofs.Common.{◌∙◌, ◌++◌, ap, sym}
 use Rattle.std.specs.Option.{option_map}
 use Rattle.tree_model.specs.Walk.{components}
-use Rattle.tree_model.specs.Steps.{components_left}
+use Rattle.tree_model.specs.parts.Steps.{components_left}
 use Rattle.tree_model.proofs.CutLemmas.{joined_as}
 use Rattle.tree_model.proofs.walk.in_place.Goals as goal
 

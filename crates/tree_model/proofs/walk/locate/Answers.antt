@@ -4,7 +4,7 @@ use Rattle.std.proofs.lemmas.Bool.{eqb-true, eqb-false}
 use Rattle.std.proofs.lemmas.Result.{IfOk-weaker}
 use Rattle.tree_model.specs.Trees.{entry_at}
 use Rattle.tree_model.specs.Walk.{components, last_of, first_nodes, walk, start, ended}
-use Rattle.tree_model.specs.Steps.{GoesOn, components_left, end_of}
+use Rattle.tree_model.specs.parts.Steps.{GoesOn, components_left, end_of}
 use Rattle.tree_model.proofs.StepLemmas.{if_each, refused, from_dir, from_elsewhere, begun}
 use Rattle.tree_model.proofs.walk.locate.Goals as goal
 use Rattle.tree_model.proofs.walk.locate.Goals.{then-text-gt-TEXT_LIMIT-via-then-text-gt-TEXT_LIMIT, then-text-gt-TEXT_LIMIT-via-else-text-gt-TEXT_LIMIT+then-is_empty}

@@ -1,7 +1,7 @@
 use Rattle.std.proofs.Common.{◌∙◌, ap, List, ℕ, Bor, Option}
 use Rattle.std.specs.Option.{option_map}
 use Rattle.tree_model.specs.Trees.{entry_at}
-use Rattle.tree_model.specs.Steps.{components_left}
+use Rattle.tree_model.specs.parts.Steps.{components_left}
 use Rattle.tree_model.proofs.StepLemmas.{at_file, step_on}
 use Rattle.tree_model.proofs.walk.until_link.Goals as goal
 

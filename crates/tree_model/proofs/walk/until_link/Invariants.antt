@@ -2,7 +2,7 @@ use Rattle.std.proofs.Common.{◌≡◌, ◌≤◌, ℕ, Some, length}
 use Rattle.std.specs.Option.{option_map}
 use Rattle.tree_model.specs.Trees.{FileTree, entry_at}
 use Rattle.tree_model.specs.Walk.{walk}
-use Rattle.tree_model.specs.Steps.{GoesOn, components_left}
+use Rattle.tree_model.specs.parts.Steps.{GoesOn, components_left}
 use Rattle.tree_model.proofs.walk.until_link.Given as goal
 
 abbrev pub invariant-loop-rest : goal.invariant-loop-rest

@@ -2,7 +2,7 @@ use Rattle.std.proofs.Common.{◌∙◌, sym, ap, subst}
 use Rattle.closure_fixpoint.specs.declared.wanting.Want.TheVariants as want
 use Rattle.closure_fixpoint.specs.Targets.{IsNextWant}
 use Rattle.closure_fixpoint.specs.Told.{Progress}
-use Rattle.closure_fixpoint.specs.Seen.{pending_of, ended_of}
+use Rattle.closure_fixpoint.specs.parts.Seen.{pending_of, ended_of}
 use Rattle.closure_fixpoint.proofs.GrownLaws.{more_to_ask}
 use Rattle.closure_fixpoint.proofs.StandsLaws.{by_found}
 use Rattle.closure_fixpoint.proofs.fixpoint.Fixpoint.add.Goals as goal

@@ -3,7 +3,7 @@ use Rattle.closure_fixpoint.specs.declared.fixpoint.End.{End}
 use Rattle.closure_fixpoint.specs.declared.fixpoint.Next.TheVariants as next
 use Rattle.closure_fixpoint.specs.Progress.{IsEnough, IsAccepted}
 use Rattle.closure_fixpoint.specs.Told.{Progress, RefusalMeans}
-use Rattle.closure_fixpoint.specs.Seen.{end_of}
+use Rattle.closure_fixpoint.specs.parts.Seen.{end_of}
 use Rattle.closure_fixpoint.proofs.fixpoint.Fixpoint.again.Goals as goal
 
 pub refuse-requires-clause-means : goal.refuse-requires-clause-means

@@ -4,7 +4,7 @@ use Rattle.closure_fixpoint.specs.declared.wanting.Want.TheVariants as want
 use Rattle.closure_fixpoint.specs.Progress.{IsNewSearch}
 use Rattle.closure_fixpoint.specs.Targets.{IsNextWant}
 use Rattle.closure_fixpoint.specs.Told.{Progress, OfSearch}
-use Rattle.closure_fixpoint.specs.Seen.{pending_of, ended_of}
+use Rattle.closure_fixpoint.specs.parts.Seen.{pending_of, ended_of}
 use Rattle.closure_fixpoint.proofs.StandsLaws.{by_asking_search, new_search}
 use Rattle.closure_fixpoint.proofs.fixpoint.Fixpoint.ask_search.Goals as goal
 

@@ -2,9 +2,9 @@ use Rattle.std.proofs.Common.{◌≡◌, ◌∙◌, ℕ, sym, ap, subst, length,
 use Rattle.std.specs.List.{slice_get}
 use Rattle.search_path.specs.declared.asking.Visit.{Visit}
 use Rattle.closure_fixpoint.specs.declared.fixpoint.Next.TheVariants as next
-use Rattle.closure_fixpoint.specs.Plan.{AsksNext}
+use Rattle.closure_fixpoint.specs.parts.Plan.{AsksNext}
 use Rattle.closure_fixpoint.specs.Told.{Progress, OfSheet}
-use Rattle.closure_fixpoint.specs.Seen.{pending_of, ended_of}
+use Rattle.closure_fixpoint.specs.parts.Seen.{pending_of, ended_of}
 use Rattle.closure_fixpoint.proofs.StandsLaws.{by_asking_sheet, new_sheet}
 use Rattle.closure_fixpoint.proofs.fixpoint.Fixpoint.ask_sheet.Goals as goal
 

@@ -2,10 +2,10 @@ use Rattle.std.proofs.Common.{◌∙◌, sym, ap, subst, List, Some}
 use Rattle.search_path.specs.declared.asking.Visit.{Visit}
 use Rattle.sheet_build.specs.Sheet.{SheetData}
 use Rattle.closure_fixpoint.specs.Progress.{IsEnough, IsAccepted}
-use Rattle.closure_fixpoint.specs.Plan.{IsWhole}
+use Rattle.closure_fixpoint.specs.parts.Plan.{IsWhole}
 use Rattle.closure_fixpoint.specs.Targets.{heard_of}
 use Rattle.closure_fixpoint.specs.Told.{Progress, NothingAsked, Finished, IsDone}
-use Rattle.closure_fixpoint.specs.Seen.{pending_of, ended_of}
+use Rattle.closure_fixpoint.specs.parts.Seen.{pending_of, ended_of}
 use Rattle.closure_fixpoint.proofs.StandsLaws.{done_by}
 use Rattle.closure_fixpoint.proofs.fixpoint.Fixpoint.finish.Goals as goal
 

@@ -1,7 +1,7 @@
 use Rattle.std.proofs.Common.{◌∙◌, sym, subst}
 use Rattle.closure_fixpoint.specs.Progress.{LargeMeans}
 use Rattle.closure_fixpoint.specs.Told.{Progress}
-use Rattle.closure_fixpoint.specs.Seen.{pending_of, ended_of}
+use Rattle.closure_fixpoint.specs.parts.Seen.{pending_of, ended_of}
 use Rattle.closure_fixpoint.proofs.StandsLaws.{large_refused}
 use Rattle.closure_fixpoint.proofs.fixpoint.Fixpoint.next.Goals as goal
 

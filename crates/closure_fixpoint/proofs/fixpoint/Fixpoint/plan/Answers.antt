@@ -2,10 +2,10 @@ use Rattle.std.proofs.Common.{◌≡◌, ◌∙◌, sym, ap, subst, List, None}
 use Rattle.search_path.specs.declared.asking.Visit.{Visit}
 use Rattle.sheet_build.specs.Sheet.{SheetData}
 use Rattle.closure_fixpoint.specs.Progress.{Heard}
-use Rattle.closure_fixpoint.specs.Plan.{IsReady, PlanMeans}
+use Rattle.closure_fixpoint.specs.parts.Plan.{IsReady, PlanMeans}
 use Rattle.closure_fixpoint.specs.Targets.{heard_of}
 use Rattle.closure_fixpoint.specs.Told.{Progress}
-use Rattle.closure_fixpoint.specs.Seen.{pending_of, ended_of}
+use Rattle.closure_fixpoint.specs.parts.Seen.{pending_of, ended_of}
 use Rattle.closure_fixpoint.proofs.StandsLaws.{heard_is, is_ready}
 use Rattle.closure_fixpoint.proofs.fixpoint.Fixpoint.plan.Goals as goal
 

@@ -3,7 +3,7 @@ use Rattle.closure_fixpoint.specs.declared.fixpoint.Wait.{Wait}
 use Rattle.closure_fixpoint.specs.declared.fixpoint.Wait.TheVariants as wait
 use Rattle.closure_fixpoint.specs.Progress.{Heard}
 use Rattle.closure_fixpoint.specs.Told.{Progress, StandsBy}
-use Rattle.closure_fixpoint.specs.Seen.{pending_of, ended_of}
+use Rattle.closure_fixpoint.specs.parts.Seen.{pending_of, ended_of}
 use Rattle.closure_fixpoint.proofs.StandsLaws.{by_large}
 use Rattle.closure_fixpoint.proofs.fixpoint.Fixpoint.put_large.Goals as goal
 

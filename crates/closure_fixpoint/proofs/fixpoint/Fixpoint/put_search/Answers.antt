@@ -5,7 +5,7 @@ use Rattle.closure_fixpoint.specs.declared.fixpoint.Wait.{Wait}
 use Rattle.closure_fixpoint.specs.declared.fixpoint.Wait.TheVariants as wait
 use Rattle.closure_fixpoint.specs.Progress.{Heard, with_search}
 use Rattle.closure_fixpoint.specs.Told.{Progress, OfSearch, IsRight, StandsBy}
-use Rattle.closure_fixpoint.specs.Seen.{pending_of, ended_of}
+use Rattle.closure_fixpoint.specs.parts.Seen.{pending_of, ended_of}
 use Rattle.closure_fixpoint.proofs.StandsLaws.{by_search, by_unanswered}
 use Rattle.closure_fixpoint.proofs.fixpoint.Fixpoint.put_search.Goals as goal
 

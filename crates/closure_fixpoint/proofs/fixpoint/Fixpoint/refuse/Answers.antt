@@ -2,7 +2,7 @@ use Rattle.std.proofs.Common.{◌≡◌, sym, subst, Some}
 use Rattle.search_path.specs.declared.asking.Visit.{Visit}
 use Rattle.closure_fixpoint.specs.declared.job_analysis.Refusal.TheVariants.{Large}
 use Rattle.closure_fixpoint.specs.Told.{Progress, RefusalMeans}
-use Rattle.closure_fixpoint.specs.Seen.{pending_of, ended_of}
+use Rattle.closure_fixpoint.specs.parts.Seen.{pending_of, ended_of}
 use Rattle.closure_fixpoint.proofs.StandsLaws.{by_refused}
 use Rattle.closure_fixpoint.proofs.fixpoint.Fixpoint.refuse.Goals as goal
 

@@ -1,7 +1,7 @@
 use Rattle.std.proofs.Common.{◌++◌, ◌∷◌, [], sym, subst, ◌∙◌}
 use Rattle.indexmap.proofs.CallerLemmas.{insert_entry-new}
 use Rattle.closure_fixpoint.specs.Asked.{HasNoAnswer}
-use Rattle.closure_fixpoint.specs.AskKeys.{is_same_ask}
+use Rattle.closure_fixpoint.specs.parts.AskKeys.{is_same_ask}
 use Rattle.closure_fixpoint.proofs.AskLookups.{untold_lookup}
 use Rattle.closure_fixpoint.proofs.searches.Searches.tell.Goals as goal
 

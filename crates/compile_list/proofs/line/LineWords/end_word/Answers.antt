@@ -1,7 +1,7 @@
 use Rattle.std.proofs.Common.{List, [], ◌++◌, take, sym, ap, ◌∙◌, append-nil}
 use Rattle.tree_model.specs.Paths.{Text}
 use Rattle.compile_list.specs.Listed.{unit_words}
-use Rattle.compile_list.specs.Steps.{word_in}
+use Rattle.compile_list.specs.parts.Steps.{word_in}
 use Rattle.compile_list.proofs.LineWords.{of_word, words-at, words-last, all-kept}
 use Rattle.compile_list.proofs.line.LineWords.end_word.Goals as goal
 

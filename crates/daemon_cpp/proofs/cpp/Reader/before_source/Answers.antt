@@ -4,7 +4,7 @@ use Rattle.cpp_output.specs.Laid.{Laid}
 use Rattle.macro_defs.specs.Table.{lookup}
 use Rattle.std.specs.List.{list_any}
 use Rattle.tree_model.specs.Paths.{is_same_path}
-use Rattle.daemon_cpp.specs.Files.{here_of}
+use Rattle.daemon_cpp.specs.parts.Files.{here_of}
 use Rattle.daemon_cpp.proofs.Jobs.{begins-told}
 use Rattle.daemon_cpp.proofs.cpp.Reader.before_source.Goals as goal
 

@@ -1,7 +1,7 @@
 use Rattle.std.proofs.Common.{refl}
 use Rattle.daemon_cpp.specs.declared.cpp.Reader.{Reader}
 use Rattle.daemon_cpp.specs.Prep.{back_in}
-use Rattle.daemon_cpp.specs.Files.{here_of, LeadsTo, StepsTo}
+use Rattle.daemon_cpp.specs.parts.Files.{here_of, LeadsTo, StepsTo}
 use Rattle.daemon_cpp.proofs.Readers.{came-back, turns-brings, brings-before}
 use Rattle.daemon_cpp.proofs.cpp.Reader.come_back.Goals as goal
 

@@ -4,7 +4,7 @@ use Rattle.daemon_cpp.specs.declared.stop.Stop.{Stop}
 use Rattle.daemon_cpp.specs.declared.cpp.Reader.{Reader}
 use Rattle.daemon_cpp.specs.declared.cpp.OpenFile.{OpenFile}
 use Rattle.daemon_cpp.specs.Prep.{world_of}
-use Rattle.daemon_cpp.specs.Files.{LeadsTo, EntersTo, Brings, GoesInto, InsideTo}
+use Rattle.daemon_cpp.specs.parts.Files.{LeadsTo, EntersTo, Brings, GoesInto, InsideTo}
 use Rattle.daemon_cpp.proofs.Readers.{too-deep, opens-brings, brings-stop}
 use Rattle.daemon_cpp.proofs.cpp.Reader.enter.Goals as goal
 

@@ -4,7 +4,7 @@ use Rattle.daemon_cpp.specs.declared.stop.Stop.{Stop}
 use Rattle.daemon_cpp.specs.declared.cpp.Reader.{Reader}
 use Rattle.daemon_cpp.specs.declared.cpp.OpenFile.{OpenFile}
 use Rattle.daemon_cpp.specs.Prep.{Go, world_of}
-use Rattle.daemon_cpp.specs.Files.{LeadsTo, ComesTo, Brings, opened_file, source_behind}
+use Rattle.daemon_cpp.specs.parts.Files.{LeadsTo, ComesTo, Brings, opened_file, source_behind}
 use Rattle.daemon_cpp.proofs.Readers.{source-brings, brings-stop}
 use Rattle.daemon_cpp.proofs.cpp.Reader.enter_source.Goals as goal
 

@@ -3,9 +3,9 @@ use Rattle.macro_expand.specs.declared.answers.Presumed.{Presumed}
 use Rattle.daemon_cpp.specs.declared.stop.Stop.{Stop}
 use Rattle.daemon_cpp.specs.declared.cpp.Reader.{Reader}
 use Rattle.daemon_cpp.specs.Prep.{world_of}
-use Rattle.daemon_cpp.specs.Reading.{run_flat, reading}
-use Rattle.daemon_cpp.specs.Showing.{Seeks}
-use Rattle.daemon_cpp.specs.Files.{rest_of, LeadsTo, Brings}
+use Rattle.daemon_cpp.specs.parts.Reading.{run_flat, reading}
+use Rattle.daemon_cpp.specs.parts.Showing.{Seeks}
+use Rattle.daemon_cpp.specs.parts.Files.{rest_of, LeadsTo, Brings}
 use Rattle.daemon_cpp.proofs.Readers.{seeks-brings, brings-stop}
 use Rattle.daemon_cpp.proofs.cpp.Reader.open_section.Goals as goal
 

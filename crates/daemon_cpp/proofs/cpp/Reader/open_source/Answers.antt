@@ -3,7 +3,7 @@ use Rattle.search_path.specs.Search.{Hit}
 use Rattle.search_path.specs.SetupOf.{SetupData}
 use Rattle.daemon_cpp.specs.declared.stop.Stop.{Stop}
 use Rattle.daemon_cpp.specs.Prep.{World, Go, world_of}
-use Rattle.daemon_cpp.specs.Files.{LeadsTo, ComesTo, Brings, source_behind}
+use Rattle.daemon_cpp.specs.parts.Files.{LeadsTo, ComesTo, Brings, source_behind}
 use Rattle.daemon_cpp.proofs.Readers.{brings-then, brings-stop}
 use Rattle.daemon_cpp.proofs.cpp.Reader.open_source.Goals as goal
 

@@ -2,7 +2,7 @@ use Rattle.std.proofs.Common.{◌≡◌, ◌≤◌, Some}
 use Rattle.tree_model.specs.Trees.{FileTree}
 use Rattle.daemon_cpp.specs.declared.cpp.Told.{Told}
 use Rattle.daemon_cpp.specs.Prep.{world_of}
-use Rattle.daemon_cpp.specs.Files.{After, LeadsTo, work_ahead}
+use Rattle.daemon_cpp.specs.parts.Files.{After, LeadsTo, work_ahead}
 use Rattle.daemon_cpp.proofs.cpp.Reader.read.Given as goal
 
 abbrev pub invariant-files : goal.invariant-files

@@ -3,7 +3,7 @@ use Rattle.search_path.specs.Search.{Hit}
 use Rattle.search_path.specs.SetupOf.{SetupData}
 use Rattle.daemon_cpp.specs.declared.stop.Stop.{Stop}
 use Rattle.daemon_cpp.specs.Prep.{World, Go, world_of}
-use Rattle.daemon_cpp.specs.Files.{After, LeadsTo, ComesTo, Brings, source_behind}
+use Rattle.daemon_cpp.specs.parts.Files.{After, LeadsTo, ComesTo, Brings, source_behind}
 use Rattle.daemon_cpp.proofs.Readers.{brings-then, brings-stop}
 use Rattle.daemon_cpp.proofs.cpp.Reader.read_all.Goals as goal
 

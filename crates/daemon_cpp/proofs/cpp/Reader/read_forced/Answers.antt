@@ -3,7 +3,7 @@ use Rattle.tree_model.specs.Paths.{Text}
 use Rattle.search_path.specs.SetupOf.{SetupData}
 use Rattle.daemon_cpp.specs.declared.stop.Stop.{Stop}
 use Rattle.daemon_cpp.specs.Prep.{world_of}
-use Rattle.daemon_cpp.specs.Files.{ComesTo, Brings, source_behind}
+use Rattle.daemon_cpp.specs.parts.Files.{ComesTo, Brings, source_behind}
 use Rattle.daemon_cpp.proofs.Readers.{next-name, brings-before, brings-stop}
 use Rattle.daemon_cpp.proofs.cpp.Reader.read_forced.Goals as goal
 

@@ -3,7 +3,7 @@ use Rattle.tree_model.specs.Trees.{FileTree}
 use Rattle.search_path.specs.Search.{Hit}
 use Rattle.daemon_cpp.specs.declared.cpp.Told.{Told}
 use Rattle.daemon_cpp.specs.Prep.{world_of}
-use Rattle.daemon_cpp.specs.Files.{AllRead, ComesTo, source_behind}
+use Rattle.daemon_cpp.specs.parts.Files.{AllRead, ComesTo, source_behind}
 use Rattle.daemon_cpp.proofs.cpp.Reader.read_forced.Given as goal
 
 abbrev pub invariant-loop-name : goal.invariant-loop-name

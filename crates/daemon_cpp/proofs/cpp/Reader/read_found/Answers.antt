@@ -1,7 +1,7 @@
 use Rattle.std.proofs.Common.{Result, ◌∙◌, subst}
 use Rattle.daemon_cpp.specs.declared.stop.Stop.{Stop}
 use Rattle.daemon_cpp.specs.Prep.{world_of}
-use Rattle.daemon_cpp.specs.Files.{LeadsTo, EntersTo, ComesTo, Brings}
+use Rattle.daemon_cpp.specs.parts.Files.{LeadsTo, EntersTo, ComesTo, Brings}
 use Rattle.daemon_cpp.proofs.Readers.{brings-then, brings-stop}
 use Rattle.daemon_cpp.proofs.cpp.Reader.read_found.Goals as goal
 

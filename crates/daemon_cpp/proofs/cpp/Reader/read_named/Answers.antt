@@ -4,8 +4,8 @@ use Rattle.search_path.specs.Search.{Hit}
 use Rattle.daemon_cpp.specs.declared.stop.Stop.{Stop}
 use Rattle.daemon_cpp.specs.declared.cpp.Reader.{Reader}
 use Rattle.daemon_cpp.specs.Prep.{world_of}
-use Rattle.daemon_cpp.specs.Showing.{Includes}
-use Rattle.daemon_cpp.specs.Files.{ComesTo, Brings, NamedTo, source_behind}
+use Rattle.daemon_cpp.specs.parts.Showing.{Includes}
+use Rattle.daemon_cpp.specs.parts.Files.{ComesTo, Brings, NamedTo, source_behind}
 use Rattle.daemon_cpp.proofs.Readers.{named_step, named-brings, brings-then, brings-stop}
 use Rattle.daemon_cpp.proofs.cpp.Reader.read_named.Goals as goal
 

@@ -8,8 +8,8 @@ use Rattle.daemon_cpp.specs.declared.pieces.Move.{Move}
 use Rattle.daemon_cpp.specs.declared.pieces.Move.TheVariants.{Enter, Renumber}
 use Rattle.daemon_cpp.specs.declared.cpp.Reader.{Reader}
 use Rattle.daemon_cpp.specs.Prep.{world_of, line_set, piece_step}
-use Rattle.daemon_cpp.specs.Showing.{Moves}
-use Rattle.daemon_cpp.specs.Files.{here_of, LeadsTo, Brings, behind_piece, Follows}
+use Rattle.daemon_cpp.specs.parts.Showing.{Moves}
+use Rattle.daemon_cpp.specs.parts.Files.{here_of, LeadsTo, Brings, behind_piece, Follows}
 use Rattle.daemon_cpp.proofs.Readers.{piece-brings, turns-brings, brings-then, brings-stop}
 use Rattle.daemon_cpp.proofs.cpp.Reader.read_piece.Goals as goal
 

@@ -1,7 +1,7 @@
 use Rattle.std.proofs.lemmas.Result.{IfOk-weaker}
 use Rattle.std.proofs.Common.{sym, subst}
 use Rattle.hide_sets.specs.declared.set_number.SetNumber.{SetNumber}
-use Rattle.hide_sets.specs.Combining.{operator, Combines}
+use Rattle.hide_sets.specs.parts.Combining.{operator, Combines}
 use Rattle.hide_sets.specs.Interned.{Interned, IsSet, IsCombined, Keeps}
 use Rattle.hide_sets.proofs.PlaceLemmas.{stand-extends}
 use Rattle.hide_sets.proofs.HiddenLemmas.{combined, keeps-nodes}

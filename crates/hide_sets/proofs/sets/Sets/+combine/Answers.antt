@@ -1,4 +1,4 @@
-use Rattle.hide_sets.specs.Combining.{operator}
+use Rattle.hide_sets.specs.parts.Combining.{operator}
 use Rattle.hide_sets.proofs.CombiningLemmas.{combines-made}
 use Rattle.hide_sets.proofs.sets.Sets.+combine.Goals as goal
 

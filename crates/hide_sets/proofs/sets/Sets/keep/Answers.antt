@@ -1,6 +1,6 @@
 use Rattle.std.proofs.Common.{sym, subst}
 use Rattle.hide_sets.specs.declared.operation.Operation.TheVariants.{Union, Intersection}
-use Rattle.hide_sets.specs.Combining.{IsMade}
+use Rattle.hide_sets.specs.parts.Combining.{IsMade}
 use Rattle.hide_sets.proofs.sets.Sets.keep.Goals as goal
 
 pub invariant_of-self : goal.invariant_of-self

@@ -1,7 +1,7 @@
 use Rattle.std.proofs.Common.{◌≡◌, ◌∙◌, arith, refl, sym, subst, IfSome}
 use Rattle.hide_sets.specs.declared.operation.Operation.TheVariants.{Union, Intersection}
 use Rattle.hide_sets.specs.Trie.{empty_set}
-use Rattle.hide_sets.specs.Combining.{IsMade}
+use Rattle.hide_sets.specs.parts.Combining.{IsMade}
 use Rattle.hide_sets.proofs.TrieLemmas.{has-empty}
 use Rattle.hide_sets.proofs.CombiningLemmas.{made-empty, remembered}
 use Rattle.hide_sets.proofs.sets.Sets.known.Goals as goal

@@ -1,7 +1,7 @@
 use Rattle.std.proofs.Common.{sym, ◌∙◌, ap, [], Option}
 use Rattle.job_frames.specs.declared.FrameError.{FrameError}
 use Rattle.job_frames.specs.Outcomes.{ended, after_end}
-use Rattle.job_frames.specs.Readers.{Standing, left}
+use Rattle.job_frames.specs.parts.Readers.{Standing, left}
 use Rattle.job_frames.proofs.ReaderLemmas.{end_done}
 use Rattle.job_frames.proofs.reader.RequestReader.end.Goals as goal
 

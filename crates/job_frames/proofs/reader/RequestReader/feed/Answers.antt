@@ -1,7 +1,7 @@
 use Rattle.std.proofs.Common.{sym, subst, Option, Some}
 use Rattle.job_frames.specs.declared.FrameError.{FrameError}
 use Rattle.job_frames.specs.Outcomes.{IsFed}
-use Rattle.job_frames.specs.Readers.{Standing, left, KeepsReader}
+use Rattle.job_frames.specs.parts.Readers.{Standing, left, KeepsReader}
 use Rattle.job_frames.proofs.ReaderLemmas.{feed_refused, feed_goes}
 use Rattle.job_frames.proofs.reader.RequestReader.feed.Goals as goal
 

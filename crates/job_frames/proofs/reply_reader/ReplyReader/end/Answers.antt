@@ -1,7 +1,7 @@
 use Rattle.std.proofs.Common.{sym, ◌∙◌, ap, subst, [], Option}
 use Rattle.job_frames.specs.declared.FrameError.{FrameError}
 use Rattle.job_frames.specs.Outcomes.{ended, after_end}
-use Rattle.job_frames.specs.ReplyReaders.{ReplyStanding, reply_left, KeepsReply}
+use Rattle.job_frames.specs.parts.ReplyReaders.{ReplyStanding, reply_left, KeepsReply}
 use Rattle.job_frames.proofs.ReplyReaderLemmas.{end_done}
 use Rattle.job_frames.proofs.reply_reader.ReplyReader.end.Goals as goal
 

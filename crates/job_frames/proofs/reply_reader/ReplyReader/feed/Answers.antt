@@ -1,9 +1,9 @@
 use Rattle.std.proofs.Common.{sym, subst, refl, Option, Some}
 use Rattle.job_frames.specs.declared.Fed.TheVariants.{Refused}
-use Rattle.job_frames.specs.ReplyStages.{HasRun}
+use Rattle.job_frames.specs.parts.ReplyStages.{HasRun}
 use Rattle.job_frames.specs.declared.FrameError.{FrameError}
 use Rattle.job_frames.specs.Outcomes.{IsFed}
-use Rattle.job_frames.specs.ReplyReaders.{ReplyStanding, reply_left, KeepsReply}
+use Rattle.job_frames.specs.parts.ReplyReaders.{ReplyStanding, reply_left, KeepsReply}
 use Rattle.job_frames.proofs.ReplyReaderLemmas.{feed_refused, feed_goes}
 use Rattle.job_frames.proofs.reply_reader.ReplyReader.feed.Goals as goal
 

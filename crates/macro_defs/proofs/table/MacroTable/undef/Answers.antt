@@ -1,5 +1,5 @@
 use Rattle.std.proofs.Common.{None, ap, sym, ◌∙◌}
-use Rattle.macro_defs.specs.Stored.{seen}
+use Rattle.macro_defs.specs.parts.Stored.{seen}
 use Rattle.macro_defs.specs.Table.{names_of}
 use Rattle.macro_defs.proofs.TableLemmas.{written_sets, written_names, absent_sets, sets_along}
 use Rattle.macro_defs.proofs.table.MacroTable.undef.Goals as goal

@@ -1,4 +1,4 @@
-use Rattle.macro_expand.specs.Tries.{tree_of}
+use Rattle.macro_expand.specs.parts.Tries.{tree_of}
 use Rattle.macro_expand.proofs.TrieLaws.{hides-is}
 use Rattle.macro_expand.proofs.hide_set.HideSet.hides.Goals as goal
 

@@ -1,5 +1,5 @@
 use Rattle.std.proofs.Common.{◌∙◌, sym}
-use Rattle.macro_expand.specs.Tries.{tree_of}
+use Rattle.macro_expand.specs.parts.Tries.{tree_of}
 use Rattle.macro_expand.proofs.TrieLaws.{is_same-names}
 use Rattle.macro_expand.proofs.hide_set.HideSet.is_same.Goals as goal
 

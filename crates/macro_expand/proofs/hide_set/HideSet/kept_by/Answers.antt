@@ -1,5 +1,5 @@
 use Rattle.std.proofs.Common.{◌∙◌, sym}
-use Rattle.macro_expand.specs.Tries.{tree_of}
+use Rattle.macro_expand.specs.parts.Tries.{tree_of}
 use Rattle.macro_expand.proofs.TrieLaws.{common-ordered, common-names, whole-names, same-names, if_ok-map}
 use Rattle.macro_expand.proofs.hide_set.HideSet.kept_by.Goals as goal
 

@@ -1,5 +1,5 @@
 use Rattle.std.proofs.Common.{◌∙◌}
-use Rattle.macro_expand.specs.Tries.{tree_of}
+use Rattle.macro_expand.specs.parts.Tries.{tree_of}
 use Rattle.macro_expand.proofs.TrieLaws.{with-ordered, with-names}
 use Rattle.macro_expand.proofs.hide_set.HideSet.with.Goals as goal
 

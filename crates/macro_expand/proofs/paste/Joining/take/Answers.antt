@@ -1,5 +1,5 @@
 use Rattle.std.proofs.Common.{ap, ◌∙◌, ◌∷◌}
-use Rattle.macro_expand.specs.Pasting.{joined_from}
+use Rattle.macro_expand.specs.parts.Pasting.{joined_from}
 use Rattle.macro_expand.specs.Seen.{piece_of}
 use Rattle.macro_expand.proofs.PasteLaws.{turn_joining}
 use Rattle.macro_expand.proofs.paste.Joining.take.Goals as goal

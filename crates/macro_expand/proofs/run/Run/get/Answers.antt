@@ -1,5 +1,5 @@
 use Rattle.std.proofs.Common.{sym, ◌∙◌, arith}
-use Rattle.macro_expand.specs.Pending.{run_tokens}
+use Rattle.macro_expand.specs.parts.Pending.{run_tokens}
 use Rattle.macro_expand.proofs.PendingLemmas.{dropped_first, dropped_none, read_behind}
 use Rattle.macro_expand.proofs.run.Run.get.Goals as goal
 

@@ -1,5 +1,5 @@
 use Rattle.std.proofs.Common.{◌≡◌, drop}
-use Rattle.macro_expand.specs.Pending.{run_tokens}
+use Rattle.macro_expand.specs.parts.Pending.{run_tokens}
 use Rattle.macro_expand.proofs.run.Run.get.Given as goal
 
 abbrev pub invariant-loop-before : goal.invariant-loop-before

@@ -1,8 +1,8 @@
 use Rattle.std.proofs.Common.{take, drop, inl, inr, refl, subst}
 use Rattle.std.proofs.lemmas.Result.{IfOk-weaker}
 use Rattle.pp_tokens.specs.declared.lexer.Place.{Place}
-use Rattle.pp_tokens.specs.Text.{part_told}
-use Rattle.pp_tokens.specs.Gathered.{EndsLine, AddsToken, Gathers}
+use Rattle.pp_tokens.specs.parts.Text.{part_told}
+use Rattle.pp_tokens.specs.parts.Gathered.{EndsLine, AddsToken, Gathers}
 use Rattle.pp_tokens.proofs.LexSteps.{line_gathered, token_gathered, white_gathered, comment_gathered, open_gathered}
 use Rattle.pp_tokens.proofs.lexer.Gathering.add.Goals as goal
 

@@ -3,7 +3,7 @@ use Rattle.std.specs.Option.{option_and_then}
 use Rattle.std.proofs.lemmas.Option.{slice_get_read}
 use Rattle.pp_tokens.specs.declared.token.Token.{Token}
 use Rattle.pp_tokens.specs.Lines.{LexedFile}
-use Rattle.pp_tokens.specs.Seen.{token_at}
+use Rattle.pp_tokens.specs.parts.Seen.{token_at}
 use Rattle.pp_tokens.proofs.Places.{range_is, tokens_at, line_past, within_at, token_within, token_past}
 use Rattle.pp_tokens.proofs.lexer.Lexed.token.Goals as goal
 

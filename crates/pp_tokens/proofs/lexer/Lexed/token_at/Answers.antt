@@ -2,7 +2,7 @@ use Rattle.std.proofs.Common.{sym, ◌∙◌, ap, arith, length, ◌≡◌, ◌<
 use Rattle.std.proofs.lemmas.Option.{slice_get_read}
 use Rattle.pp_tokens.specs.declared.token.Token.{Token}
 use Rattle.pp_tokens.specs.Lines.{LexedFile, all_tokens}
-use Rattle.pp_tokens.specs.Seen.{token_at}
+use Rattle.pp_tokens.specs.parts.Seen.{token_at}
 use Rattle.pp_tokens.proofs.Places.{within_at}
 use Rattle.pp_tokens.proofs.FlatPlaces.{all_are, numbered, none_numbered}
 use Rattle.pp_tokens.proofs.lexer.Lexed.token_at.Goals as goal

@@ -3,7 +3,7 @@ use Rattle.std.specs.List.{flat_map}
 use Rattle.pp_tokens.specs.declared.lexer.Place.{Place}
 use Rattle.pp_tokens.specs.declared.token.Token.{Token}
 use Rattle.pp_tokens.specs.Lines.{LexedFile}
-use Rattle.pp_tokens.specs.Seen.{seen_lines}
+use Rattle.pp_tokens.specs.parts.Seen.{seen_lines}
 use Rattle.pp_tokens.proofs.Places.{lines_length}
 use Rattle.pp_tokens.proofs.FlatPlaces.{before_is}
 use Rattle.pp_tokens.proofs.lexer.Lexed.tokens_before.Goals as goal

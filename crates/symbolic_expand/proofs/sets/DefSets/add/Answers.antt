@@ -2,7 +2,7 @@ use Rattle.std.proofs.Common.{ap, sym, ◌∙◌, subst, true}
 use Rattle.std.specs.List.{Contains}
 use Rattle.macro_expand.specs.Choice.{IsDistinct}
 use Rattle.symbolic_expand.specs.Defined.{sets_of}
-use Rattle.symbolic_expand.specs.Stored.{seen, with_more}
+use Rattle.symbolic_expand.specs.parts.Stored.{seen, with_more}
 use Rattle.symbolic_expand.proofs.DefinedLaws.{more_distinct, more_adds, lacks, adds_part}
 use Rattle.symbolic_expand.proofs.sets.DefSets.add.Goals as goal
 

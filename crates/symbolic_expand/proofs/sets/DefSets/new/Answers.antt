@@ -1,7 +1,7 @@
 use Rattle.std.proofs.Common.{sym, subst}
 use Rattle.macro_expand.specs.Choice.{IsDistinct}
 use Rattle.symbolic_expand.specs.Defined.{sets_of}
-use Rattle.symbolic_expand.specs.Stored.{seen}
+use Rattle.symbolic_expand.specs.parts.Stored.{seen}
 use Rattle.symbolic_expand.proofs.sets.DefSets.new.Goals as goal
 
 pub invariant_of-result : goal.invariant_of-result

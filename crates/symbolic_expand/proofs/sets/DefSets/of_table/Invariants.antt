@@ -1,4 +1,4 @@
-use Rattle.symbolic_expand.specs.Stored.{HasBefore}
+use Rattle.symbolic_expand.specs.parts.Stored.{HasBefore}
 use Rattle.symbolic_expand.proofs.sets.DefSets.of_table.Given as goal
 
 -- the names before the place have their definitions

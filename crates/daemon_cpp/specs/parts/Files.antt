@@ -17,8 +17,8 @@ use Rattle.daemon_cpp.specs.declared.cpp.OpenFile.{OpenFile}
 use Rattle.daemon_cpp.specs.declared.cpp.Left.{Left}
 use Rattle.daemon_cpp.specs.declared.cpp.Reader.{Reader}
 use Rattle.daemon_cpp.specs.Prep.{World, Here, State, Step, Go, and_then, limited, first_state, enter_file, depth_limit, run_forced, open_source, prepared, line_set}
-use Rattle.daemon_cpp.specs.Reading.{Frame, run_flat, reading, entering_at, resumed}
-use Rattle.daemon_cpp.specs.Showing.{Shows, StopsWith}
+use Rattle.daemon_cpp.specs.parts.Reading.{Frame, run_flat, reading, entering_at, resumed}
+use Rattle.daemon_cpp.specs.parts.Showing.{Shows, StopsWith}
 
 abbrev pub here_of : OpenFile → Here
 here_of file = record { place = file.visit.place; found = file.visit.found; real = file.real; name = file.numbers.name; shift = file.numbers.shift }

@@ -13,7 +13,7 @@ use Rattle.client_steps.specs.declared.phase.Phase.TheVariants.{Wants, Takes, En
 use Rattle.client_steps.specs.Phases.{CanWork, NeedOf, rank, most_rank, leased_by, given_by}
 use Rattle.client_steps.specs.Ledger.{HasRoom}
 use Rattle.client_order.specs.Ran.{MemoSeen}
-use Rattle.client_order.specs.World.{ClientDid, HasAllDrawn, DrawsMore, one_if_same}
+use Rattle.client_order.specs.parts.World.{ClientDid, HasAllDrawn, DrawsMore, one_if_same}
 
 -- a client waits for the answer to its need: what clients share fits it, and a lease that it gives back is of a slot that is leased
 pub record CanAnswer (wanted : Need) (drawn : ℕ) (s : Leased) (c : Client) : Type 0 where

@@ -3,7 +3,7 @@ use Rattle.std.specs.Prelude.{ℕ, suc, List, [], ◌∷◌, ◌++◌, length, O
 use Rattle.macro_defs.specs.MacroDefinition.{MacroDefinition}
 use Rattle.macro_expand.specs.Answered.{Reply, Answerer}
 use Rattle.macro_expand.specs.Choice.{Sets}
-use Rattle.symbolic_expand.specs.Enumeration.{choices_of, choice_at}
+use Rattle.symbolic_expand.specs.parts.Enumeration.{choices_of, choice_at}
 use Rattle.symbolic_expand.specs.Texts.{text_inserted}
 
 -- The state of a run: the numbers still to take, those taken with how many there were, the presumed name where it is known, and

@@ -11,7 +11,7 @@ use Rattle.job_frames.specs.declared.machine.Read.{Read}
 use Rattle.job_frames.specs.Fields.{short}
 use Rattle.job_frames.specs.Outcomes.{Verdict, reason, Left, whatever_follows, number_of, value_of}
 use Rattle.job_frames.specs.Request.{Got}
-use Rattle.job_frames.specs.Stages.{reading, left_to_read, Keeps}
+use Rattle.job_frames.specs.parts.Stages.{reading, left_to_read, Keeps}
 
 -- What a reader of requests is seen as: why it stopped, if it did, the field that is due, what has come of that
 -- field, and the parts read before it.

@@ -7,7 +7,7 @@ use Rattle.job_frames.specs.declared.reply_machine.ReplyDue.{ReplyDue}
 use Rattle.job_frames.specs.declared.reply_machine.ReplyDue.TheVariants.{Whole}
 use Rattle.job_frames.specs.Fields.{short}
 use Rattle.job_frames.specs.Outcomes.{reason, Left, nothing_follows, number_of}
-use Rattle.job_frames.specs.ReplyStages.{reading, left_to_read, Keeps}
+use Rattle.job_frames.specs.parts.ReplyStages.{reading, left_to_read, Keeps}
 
 -- What a reader of replies is seen as: why it stopped, if it did, the field that is due, what has come of that field,
 -- and the answer read before it.

@@ -15,7 +15,7 @@ use Rattle.daemon_cpp.specs.declared.pieces.Move.{Move}
 use Rattle.daemon_cpp.specs.declared.pieces.Move.TheVariants.{Onward, Enter, Renumber}
 use Rattle.daemon_cpp.specs.Diagnostics.{Diagnostic, diagnostic_text, BadLine, WrongCount, UnendedCall, BadPaste, DeepArguments, WorkLimit, TextLimit}
 use Rattle.daemon_cpp.specs.Prep.{World, Here, State, Step, Go, Stop as Stopped, Reached, Gives, Ends, Entering, is_marked, here_at, line_set, define_complaint, answer_token, answer_parts, probe, reach, Sort, defining, naming, opening_mark, closing_mark, plain, DefinedStage, outside, named_next, in_parentheses, closing_next, defined_from}
-use Rattle.daemon_cpp.specs.Reading.{Stage, run_flat, reading, stage_of}
+use Rattle.daemon_cpp.specs.parts.Reading.{Stage, run_flat, reading, stage_of}
 use Rattle.macro_defs.specs.declared.definition.DefineError.{DefineError}
 use Rattle.macro_defs.specs.declared.definition.DefineError.TheVariants as define_error
 use Rattle.macro_expand.specs.declared.outcome.ExpandError.{ExpandError}

@@ -11,8 +11,8 @@ use Rattle.pp_tokens.specs.declared.lexer.Place.{Place}
 use Rattle.pp_tokens.specs.declared.lexer.Gathering.{Gathering}
 use Rattle.pp_tokens.specs.Phases.{Cell, bytes}
 use Rattle.pp_tokens.specs.Lines.{Part, newline, white, comment, open_comment, token, Element, LexedFile, line_of, unended_line, or_else, part_of}
-use Rattle.pp_tokens.specs.Seen.{token_at, seen_lines, last_end, Ascends, EachWithin}
-use Rattle.pp_tokens.specs.Text.{after_word}
+use Rattle.pp_tokens.specs.parts.Seen.{token_at, seen_lines, last_end, Ascends, EachWithin}
+use Rattle.pp_tokens.specs.parts.Text.{after_word}
 
 -- how many newlines stand in a text
 abbrev pub newlines : List ℕ → ℕ

@@ -13,7 +13,7 @@ use Rattle.job_frames.specs.declared.Fed.TheVariants as fed
 use Rattle.job_frames.specs.declared.FrameError.TheVariants as why
 use Rattle.job_frames.specs.Fields.{Step, short, refused, taken, ◌>>=◌, token_at, order_reason, version_reason, within, only}
 use Rattle.job_frames.specs.Outcomes.{reason, nothing_follows, number_of}
-use Rattle.job_frames.specs.Filling.{Topped}
+use Rattle.job_frames.specs.parts.Filling.{Topped}
 use Rattle.job_frames.specs.Reply.{allowed, status_judge, text_body_from, text_from, no_diagnostic_from, diagnostic_body_from, diagnostic_from, status_from, done_from, refusal_from, reply_at}
 
 -- the answer that was read, where there is one

@@ -16,7 +16,7 @@ use Rattle.macro_expand.specs.Laws.{IsCutOff}
 use Rattle.symbolic_expand.specs.declared.outcome.SymError.{SymError}
 use Rattle.symbolic_expand.specs.declared.outcome.SymError.TheVariants.{Budget, Long, Presumed as PresumedNames, Memory}
 use Rattle.symbolic_expand.specs.Texts.{text_inserted, all_inserted}
-use Rattle.symbolic_expand.specs.Enumeration.{Numbered}
+use Rattle.symbolic_expand.specs.parts.Enumeration.{Numbered}
 use Rattle.symbolic_expand.specs.Found.{NothingRefuses}
 
 -- the questions of computed tokens (6.10.2 p4)

@@ -9,7 +9,7 @@ use Rattle.client_steps.specs.declared.client.Client.{Client}
 use Rattle.client_steps.specs.declared.phase.Phase.TheVariants.{Rests}
 use Rattle.client_order.specs.declared.totals.Totals.{Totals}
 use Rattle.client_steps.specs.Ledger.{HasRoom, IsNew}
-use Rattle.client_order.specs.World.{SheetsMemo}
+use Rattle.client_order.specs.parts.World.{SheetsMemo}
 
 -- ---- in order of number ----
 

@@ -1,0 +1,9 @@
+-- Helpers of contracts: no definition in the folder above rests on them.
+--     Problems  the problems of the code, as complaints
+--     Reading   what is left to do where files are read: the code's stack of includes, and its place in a conditional
+--     Showing   what the code keeps of a state, and what its functions lead to
+pub mod Files
+pub mod Narrow
+pub mod Problems
+pub mod Reading
+pub mod Showing

@@ -1,0 +1,2 @@
+-- Helpers of contracts: no definition in the folder above rests on them.
+pub mod Told

@@ -1,0 +1,3 @@
+-- Helpers of contracts: no definition in the folder above rests on them.
+--     Stored  the sheet that stored parts are, and how it grows piece by piece
+pub mod Stored

@@ -1,0 +1,5 @@
+-- Helpers of contracts: no definition in the folder above rests on them.
+--     Remembered  the nodes that a tree remembers of another
+--     Steps       how the steps of a program go on as a walk does
+pub mod Steps
+pub mod Remembered
