@@ -7,6 +7,7 @@ and REAL the folder that tools/real_text.py made. docs/PERFORMANCE.md says what 
 import os
 import re
 import shutil
+import subprocess
 import sys
 import tempfile
 
@@ -73,9 +74,10 @@ class Bench:
     def tokens(self, paths):
         return self.numbers(["lex_program", "count"], paths)[-1]
 
-    def job(self, input_, folder, times=1, words=(), **more):
-        """A row of `pump_program` on a folder's a.c, with more words. What it says is how the job ended, and where it was done."""
-        line = self.write(f"lists{folder.replace('/', '-')}", f"{folder} a.c\n".encode())
+    def job(self, input_, folder, times=1, words=(), options="", **more):
+        """A row of `pump_program` on a folder's a.c, with more words and with compile words. What it says is how the job ended, and
+        where it was done."""
+        line = self.write(f"lists{folder.replace('/', '-')}", f"{folder} a.c {options}\n".encode())
         if "pump_program" not in self.programs:
             return absent(input_, "pump_program", "not here")
         job = Job([self.programs["pump_program"], *ORDER, *words], self.folder, line)
@@ -116,6 +118,25 @@ def small_plain_files(bench):
         rows += bench.rows(label, [GCC, TCC], [[path]], **counts)
         rows.append(bench.job(label, os.path.dirname(path), beside=rows[-2], words=words, **counts))
     return Table("Whole jobs, the remote way and the local way.", "token", rows)
+
+
+def real_headers(bench):
+    """Whole jobs on sources that include headers of the C library or of Linux, with what the compiler defines by itself."""
+    rows, words = [], compiler_words()
+    for number, names in enumerate(bodies.REAL_HEADERS):
+        text = "".join(f"#include <{name}>\n" for name in names)
+        path = bench.write(f"headers{number}/a.c", text.encode())
+        label = names[0] if len(names) == 1 else f"{names[0]} and {len(names) - 1} more"
+        rows += bench.rows(label, [["gcc", "-E", "-w"], ["tcc", "-E", "-w"]], [[path]])
+        rows.append(bench.job(label, os.path.dirname(path), options=words, beside=rows[-2]))
+        bench.goal(f"{label}, to gcc -E", rows[-1], Row.ratio, 0.35, "")
+    return Table("Whole jobs on real headers, conditionals and all, by the remote way. The ratio is to gcc -E.", "", rows)
+
+
+def compiler_words():
+    """The words of a list for what gcc defines by itself, and where it searches."""
+    script = os.path.join(os.path.dirname(os.path.abspath(__file__)), "compiler-words")
+    return subprocess.run([sys.executable, "-B", script, "gcc"], capture_output=True, text=True, check=True).stdout.strip()
 
 
 def lexing(bench):
@@ -201,6 +222,12 @@ def start(bench):
     rows = bench.rows("a file of 7 bytes", commands, [[path]] * STARTS, same=True)
     rows.append(bench.job("a file of 7 bytes", os.path.dirname(path), times=STARTS, beside=rows[0]))
     bench.goal("start", rows[-1], lambda row: row.least() * 1e3, 1, "ms")
+    words = [f"-DNAME{number}={number}" for number in range(350)]
+    path = bench.write("defined/a.c", b"int x;\n")
+    label = "and 350 words -D"
+    rows.append(bench.row(label, [*GCC, *words], [[path]] * STARTS, same=True))
+    rows.append(bench.job(label, os.path.dirname(path), times=STARTS, options=" ".join(words), beside=rows[-1]))
+    bench.goal("350 words -D", rows[-1], lambda row: (row.least() - rows[-3].least()) * 1e3, 1.2, "ms")
     return Table(f"Start: one of {STARTS} runs. The ratio is to gcc -E.", "", rows)
 
 
@@ -333,6 +360,7 @@ def looks(report):
 TABLES = [
     plain_text,
     small_plain_files,
+    real_headers,
     lexing,
     hostile,
     real_code,
@@ -347,7 +375,7 @@ TABLES = [
     lists,
     many_jobs,
 ]
-MADE_BY_GCC = [plain_text, small_plain_files]
+MADE_BY_GCC = [plain_text, small_plain_files, real_headers]
 
 
 def print_goals(bench):

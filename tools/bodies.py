@@ -12,6 +12,17 @@ HEADERS = """
     sys/stat sys/types sys/wait termios unistd
 """.split()
 
+# What sources of the tables of real headers include: headers of the C library or of Linux.
+REAL_HEADERS = [
+    ["stdio.h"],
+    ["stdlib.h", "string.h", "stdio.h"],
+    ["stdio.h", "stdlib.h", "string.h", "errno.h", "fcntl.h", "unistd.h", "sys/types.h", "sys/stat.h", "sys/socket.h",
+     "netinet/in.h", "pthread.h", "signal.h", "time.h"],
+    ["math.h", "complex.h", "tgmath.h"],
+    ["limits.h", "stdint.h", "inttypes.h", "float.h", "stdarg.h", "stdbool.h"],
+    ["linux/kernel.h", "linux/types.h", "linux/if.h", "linux/netlink.h", "linux/rtnetlink.h"],
+]
+
 
 def fill(unit, size):
     """A body of a unit repeated, of at most this size."""

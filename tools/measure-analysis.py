@@ -13,15 +13,8 @@ import subprocess
 import sys
 import tempfile
 
-HEADERS = [
-    ["stdio.h"],
-    ["stdlib.h", "string.h", "stdio.h"],
-    ["stdio.h", "stdlib.h", "string.h", "errno.h", "fcntl.h", "unistd.h", "sys/types.h", "sys/stat.h", "sys/socket.h",
-     "netinet/in.h", "pthread.h", "signal.h", "time.h"],
-    ["math.h", "complex.h", "tgmath.h"],
-    ["limits.h", "stdint.h", "inttypes.h", "float.h", "stdarg.h", "stdbool.h"],
-    ["linux/kernel.h", "linux/types.h", "linux/if.h", "linux/netlink.h", "linux/rtnetlink.h"],
-]
+from bodies import REAL_HEADERS as HEADERS
+
 FOLDERS = re.compile(r"(asm|asm-generic|bits|gnu|linux|net|netinet|sys)(/|$)")
 
 
