@@ -18,7 +18,7 @@ build() {
     fi
 }
 
-examples='token_examples expansion_examples choice_examples condition_examples frame_examples job_texts tree_examples'
+examples='token_examples expansion_examples choice_examples condition_examples frame_examples job_texts tree_examples run_examples'
 for program in pump_program pumpd lex_program tree_program expand_program share_program $examples; do
     build $program
 done

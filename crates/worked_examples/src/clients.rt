@@ -3,7 +3,7 @@ ghost use Rattle.std.specs.Prelude.{◌≡◌, []};
 ghost use Rattle.io_edges.specs.Talk.{EachAnswered};
 
 use crate::example::{MemEnd, check, check_put, check_text, end_of};
-use crate::header::{HEADER, RECEIVED, SENT, TEXT};
+use crate::header::{FILES, RECEIVED, SENT, TEXT};
 use base_types::Bytes;
 use build_clients::{
     Cause, Done, End, JobOutcome, Prepared, Replied, Way, ask_host, conclude, do_job, do_locally,
@@ -76,7 +76,7 @@ fn check_step<R: Abort>(rt: &R, alloc: Global, step: Step) -> Result<(), Fail> {
 }
 
 fn check_step_of<R: Abort>(rt: &R, alloc: Global, client: &Client, step: Step) -> Result<(), Fail> {
-    let mut end = Box::new(alloc, end_of(alloc, &HEADER)?)?;
+    let mut end = Box::new(alloc, end_of(alloc, &FILES)?)?;
     take_step(rt, alloc, client, &mut *end, step)
 }
 

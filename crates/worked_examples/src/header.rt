@@ -1,5 +1,5 @@
 // A source that includes a header.
-use crate::example::{JOB, Placed, Run, WORK};
+use crate::example::{Placed, WORK};
 
 pub const FILES: [Placed<'static>; 3] = [
     WORK,
@@ -22,9 +22,3 @@ pub const SENT: &str = "DIST00000103CDIR00000002/wARGC00000001ARGV00000003a.cNFI
 
 pub const RECEIVED: &str = "DONE00000103STAT00000000SERR00000000DOTI00000039\
                             # 1 \"/w/a.c\"\n# 1 \"/w/b.h\" 1\nint x;\n# 2 \"/w/a.c\" 2\nint y;\n";
-
-/// A run over the files.
-pub const HEADER: Run<'static> = Run {
-    files: &FILES,
-    ..JOB
-};
