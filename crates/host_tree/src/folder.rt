@@ -3,6 +3,7 @@ ghost use Rattle.std.specs.Prelude.{◌≡◌, None, IfOk};
 ghost use Rattle.tree_model.specs.Trees.{IsNode, IsBody};
 ghost use Rattle.host_tree.specs.Untold.{nothing_is_some};
 
+use crate::bodies::Bodies;
 use base_types::Bytes;
 use command_line::{FileBody, read_seen};
 use io_edges::HostFault;
@@ -15,25 +16,30 @@ use tree_model::{CanonPath, Node, Tree, TreeError, Unnamed};
 /// A link is shown as what it leads to. A path that isn't UTF-8 has no node, nor has a path that the host can't have, nor
 /// one at which neither a folder nor a file stands, as at a device. What the host doesn't let a look see is a fault, as below a
 /// folder that may not be searched. Only a path at which a file was seen is read: where none stands any more, that is a fault
-/// too, as the tree didn't stand still.
+/// too, as the tree didn't stand still. What was read is remembered, up to 2 MiB, and is not read from the host again; `reads` counts
+/// each call.
 #[derive(Drop)]
 pub struct Folder<R: Files + AllocGlobal> {
     rt: R,
     faults: u64,
     reads: u64,
     last: Option<HostFault>,
+    bodies: Bodies,
 }
 
 impl<R: Files + AllocGlobal> Folder<R> {
+    /// The host's files, of which no body is remembered.
     pub fn new(rt: R) -> Folder<R>
         ensures fresh { ⟦<Folder<R> as Tree>⟧.faults result ≡ 0 }
         ensures unread { ⟦<Folder<R> as Tree>⟧.reads result ≡ 0 }
     {
+        let bodies = Bodies::new(rt.alloc());
         Folder {
             rt,
             faults: 0,
             reads: 0,
             last: None,
+            bodies,
         }
     }
 
@@ -70,8 +76,14 @@ impl<R: Files + AllocGlobal> Tree for Folder<R> {
 
     fn read(&mut self, path: &CanonPath) -> Result<Option<Bytes>, TreeError> {
         self.reads = self.reads.saturating_add(1);
+        if let Some(body) = self.bodies.recall(path) {
+            return Ok(Some(body));
+        }
         match body_at(&self.rt, path.bytes()) {
-            Ok(Some(body)) => Ok(Some(body)),
+            Ok(Some(body)) => {
+                self.bodies.remember(path, body.as_slice());
+                Ok(Some(body))
+            }
             Ok(None) => Err(TreeError::Large),
             Err(error) if error.kind() == ErrorKind::OutOfMemory => Err(TreeError::Memory),
             Err(error) => {

@@ -1,6 +1,7 @@
 //! The host's files as a tree.
 #![tactic(auto)]
 
+mod bodies;
 mod folder;
 
 pub use folder::Folder;
