@@ -1,8 +1,9 @@
 -- The lexer's steps: what is gathered of a text, and what is left of it.
-use Rattle.std.specs.Prelude.{◌≡◌, ℕ, zero, ◌+◌, ◌≤◌, ◌<◌, Bool, true, false, cond, List, [], ◌∷◌, ◌++◌, length, take, drop, None, Some, Option, refl}
-use Rattle.std.proofs.Common.{sym, ◌∙◌, ap, arith, append_assoc, drop-drop, length-drop, inl, inr}
+use Rattle.std.specs.Prelude.{◌≡◌, ℕ, zero, suc, ◌+◌, ◌≤◌, ◌<◌, Bool, true, false, cond, List, [], ◌∷◌, ◌++◌, length, take, drop, take_while, get_or, None, Some, Option, refl}
+use Rattle.std.proofs.Common.{sym, ◌∙◌, ap, arith, subst, append_assoc, drop-drop, length-drop, inl, inr}
 use Rattle.std.proofs.Math.Seq.{take-append_seam}
-use Rattle.std.proofs.lemmas.List.{append-nil, length-append, drop_all}
+use Rattle.std.proofs.Math.Numerals.{one-add}
+use Rattle.std.proofs.lemmas.List.{append-nil, length-append, drop_all, get_or-drop}
 use Rattle.pp_tokens.specs.declared.token.Token.{Token}
 use Rattle.pp_tokens.specs.declared.due.Before.{Before}
 use Rattle.pp_tokens.specs.declared.due.Before.TheVariants.{Nothing}
@@ -12,10 +13,13 @@ use Rattle.pp_tokens.specs.Phases.{Cell, cell, bytes}
 use Rattle.pp_tokens.specs.Lined.{lined, spliced_up_to}
 use Rattle.pp_tokens.specs.Lines.{Part, newline, white, comment, open_comment, token, Element, header_due, words_after, line_of, unended_line, first_part, elements, file_of, or_else, Stands}
 use Rattle.pp_tokens.specs.parts.Seen.{seen_lines, seen_file, last_end, Ascends, EachWithin}
-use Rattle.pp_tokens.specs.parts.Text.{after_word, is_due}
+use Rattle.pp_tokens.specs.Grammar.{is_white}
+use Rattle.pp_tokens.specs.parts.Text.{after_word, is_due, opens_header}
 use Rattle.pp_tokens.specs.parts.Gathered.{newlines, joined, present_tokens, file_with, before_with, IsGathered, IsPart, GathersNothing, EndsLine, EndsLastLine, AddsToken, AddsGap, Gathers}
 use Rattle.pp_tokens.proofs.Reading.{cut_off, next_element, drop_one_more, first_stands, some_length}
 use Rattle.pp_tokens.proofs.LinedRests.{lined_bytes, lined_past, cut_bytes, cut_line}
+use Rattle.pp_tokens.proofs.TextLemmas.{white_byte, white_first, no_delimiter}
+use Rattle.pp_tokens.proofs.OneLine.{short_newlines}
 use Rattle.pp_tokens.proofs.Joining.{lines_joined}
 use Rattle.pp_tokens.proofs.Places.{ascends_last, ascends_more, ascends_line, last_of_more, within_more, all_dropped, same_lines, line_more, token_more}
 use Rattle.pp_tokens.proofs.DueWords.{after_words, one_word_more, due_is}
@@ -262,3 +266,97 @@ lex_end text splices old new at base past g state e =
 
     seen : seen_file text new.places.items new.ends.items new.unended ≡ file_with text old []
     seen = rw (e.places, e.ends, e.unended, lines old.begun, or_none old.unended) refl
+
+-- A RUN OF WHITE SPACE
+
+-- no white space begins a header name
+no_opening : (b : ℕ) → is_white b ≡ true → opens_header b ≡ false
+no_opening b h =
+    elim (white_byte b h) [
+      | inl e ↦ rw e refl
+      | inr (inl e) ↦ rw e refl
+      | inr (inr (inl e)) ↦ rw e refl
+      | inr (inr (inr (inl e))) ↦ rw e refl
+      | inr (inr (inr (inr e))) ↦ rw e refl
+    ]
+
+white_is : (text : List ℕ) (at : ℕ) (due : Bool) → at < length text → is_white (get_or text at 0) ≡ true → first_part due (drop at text) ≡ (white, 1)
+white_is text at due below blank =
+    let here : get_or (drop at text) 0 0 ≡ get_or text at 0 = get_or-drop at text 0 0 ∙ ap (λ i. get_or text i 0) (omega arith) in
+    by_due due (white_first (drop at text) (ap is_white here ∙ blank))
+  where
+    by_due : (d : Bool) → first_part false (drop at text) ≡ (white, 1) → first_part d (drop at text) ≡ (white, 1)
+    by_due false alone = alone
+    by_due true alone = no_delimiter text at below (no_opening (get_or text at 0) blank) ∙ alone
+
+one_white : (text splices : List ℕ) (old new : Gathering) (at base : ℕ) → IsGathered text old → LexState text splices old at base → at < length text
+    → is_white (get_or text at 0) ≡ true → AddsGap old new None → LexState text splices new (at + 1) base
+one_white text splices old new at base g state below blank e =
+    let xs = drop at text in
+    let is : ◌≡◌ {A = Part × ℕ} (white, 1) (first_part (is_due old.before) xs) = sym (white_is text at (is_due old.before) below blank) in
+    let some : 0 < length xs = omega (arith, length-drop at text) in
+    let none : newlines (take 1 xs) ≡ 0 = short_newlines white (take 1 xs) refl (first_is_part (is_due old.before) xs white 1 some is) in
+    let same : base + newlines (take 1 xs) ≡ base = omega (arith, none) in
+    let step = white_gathered text (take 1 xs) (base + spliced_up_to splices at) old new g e in
+    subst (LexState text splices new (at + 1)) same (lex_step text splices old new at base 1 white state below is step)
+
+-- each byte from a place on, up to so many, is white space
+abbrev pub AreWhite : List ℕ → ℕ → ℕ → Type 0
+AreWhite text at n = (k : ℕ) → k < n → (at + k < length text) × (is_white (get_or text (at + k) 0) ≡ true)
+
+front_size : (b : ℕ) (bs : List ℕ) (t : Bool) → is_white b ≡ t → length (take_while is_white (b ∷ bs)) ≡ cond t (suc (length (take_while is_white bs))) 0
+front_size b bs false e = rw e refl
+front_size b bs true e = rw e (rw one-add refl)
+
+front_white : (xs : List ℕ) (k : ℕ) → k < length (take_while is_white xs) → (k < length xs) × (is_white (get_or xs k 0) ≡ true)
+front_white [] k less = absurd (omega (arith, less))
+front_white (b ∷ bs) k less = by_test (is_white b) refl k (omega (arith, less, front_size b bs (is_white b) refl)) (front_white bs)
+  where
+    by_test : (t : Bool) → is_white b ≡ t → (k : ℕ) → k < cond t (suc (length (take_while is_white bs))) 0
+        → ((i : ℕ) → i < length (take_while is_white bs) → (i < length bs) × (is_white (get_or bs i 0) ≡ true))
+        → (k < length (b ∷ bs)) × (is_white (get_or (b ∷ bs) k 0) ≡ true)
+    by_test false e k less behind = absurd (omega (arith, less))
+    by_test true e zero less behind = (omega arith, e)
+    by_test true e (suc k) less behind = (let next = behind k (omega (arith, less)) in (omega (arith, next.0), next.1))
+
+-- the white space in front of what is left
+pub front_is_white : (text : List ℕ) (at n : ℕ) → n ≡ length (take_while is_white (drop at text)) → AreWhite text at n
+front_is_white text at n is k less =
+    let here = front_white (drop at text) k (omega (arith, less, is)) in
+    (omega (arith, here.0, length-drop at text), ap is_white (sym (get_or-drop at text k 0)) ∙ here.1)
+
+later_white : (text : List ℕ) (at n : ℕ) → AreWhite text at (suc n) → AreWhite text (at + 1) n
+later_white text at n blank k less =
+    let next : at + suc k ≡ at + 1 + k = omega arith in
+    let here = blank (suc k) (omega (arith, less)) in
+    (omega (arith, here.0), ap (λ i. is_white (get_or text i 0)) (sym next) ∙ here.1)
+
+first_white : (text splices : List ℕ) (old new : Gathering) (at base n : ℕ) → IsGathered text old → LexState text splices old at base → AddsGap old new None → AreWhite text at (suc n)
+    → LexState text splices new (at + 1) base
+first_white text splices old new at base n g state e blank =
+    let here = blank 0 (omega arith) in
+    let still : at + 0 ≡ at = omega arith in
+    one_white text splices old new at base g state (omega (arith, here.0)) (ap (λ i. is_white (get_or text i 0)) (sym still) ∙ here.1) e
+
+-- more white space behind a gap adds nothing
+more_white : (text splices : List ℕ) (g : Gathering) (at base n : ℕ) → IsGathered text g → LexState text splices g at base → AddsGap g g None → AreWhite text at n → LexState text splices g (at + n) base
+more_white text splices g at base zero is state e blank = (let same : at ≡ at + 0 = omega arith in subst (λ i. LexState text splices g i base) same state)
+more_white text splices g at base (suc n) is state e blank =
+    let same : at + 1 + n ≡ at + suc n = omega arith in
+    subst (λ i. LexState text splices g i base) same
+    (more_white text splices g (at + 1) base n is (first_white text splices g g at base n is state e blank) e (later_white text at n blank))
+
+-- a run of white space is one gap
+pub white_run : (text splices : List ℕ) (old new : Gathering) (at base n : ℕ) → IsGathered text old → LexState text splices old at base → AddsGap old new None → 0 < n → AreWhite text at n
+    → (LexState text splices new (at + n) base) × IsGathered text new
+white_run text splices old new at base zero g state e some blank = absurd (omega (arith, some))
+white_run text splices old new at base (suc n) g state e some blank =
+    let same : at + 1 + n ≡ at + suc n = omega arith in
+    let gathered = (gap_gathered text [] white None 0 old new refl g e).gathered in (
+      subst (λ i. LexState text splices new i base) same
+          (more_white text splices new (at + 1) base n gathered (first_white text splices old new at base n g state e blank) again (later_white text at n blank)),
+      gathered,
+    )
+  where
+    again : AddsGap new new None
+    again = record { places = refl; ends = refl; first = sym (or_none new.unended); before = refl; begun = e.begun; space = e.space }

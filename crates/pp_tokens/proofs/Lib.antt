@@ -18,6 +18,8 @@ mod LinedRests
 mod LaterPlaces
 mod Splices
 mod OneLine
+mod NewlineCounts
+mod ByteTables
 mod LexSteps
 mod Places
 mod FlatPlaces

@@ -5,10 +5,11 @@
 // all lines in one list; its spelling is a slice of the text, and its line is found by the newlines and splices before it. No token takes
 // memory of its own, and time is linear in the body, since a quote or a delimiter without a partner is looked for once a line
 // (`unpaired.rt`). What holds between two parts stands in specs/parts/Gathered.antt.
-ghost use Rattle.std.specs.Prelude.{◌≡◌, ◌≤◌, ◌+◌, ◌∷◌, [], None, zero, length, take, drop, get_or, IfOk, slice_get, option_map, option_and_then};
+ghost use Rattle.std.specs.Prelude.{◌≡◌, ◌≤◌, ◌+◌, ◌∷◌, [], None, zero, length, take, drop, get_or, IfOk, slice_get, option_map, option_and_then, take_while};
 ghost use Rattle.std.specs.List.{flat_map};
 ghost use Rattle.std.specs.Option.{option_map_or};
 ghost use Rattle.pp_tokens.specs.parts.Gathered.{newlines, GathersNothing, EndsLine, AddsToken, AddsGap, EndsLastLine, IsGathered, IsPart, Gathers};
+ghost use Rattle.pp_tokens.specs.Grammar.{is_white};
 ghost use Rattle.pp_tokens.specs.Lined.{lined, spliced_up_to, Rising};
 ghost use Rattle.pp_tokens.specs.Lines.{all_tokens, elements, file_of, lexed};
 ghost use Rattle.pp_tokens.specs.parts.Seen.{seen_file, token_at};
@@ -16,10 +17,11 @@ ghost use Rattle.pp_tokens.specs.parts.Text.{part_told};
 ghost use Rattle.pp_tokens.specs.Tokens.{token_seen};
 
 use crate::due::{Before, after_word, is_due};
-use crate::part::{What, next_part};
+use crate::part::{What, next_part, white_length};
 use crate::source::{SourceText, read_source};
 use crate::token::{Kind, TokenRef};
 use crate::unpaired::Unpaired;
+use memchr::memchr_iter;
 use std::alloc::{AllocError, Global};
 use std::marker::Model;
 
@@ -185,6 +187,16 @@ fn splices_passed(splices: &[u32], passed: usize, at: usize) -> usize
     count
 }
 
+// How many bytes of white space stand at a place.
+fn white_at(text: &[u8], at: usize) -> usize
+    requires { at ≤ length text.now }
+    ensures run { result ≡ length (take_while is_white (drop at text.now)) }
+    ensures within { at + result ≤ length text.now }
+{
+    let (_, rest) = text.split_at(at);
+    white_length(rest)
+}
+
 // How many newlines a part has: a newline is one, and of the others only a comment may have any.
 fn newlines(what: What, part: &[u8]) -> usize
     requires part { IsPart (part_told what) part.now }
@@ -192,7 +204,7 @@ fn newlines(what: What, part: &[u8]) -> usize
 {
     match what {
         What::Newline => 1,
-        What::Comment | What::OpenComment => part.iter().filter(|b| **b == b'\n').count(),
+        What::Comment | What::OpenComment => memchr_iter(b'\n', part).count(),
         What::White | What::Token(_) => 0,
     }
 }
@@ -211,11 +223,17 @@ fn gather(alloc: Global, text: &[u8], splices: &[u32]) -> Result<Gathering, Allo
     let mut passed = 0usize;
     let mut at = 0usize;
     while at < text.len() {
-        passed = splices_passed(splices, passed, at);
-        let (what, size) = next_part(text, at, is_due(gathering.before), &mut unpaired);
-        gathering.add(text, what, at, size, (base + passed) as u32)?;
-        base += newlines(what, stretch(text, at, size));
-        at += size;
+        let blank = white_at(text, at);
+        if blank > 0 {
+            gathering.add_gap(None);
+            at += blank;
+        } else {
+            passed = splices_passed(splices, passed, at);
+            let (what, size) = next_part(text, at, is_due(gathering.before), &mut unpaired);
+            gathering.add(text, what, at, size, (base + passed) as u32)?;
+            base += newlines(what, stretch(text, at, size));
+            at += size;
+        }
     }
     gathering.end_last_line()?;
     Ok(gathering)

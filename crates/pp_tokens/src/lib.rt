@@ -1,6 +1,7 @@
 //! Preprocessing tokens: translation phases 1 to 3 of ISO C (5.1.1.2, 6.4).
 #![tactic(auto)]
 
+mod class;
 mod comment;
 mod due;
 mod law;

@@ -1,10 +1,11 @@
 // Numbers, punctuators and other bytes that stand first in a text (ISO C 6.4.6, 6.4.8).
 ghost use Rattle.std.specs.Prelude.{◌≡◌, ◌≤◌, ◌<◌, [], ◌∷◌, true, false, ◌&&◌, ◌||◌, ◌==◌, length, get_or};
-ghost use Rattle.pp_tokens.specs.Grammar.{is_digit, is_identifier_byte, is_identifier_start, is_white, is_newline, is_punctuator, continues_number, number_length};
-ghost use Rattle.pp_tokens.specs.Lines.{Part, first_part};
-ghost use Rattle.pp_tokens.specs.parts.Text.{part_told, is_quote, begins_number, begins_comment, is_single, is_operator, takes_equals, is_doubled, is_mixed, is_pair, is_triple, is_quadruple, is_second, mark_length};
+ghost use Rattle.pp_tokens.specs.Grammar.{is_identifier_start, is_white, is_newline, continues_number, number_length};
+ghost use Rattle.pp_tokens.specs.Lines.{first_part};
+ghost use Rattle.pp_tokens.specs.parts.Text.{part_told, is_quote, begins_number, begins_comment, takes_equals, is_doubled, is_mixed, is_pair, is_triple, is_quadruple, mark_length};
 
-use crate::part::{What, is_digit, is_identifier_byte, is_text_mark};
+use crate::class::{is_identifier_byte, is_second, is_single};
+use crate::part::What;
 use crate::token::Kind;
 
 /// The byte at a place, 0 past the end of the text.
@@ -48,19 +49,6 @@ pub fn number_part(rest: &[u8]) -> (What, usize)
         What::Token(Kind::Number),
         number_length(rest[0], behind) + 1,
     )
-}
-
-// Whether a byte is a punctuator.
-fn is_single(a: u8) -> bool
-    ensures { result ≡ is_single a }
-{
-    is_text_mark(a) || is_operator(a) || a == b'.' || a == b'#'
-}
-
-fn is_operator(a: u8) -> bool
-    ensures { result ≡ is_operator a }
-{
-    takes_equals(a) || a == b'~' || a == b'?' || a == b':'
 }
 
 // Whether a byte is a punctuator, and one with `=` too.
@@ -109,13 +97,6 @@ fn is_quadruple(a: u8, b: u8, c: u8, d: u8) -> bool
     ensures { result ≡ is_quadruple a b c d }
 {
     a == b'%' && b == b':' && c == b'%' && d == b':'
-}
-
-// Whether a byte is the second of a punctuator.
-fn is_second(b: u8) -> bool
-    ensures { result ≡ is_second b }
-{
-    is_doubled(b) || b == b'=' || b == b'#' || b == b':' || b == b'%' || b == b'.'
 }
 
 // How many bytes the longest punctuator at the front has; 1 where none has more.

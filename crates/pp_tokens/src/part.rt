@@ -1,12 +1,12 @@
 // What stands first in a text (ISO C 6.4), and how long it is.
-ghost use Rattle.std.specs.Prelude.{◌≡◌, ◌≤◌, ◌<◌, ℕ, true, false, None, IfSome, drop, get_or, length, take_while, not, ◌==◌};
+ghost use Rattle.std.specs.Prelude.{◌≡◌, ◌≤◌, ◌<◌, ℕ, false, None, IfSome, drop, get_or, length, take_while, ◌==◌};
 ghost use Rattle.pp_tokens.specs.declared.token.Kind.TheVariants.{Header};
-ghost use Rattle.pp_tokens.specs.Grammar.{is_digit, is_identifier_byte, is_identifier_start, is_white};
+ghost use Rattle.pp_tokens.specs.Grammar.{is_identifier_byte, is_identifier_start, is_white};
 ghost use Rattle.pp_tokens.specs.Lines.{Part, token, first_part};
-ghost use Rattle.pp_tokens.specs.Plain.{is_text_mark};
 ghost use Rattle.pp_tokens.specs.parts.Text.{part_told, is_quote, opens_header, begins_number};
 ghost use Rattle.pp_tokens.specs.parts.Unpaired.{KnowsUnpaired};
 
+use crate::class::{is_digit, is_identifier_byte, is_identifier_start, is_white};
 use crate::comment::slash_part;
 use crate::marks::{byte_at, mark_part, number_part};
 use crate::quoted::{header_at, quoted_at, word_at};
@@ -23,51 +23,20 @@ pub enum What {
     Token(Kind),
 }
 
-pub fn is_identifier_byte(b: u8) -> bool
-    ensures { result ≡ is_identifier_byte b }
+/// How many bytes of white space stand at the front.
+pub fn white_length(bytes: &[u8]) -> usize
+    ensures run { result ≡ length (take_while is_white bytes.now) }
+    ensures within { result ≤ length bytes.now }
 {
-    is_identifier_start(b) || is_digit(b)
+    bytes.iter().take_while(|b| is_white(**b)).count()
 }
 
-// How many bytes at the front go on with an identifier.
+/// How many bytes at the front go on with an identifier.
 pub fn word_length(bytes: &[u8]) -> usize
     ensures run { result ≡ length (take_while is_identifier_byte bytes.now) }
     ensures within { result ≤ length bytes.now }
 {
     bytes.iter().take_while(|b| is_identifier_byte(**b)).count()
-}
-
-pub fn is_digit(b: u8) -> bool
-    ensures { result ≡ is_digit b }
-{
-    b'0' <= b && b <= b'9'
-}
-
-// Whether a byte is a punctuator that is no front of a longer one.
-pub fn is_text_mark(b: u8) -> bool
-    ensures { result ≡ is_text_mark b }
-{
-    b == b';'
-        || b == b','
-        || b == b'('
-        || b == b')'
-        || b == b'{'
-        || b == b'}'
-        || b == b'['
-        || b == b']'
-}
-
-// Whether a byte begins an identifier.
-fn is_identifier_start(b: u8) -> bool
-    ensures { result ≡ is_identifier_start b }
-{
-    b.is_ascii_alphabetic() || b == b'_' || b == b'$' || b >= 128
-}
-
-fn is_white(b: u8) -> bool
-    ensures { result ≡ is_white b }
-{
-    b == b' ' || b == b'\t' || b == 11 || b == 12 || b == b'\r'
 }
 
 fn is_quote(b: u8) -> bool

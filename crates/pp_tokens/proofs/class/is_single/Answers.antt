@@ -1,0 +1,9 @@
+use Rattle.std.proofs.Common.{refl, arith}
+use Rattle.pp_tokens.specs.declared.class.TheConstants.{CLASS}
+use Rattle.pp_tokens.specs.parts.Text.{is_single}
+use Rattle.pp_tokens.proofs.ByteTables.{agree_below, from_table}
+use Rattle.pp_tokens.proofs.class.is_single.Goals as goal
+
+pub returns : goal.returns
+unfolding agree_below
+returns c = from_table CLASS 16 is_single c.args.b (omega arith) refl
