@@ -174,7 +174,8 @@ fn tokens_from(
 ) -> Result<Vec<Token>, AllocError>
     ensures { IfOk result (λ ts. ts.items ≡ drop place (unwrap_or (slice_get lexed.now.lines line) [])) }
 {
-    let mut tokens = Vec::new(alloc);
+    let count = lexed.token_count(line).saturating_sub(place);
+    let mut tokens = Vec::with_capacity(alloc, count)?;
     add_tokens(alloc, lexed, line, place, &mut tokens)?;
     Ok(tokens)
 }

@@ -36,11 +36,11 @@ fn copy_names(alloc: Global, names: &[Bytes]) -> Result<List<Bytes>, AllocError>
 pub(crate) fn copy_tokens(alloc: Global, tokens: &[Token]) -> Result<List<Token>, AllocError>
     ensures { IfOk result (λ copies. copies ≡ tokens.now) }
 {
-    let mut copies = List::new(alloc);
+    let mut copies = Vec::with_capacity(alloc, tokens.len())?;
     for token in tokens {
         copies.push(copy_token(alloc, token)?)?;
     }
-    Ok(copies)
+    Ok(List::of(copies))
 }
 
 fn copy_token(alloc: Global, token: &Token) -> Result<Token, AllocError>

@@ -293,8 +293,8 @@ fn expand_list<'s, S, A: Answers<S>>(
     ensures err { IfErr result (λ e. Stops e answers.new
         (expanded_for (A.answerer source.now) answers.old mode depth work.old.left (map marked_of given.entry.items))) }
 {
+    let mut out = Vec::with_capacity(alloc, given.len())?;
     let mut pending = Pending::of(given);
-    let mut out = Vec::new(alloc);
     while let Some(t) = pending.pop() {
         expand_head(
             alloc,

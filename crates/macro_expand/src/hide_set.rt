@@ -69,6 +69,12 @@ impl HideSet {
         }
     }
 
+    pub(crate) fn is_none(&self) -> bool
+        ensures { result ≡ true → self.now ≡ [] }
+    {
+        matches!(self.names, Trie::Empty)
+    }
+
     pub(crate) fn hides(&self, name: &[u8]) -> bool
         ensures { result ≡ names_in self.now name.now }
     {

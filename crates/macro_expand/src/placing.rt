@@ -64,6 +64,10 @@ fn union_with(
     ensures ok { IfOk result (λ all. IsUnion all own.now hidden.now) }
     ensures known { OnOk result (KnowsUnion hidden.now last.new) }
 {
+    // Tokens of the replacement list have no names of their own, and stand between those of arguments.
+    if own.is_none() {
+        return hidden.copy();
+    }
     match kept_union(last, own, hidden)? {
         Some(all) => Ok(all),
         None => unite(alloc, last, own, hidden),

@@ -106,7 +106,7 @@ pub(crate) fn read_parts<'d>(alloc: Global, d: &'d Definition) -> Result<Vec<Par
 fn with_one_joins<'d>(alloc: Global, each: &[Part<'d>]) -> Result<Vec<Part<'d>>, AllocError>
     ensures { IfOk result (λ parts. parts_seen parts.items ≡ one_joins false (parts_seen each.now)) }
 {
-    let mut parts = Vec::new(alloc);
+    let mut parts = Vec::with_capacity(alloc, each.len())?;
     let mut joined = false;
     for p in each {
         put_part(&mut parts, joined, *p)?;

@@ -2,4 +2,4 @@ use Rattle.std.proofs.Common.{◌≡◌, take}
 use Rattle.macro_defs.proofs.copies.copy_tokens.Given as goal
 
 abbrev pub invariant-loop-token : goal.invariant-loop-token
-invariant-loop-token l = l.copies ≡ take l.token-index l.tokens
+invariant-loop-token l = l.copies.items ≡ take l.token-index l.tokens

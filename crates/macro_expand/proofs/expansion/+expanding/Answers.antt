@@ -114,7 +114,7 @@ expand_head-returns-in-Ordinary-clause-ok g t c =
 
 pub expand_list-loop-t-init : goal.expand_list-loop-t-init
 expand_list-loop-t-init g t c =
-    (rw (c.new-out.ensures.items, c.of-pending.ensures) (sym (before-nothing _)), omega arith)
+    (rw (c.in_ok-out.ensures.items, c.of-pending.ensures) (sym (before-nothing _)), omega arith)
 
 pub expand_list-loop-t-preserved : goal.expand_list-loop-t-preserved
 expand_list-loop-t-preserved g t c = (
@@ -126,7 +126,7 @@ expand_list-loop-t-preserved g t c = (
 
 pub expand_list-returns-in_err-expand_head-clause-err : goal.expand_list-returns-in_err-expand_head-clause-err
 expand_list-returns-in_err-expand_head-clause-err g t c =
-    let p = err_from_is_err_and c.from_residual.result c.from_residual.ensures.1 in
+    let p = err_from_is_err_and c.from_residual-in_err-expand_head.result c.from_residual-in_err-expand_head.ensures.1 in
     rw (p.1, p.2) (stops_step (g.A.Answers.answerer c.args.source.now) c.args.mode c.args.depth
     (expanded_for (g.A.Answers.answerer c.args.source.now) c.args.answers.now c.args.mode c.args.depth c.args.work.now.left (map marked_of c.args.given.items))
     c.loop-t.out.items c.in-Some.t c.loop-t.answers c.expand_head.new.answers c.loop-t.work.left c.loop-t.pending c.pop.new.self _ c.in-Some.ensures.first c.in_err-expand_head.ensures.err c.loop-t.invariant.0)
