@@ -1,7 +1,6 @@
 // Jobs and their outcomes.
-use crate::Wrong;
-use crate::text::{bytes_of, say, say_lines, say_value};
 use base_types::{Bytes, List};
+use case_texts::{Wrong, bytes_of, say, say_lines, say_value};
 use daemon_cpp::{Outcome, preprocess};
 use job_words::{Job, read_words};
 use std::alloc::Global;

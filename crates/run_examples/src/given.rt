@@ -1,18 +1,14 @@
 // What a run is given.
-use crate::Wrong;
-use crate::node::{Node, dir_of, file_of, link_of};
-use crate::text::{bytes_of, number_of};
+use case_texts::{Nodes, Wrong, bytes_of, number_of};
 use std::alloc::Global;
 use std::mem::replace;
 
-/// What a run is given: its name, its words, its list where one was said, its nodes, the numbers of the calls that fail, and how many
-/// bytes come at a time, or 0 where that has no bound.
+/// What a run is given: its list where one was said, its nodes, the numbers of the calls that fail, and how many bytes come at
+/// a time, or 0 where that has no bound.
 #[derive(Drop)]
-pub struct Given<'a> {
-    pub name: &'a str,
-    pub words: &'a str,
+pub struct Given {
     pub list: Option<Vec<u8>>,
-    pub nodes: Vec<Node>,
+    pub nodes: Nodes,
     pub list_fails: Vec<u64>,
     pub tree_fails: Vec<u64>,
     pub outs_fails: Vec<u64>,
@@ -20,14 +16,12 @@ pub struct Given<'a> {
     pub piece: u32,
 }
 
-impl<'a> Given<'a> {
-    /// A run of which nothing but the name was said.
-    pub fn new(alloc: Global, name: &'a str) -> Given<'a> {
+impl Given {
+    /// A run of which nothing was said.
+    pub fn new(alloc: Global) -> Given {
         Given {
-            name,
-            words: "order - --hosts daemon -j 1",
             list: None,
-            nodes: Vec::new(alloc),
+            nodes: Nodes::new(alloc),
             list_fails: Vec::new(alloc),
             tree_fails: Vec::new(alloc),
             outs_fails: Vec::new(alloc),
@@ -37,18 +31,18 @@ impl<'a> Given<'a> {
     }
 
     /// Takes a line, which says more of what the run is given.
-    pub fn take(&mut self, alloc: Global, word: &str, rest: &'a str) -> Result<(), Wrong> {
+    pub fn take(&mut self, alloc: Global, word: &str, rest: &str) -> Result<(), Wrong> {
         match word {
-            "words" => self.words = rest,
-            "list" => self.list_more(alloc, 1, rest)?,
-            "repeat" => self.repeat(alloc, rest)?,
-            "dir" => self.nodes.push(dir_of(alloc, rest)?)?,
-            "file" => self.nodes.push(file_of(alloc, rest)?)?,
-            "link" => self.nodes.push(link_of(alloc, rest)?)?,
-            "fails" => self.fail(rest)?,
-            "piece" => self.piece = number_of(rest)?,
-            _ => return Err(Wrong::Form("a word that isn't known")),
+            "list" => self.list_more(alloc, 1, rest),
+            "repeat" => self.repeat(alloc, rest),
+            "fails" => self.fail(rest),
+            "piece" => self.bound(rest),
+            _ => self.nodes.take(alloc, word, rest),
         }
+    }
+
+    fn bound(&mut self, rest: &str) -> Result<(), Wrong> {
+        self.piece = number_of(rest)?;
         Ok(())
     }
 

@@ -1,11 +1,9 @@
 // A run, and what comes of it.
 ghost use Rattle.std.specs.Prelude.{◌<◌, All, IfOk};
 
-use crate::Wrong;
 use crate::given::Given;
-use crate::node::entries_of;
-use crate::text::{say, say_value};
 use base_types::Bytes;
+use case_texts::{Wrong, say, say_value};
 use io_edges::{Exchange, MemOuts};
 use std::alloc::{AllocError, Global};
 use std::marker::Brand;
@@ -18,25 +16,24 @@ pub fn do_run<H: Threads + Wait + Sync>(
     handles: &H,
     alloc: Global,
     out: &mut String,
-    given: Given<'_>,
+    given: Given,
+    words: &str,
 ) -> Result<(), Wrong> {
-    say(out, "run", given.name.as_bytes())?;
-    match run_given(handles, alloc, given) {
-        Ok(ended) => say_ended(out, &ended)?,
-        Err(NoRun::Entries(why)) => say_value(out, "no tree:", &why)?,
-        Err(NoRun::Memory) => return Err(Wrong::Memory),
+    match run_given(handles, alloc, given, words) {
+        Ok(ended) => say_ended(out, &ended),
+        Err(NoRun::Entries(why)) => say_value(out, "no tree:", &why),
+        Err(NoRun::Memory) => Err(Wrong::Memory),
     }
-    Ok(out.push('\n')?)
 }
 
 // `Brand` names the tree of the run's entries: the proof of this function picks it.
 fn run_given<H: Threads + Wait + Sync>(
     handles: &H,
     alloc: Global,
-    given: Given<'_>,
+    given: Given,
+    words: &str,
 ) -> Result<Ended, NoRun> {
     let Given {
-        words,
         list,
         nodes,
         list_fails,
@@ -44,11 +41,10 @@ fn run_given<H: Threads + Wait + Sync>(
         outs_fails,
         wire_fails,
         piece,
-        ..
     } = given;
     let words = words_of(alloc, words)?;
     let list = list_of(alloc, list)?;
-    let entries = entries_of(alloc, nodes)?;
+    let entries = nodes.into_entries(alloc)?;
     let objects = Objects {
         tree_fails,
         outs_fails,
@@ -59,6 +55,11 @@ fn run_given<H: Threads + Wait + Sync>(
 }
 
 fn words_of<'a>(alloc: Global, line: &'a str) -> Result<Vec<&'a str>, AllocError> {
+    let line = if line.is_empty() {
+        "order - --hosts daemon -j 1"
+    } else {
+        line
+    };
     let mut words = Vec::new(alloc);
     for word in line.split_whitespace() {
         words.push(word)?;

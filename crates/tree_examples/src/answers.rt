@@ -1,9 +1,8 @@
 // The answers to questions about a tree.
-use crate::Wrong;
 use crate::frames::{answer_reply, answer_request};
-use crate::paths::{answer_child, answer_first, answer_path, path_of};
-use crate::text::{push_bytes, say, say_lines, say_value, say_word};
+use crate::paths::{answer_child, answer_first, answer_path};
 use base_types::{Bytes, List};
+use case_texts::{Wrong, path_of, push_bytes, say, say_lines, say_value, say_word};
 use closure_fixpoint::{Analysed, analyse};
 use job_words::{Job, read_words};
 use std::alloc::{AllocError, Global};

@@ -2,9 +2,8 @@
 ghost use Rattle.std.specs.Prelude.{◌≡◌, true};
 ghost use Rattle.job_frames.specs.Reply.{IsAnswer};
 
-use crate::Wrong;
-use crate::text::{bytes_of, say, say_value, say_word};
 use base_types::List;
+use case_texts::{Wrong, bytes_of, say, say_value, say_word};
 use job_frames::{Answer, Fed, ReplyReader, RequestReader, write_reply};
 use job_words::Job;
 use std::alloc::Global;

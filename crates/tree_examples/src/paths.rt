@@ -1,16 +1,7 @@
 // The answers to questions about paths.
-use crate::Wrong;
-use crate::text::{say, say_value, say_word};
+use case_texts::{Wrong, path_of, say, say_value, say_word};
 use std::alloc::Global;
 use tree_model::{CanonPath, judge_path};
-
-/// The path that a text spells.
-pub fn path_of(alloc: Global, text: &[u8]) -> Result<CanonPath, Wrong> {
-    match CanonPath::read(alloc, text)? {
-        Some(path) => Ok(path),
-        None => Err(Wrong::Form("a path that isn't canonical")),
-    }
-}
 
 /// A path, its parent, and its parent's spelling.
 pub fn answer_path(alloc: Global, out: &mut String, text: &str) -> Result<(), Wrong> {

@@ -1,6 +1,6 @@
 use Rattle.std.specs.Prelude.{IsTrue}
 use Rattle.tree_model.specs.Entries.{links_fit}
-use Rattle.tree_examples.proofs.case.entries_of.Given as goal
+use Rattle.case_texts.proofs.nodes.Nodes.into_entries.Given as goal
 
 abbrev pub invariant-loop-node : goal.invariant-loop-node
 invariant-loop-node l = IsTrue (links_fit l.entries.items)

@@ -1,6 +1,0 @@
-use Rattle.std.specs.Prelude.{IsTrue}
-use Rattle.tree_model.specs.Entries.{links_fit}
-use Rattle.job_texts.proofs.case.entries_of.Given as goal
-
-abbrev pub invariant-loop-node : goal.invariant-loop-node
-invariant-loop-node l = IsTrue (links_fit l.entries.items)
