@@ -152,19 +152,15 @@ fn leased(rt: &impl Abort, state: &mut SlotState, host: u32) -> Lease {
 }
 
 fn has_no_slot(rt: &impl Abort, state: &mut SlotState) {
-    if let Some(lease) = state.take() {
-        lease.spend();
-        panic!(rt; "a slot past the limits");
+    match state.take() {
+        None => (),
+        Some(_lease) => panic!(rt; "a slot past the limits"),
     }
 }
 
 fn give_back(rt: &impl Abort, state: &mut SlotState, lease: Lease) {
-    if state.has_leased(lease.host()) {
-        state.give(lease);
-    } else {
-        lease.spend();
-        panic!(rt; "no slot to give back");
-    }
+    assert!(rt; state.has_leased(lease.host()), "a slot to give back");
+    state.give(lease);
 }
 
 // How often each thread leases the slot.
