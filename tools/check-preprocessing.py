@@ -4,8 +4,12 @@
 PROGRAM is `pump_program` as it was built. For each header below /usr/include, or for COUNT of them spread evenly, a source of
 one line includes it. The program and `gcc -E -undef -nostdinc` get the same words: the macros that GCC has by itself, as -D,
 and its directories, as -isystem. Where GCC takes the source, the program's text must have the same tokens and pragmas as GCC's,
-or the program answers with a diagnostic, each of which is counted by its words. `#pragma GCC system_header` doesn't count: GCC
-obeys it and doesn't write it. Texts that differ are named with their first difference, and the status is then 1.
+or the program answers with a diagnostic, each of which is counted by its words. Texts that differ are named with their first
+difference, and the status is then 1.
+
+What docs/COMPATIBILITY.md says of differences doesn't count: GCC is told not to have `__has_attribute` and its like, `_Pragma`
+is taken for the pragma that GCC makes of it, and `#pragma GCC system_header` is passed over, which GCC obeys and doesn't write.
+Nor does what stands behind an unpaired `'` on its line, which is undefined (ISO C 6.4 paragraph 3): C++ has such in numbers.
 """
 import collections
 import os
@@ -22,6 +26,7 @@ TOKEN = re.compile(
 )
 MARKER = re.compile(r'# [0-9]+ "')
 OBEYED = ["#", "pragma", "GCC", "system_header"]
+LACKING = ["-U__has_attribute", "-U__has_cpp_attribute", "-U__has_c_attribute", "-U__has_builtin"]
 
 
 def output_of(command, text=""):
@@ -46,16 +51,33 @@ def directory_words():
 
 
 def tokens_of(text):
-    """The tokens of a preprocessed text; a pragma's line is one."""
+    """The tokens of a preprocessed text; a pragma is one."""
     tokens = []
     for line in text.splitlines():
         if MARKER.match(line):
             continue
         found = TOKEN.findall(line)
+        if "'" in found:
+            found = found[: found.index("'")]
         if found == OBEYED:
             continue
-        tokens += [" ".join(found)] if line.lstrip().startswith("#pragma") else found
+        tokens += [" ".join(found)] if line.lstrip().startswith("#pragma") else pragmas_in(found)
     return tokens
+
+
+def pragmas_in(tokens):
+    """The tokens of a line, with each `_Pragma` operator as the pragma that it stands for (ISO C 6.10.9)."""
+    made = []
+    while "_Pragma" in tokens:
+        match tokens:
+            case ["_Pragma", "(", literal, ")", *rest] if literal.startswith('"'):
+                words = literal[1:-1].replace('\\"', '"').replace("\\\\", "\\")
+                made.append(" ".join(["#", "pragma", *TOKEN.findall(words)]))
+                tokens = rest
+            case [first, *rest]:
+                made.append(first)
+                tokens = rest
+    return made + tokens
 
 
 def list_word(word):
@@ -103,7 +125,7 @@ def main():
         for header in chosen:
             with open(os.path.join(folder, "unit.c"), "w", encoding="latin-1") as file:
                 file.write(f"#include <{header}>\n")
-            gcc = output_of(["gcc", "-E", "-undef", "-nostdinc", *words, os.path.join(folder, "unit.c")])
+            gcc = output_of(["gcc", "-E", "-undef", "-nostdinc", *words, *LACKING, os.path.join(folder, "unit.c")])
             if gcc.returncode != 0:
                 refused += 1
                 continue
