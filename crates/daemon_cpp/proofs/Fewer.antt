@@ -3,11 +3,13 @@ use Rattle.std.proofs.Common.{◌≡◌, ◌≤◌, ◌+◌, ℕ, suc, List, [],
 use Rattle.std.specs.Prelude.{if◌then◌else◌}
 use Rattle.std.specs.List.{flat_map}
 use Rattle.pp_tokens.specs.declared.Token.{Token}
-use Rattle.pp_tokens.specs.Lines.{spells_hash}
+use Rattle.pp_tokens.specs.Lines.{LexedFile, spells_hash}
 use Rattle.directive_scan.specs.declared.Directive.{Directive}
 use Rattle.directive_scan.specs.declared.Piece.{Piece}
 use Rattle.directive_scan.specs.declared.Piece.TheVariants.{Run, Line}
 use Rattle.directive_scan.specs.Directives.{directive_of, onto_run, line_before, pieces}
+use Rattle.daemon_cpp.specs.declared.lexed_files.FileText.{FileText}
+use Rattle.daemon_cpp.specs.parts.FileTexts.{IsTextOf, HasFewPieces}
 use Rattle.daemon_cpp.specs.parts.Reading.{token_count}
 
 -- how many runs stand first: a line of text goes on with one
@@ -54,3 +56,7 @@ pieces_few (line ∷ lines) =
 
 pub pieces-few : (lines : List (List Token)) → length (pieces lines) ≤ suc (token_count lines + token_count lines)
 pieces-few lines = omega (arith, pieces_few lines, at_most_one (pieces lines))
+
+-- so are those of what is kept of it
+pub text_few : (file : LexedFile) (text : FileText) → IsTextOf file text → HasFewPieces text
+text_few file text is = rw (is.pieces, is.tokens) (pieces-few file.lines)

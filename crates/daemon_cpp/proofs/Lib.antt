@@ -15,7 +15,6 @@
 --     Flat         pieces one after another are groups
 --     Skipping     pieces that aren't read
 --     Sections     where an if-section goes on
---     Work         the work of opening a file
 --     Fewer        the pieces of a file are few
 --     Openings     what opening a file leads to
 --     Frames       what is left to read of the files around the one that is read
@@ -37,8 +36,7 @@ pub mod DefinedSteps
 pub mod Flat
 pub mod Skipping
 pub mod Sections
-mod Work
-mod Fewer
+pub mod Fewer
 mod Openings
 mod Frames
 mod Readers

@@ -30,6 +30,7 @@ use crate::condition::test_line;
 use crate::diagnostic::{Diagnostic, Problem};
 use crate::header::forced;
 use crate::kept::{Kept, Places, first_table};
+use crate::lexed_files::LexedFiles;
 use crate::line::NewLine;
 use crate::numbering::Numbering;
 use crate::once::OnceMarks;
@@ -58,8 +59,9 @@ const WORK_LIMIT: u64 = 20_000_000;
 
 /// Preprocesses a job over a tree: translation phases 1 to 4 (ISO C 5.1.1.2) of the files that its words name, of its
 /// source, found by the working directory and the source's name, and of the files that these include (6.10.2). Time is
-/// linear in the bytes of the files read, each counted as often as it is included, and in the work of macro expansion. Includes
-/// and conditionals take no more of the program's stack, however deep.
+/// linear in the bytes of the files read, each counted as often as it is included, and in the work of macro expansion; a file
+/// that is included again is compared, and not lexed again. Includes and conditionals take no more of the program's stack,
+/// however deep.
 ///
 /// `Fault` comes where the tree failed, `Memory` where no memory was found; all else is an `Outcome`.
 pub fn preprocess<T: Tree>(alloc: Global, tree: &mut T, job: &Job) -> Result<Outcome, CppError>
@@ -322,7 +324,7 @@ impl Reader {
         ensures comes { IfOk result (λ reader. (world : World) (forced : List Text) → ComesTo (source_behind world source.now forced) reader (source_told world macros.now source.now forced)) }
     {
         let place = source.0.place.copy(alloc)?;
-        let file = OpenFile::copy_of(alloc, source, Pieces::empty(alloc))?;
+        let file = OpenFile::copy_of(alloc, source, Pieces::empty(alloc)?)?;
         let macros = first_table(alloc, macros)?;
         Ok(Reader::alone(alloc, place, layout, macros, file))
     }
@@ -352,6 +354,7 @@ impl Reader {
                 work: Work { left: WORK_LIMIT },
                 once: OnceMarks::new(alloc),
                 opened: List::new(alloc),
+                lexed: LexedFiles::new(alloc),
             },
             file,
             around: Vec::new(alloc),

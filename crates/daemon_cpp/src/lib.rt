@@ -8,6 +8,7 @@ mod defined;
 mod diagnostic;
 mod header;
 mod kept;
+mod lexed_files;
 mod line;
 mod numbering;
 mod once;

@@ -3,18 +3,20 @@ ghost use Rattle.std.specs.Prelude.{◌≡◌, ◌≤◌, ◌+◌, ◌++◌, ◌
 ghost use Rattle.std.specs.Option.{ForSome};
 ghost use Rattle.base_types.specs.Causes.{HasCause};
 ghost use Rattle.directive_scan.specs.Groups.{outline, role_of};
-ghost use Rattle.pp_tokens.specs.Lines.{lexed};
+ghost use Rattle.pp_tokens.specs.Lines.{lexed, LexedFile};
 ghost use Rattle.daemon_cpp.specs.Prep.{World, Here, world_of, and_then, say, run_outline, run_file, open_file};
-ghost use Rattle.daemon_cpp.specs.parts.Reading.{front_events, token_count, work_after, run_body, malformed_told, run_flat, reading};
+ghost use Rattle.daemon_cpp.specs.parts.Reading.{front_events, work_after, run_body, malformed_told, run_flat, reading};
+ghost use Rattle.daemon_cpp.specs.parts.FileTexts.{IsTextOf};
 ghost use Rattle.daemon_cpp.specs.parts.Showing.{Opens, Begins, Goes, Refuses};
 
 use crate::diagnostic::Problem;
 use crate::kept::Kept;
+use crate::lexed_files::FileText;
 use crate::stop::{Stop, refused};
 use crate::tree::read_body;
+use base_types::Bytes;
 use cpp_output::LayError;
 use directive_scan::{Malformed, Pieces, nesting_told, one_outline};
-use pp_tokens::{Lexed, lex};
 use search_path::{Setup, Visit};
 use std::alloc::{AllocError, Global};
 use tree_model::{CanonPath, Located, Tree, shown};
@@ -38,10 +40,7 @@ pub fn open_file<T: Tree>(
     let (visit, located) = file;
     note_opened(alloc, kept, &visit.place)?;
     match read_body(alloc, tree, &located.real) {
-        Ok(Some(body)) => {
-            let place = &visit.place;
-            open_body(alloc, kept, setup, source, place, included, body.as_slice())
-        }
+        Ok(Some(body)) => { open_body(alloc, kept, setup, source, file, included, body) }
         Ok(None) => Err(refused(alloc, &visit.place, 0, Problem::TooLarge)),
         Err(stop) => Err(stop),
     }
@@ -61,61 +60,55 @@ fn open_body(
     kept: &mut Kept,
     setup: &Setup,
     source: &CanonPath,
-    place: &CanonPath,
+    found: &(Visit, Located),
     included: bool,
-    body: &[u8],
+    body: Bytes,
 ) -> Result<Pieces, Stop>
-    requires { length body.now ≤ 16777216 }
-    ensures begins { (world : World) (file : Here) → file.place ≡ place.now → Begins kept.old kept.new source.now file world
-        (λ entering state. run_body world entering (front_events included place.now) (lexed setup.now.trigraphs body.now) state) result }
+    requires { length body ≤ 16777216 }
+    ensures begins { (world : World) (file : Here) → file.place ≡ found.now.0.place → Begins kept.old kept.new source.now file world
+        (λ entering state. run_body world entering (front_events included found.now.0.place) (lexed setup.now.trigraphs body) state) result }
     ensures shortens { IfOk result (λ pieces. length pieces + 1 + (kept.new.work.left + kept.new.work.left) ≤ kept.old.work.left + kept.old.work.left) }
     ensures no_fault { IsErrOf result Stop.Fault → ⊥ }
 {
-    let lexed = lex(alloc, body, setup.trigraphs())?;
-    match pay(&lexed, kept.work.left) {
+    let (visit, located) = found;
+    let text = kept
+        .lexed
+        .text_of(alloc, &located.real, body, setup.trigraphs())?;
+    match pay(text.tokens, kept.work.left) {
         Some(left) => {
             kept.work.left = left;
-            open_lexed(alloc, kept, source, place, included, lexed)
+            open_text(alloc, kept, source, &visit.place, included, text)
         }
         None => Err(refused(alloc, source, 0, Problem::WorkLimit)),
     }
 }
 
 // The work left when a unit is paid, and one for each token; None where it isn't enough.
-fn pay(file: &Lexed, left: u64) -> Option<u64>
-    ensures { result ≡ work_after (suc (token_count file.now.lines)) left }
+fn pay(tokens: u64, left: u64) -> Option<u64>
+    ensures { result ≡ work_after (suc tokens) left }
 {
-    let mut rest = left.checked_sub(1)?;
-    for line in 0..file.line_count() {
-        let count = file.token_count(line) as u64;
-        if count > rest {
-            return None;
-        }
-        rest -= count;
-    }
-    Some(rest)
+    left.checked_sub(1)?.checked_sub(tokens)
 }
 
 // A file whose work is paid.
-fn open_lexed(
+fn open_text(
     alloc: Global,
     kept: &mut Kept,
     source: &CanonPath,
     place: &CanonPath,
     included: bool,
-    lexed: Lexed,
+    text: FileText,
 ) -> Result<Pieces, Stop>
-    ensures begins { (world : World) (file : Here) → file.place ≡ place.now → Begins kept.old kept.new source.now file world
+    ensures begins { (world : World) (file : Here) (lexed : LexedFile) → file.place ≡ place.now → IsTextOf lexed text → Begins kept.old kept.new source.now file world
         (λ entering state. run_file world entering (front_events included place.now) lexed lexed.unended state) result }
-    ensures few { IfOk result (λ pieces. length pieces ≤ suc (token_count lexed.lines + token_count lexed.lines)) }
+    ensures pieces { IfOk result (λ opened. opened ≡ text.pieces) }
     ensures work { kept.new.work ≡ kept.old.work }
     ensures no_fault { IsErrOf result Stop.Fault → ⊥ }
 {
-    if let Some(line) = lexed.open_comment() {
+    if let Some(line) = text.open_comment {
         return Err(refused(alloc, place, line, Problem::OpenComment));
     }
-    let pieces = Pieces::of(alloc, lexed)?;
-    open_pieces(alloc, kept, source, place, included, pieces)
+    open_pieces(alloc, kept, source, place, included, text.pieces)
 }
 
 // A file whose comments are ended.

@@ -14,25 +14,33 @@ use crate::spots::{Spot, spots};
 use pp_tokens::{Lexed, Tokens};
 use std::alloc::{AllocError, Global};
 use std::marker::Model;
+use std::sync::Arc;
 
 /// A lexed file, cut into its pieces (ISO C 6.10): its directives, and the runs of text lines between them. No token is
-/// copied: a piece is lent, and a directive's tokens are made where it is read.
+/// copied: a piece is lent, and a directive's tokens are made where it is read. Copies share what they hold.
 #[derive(Drop)]
 pub struct Pieces {
+    parts: Arc<Parts, Global>,
+}
+
+// What the pieces of a file and their copies hold.
+#[derive(Drop)]
+struct Parts {
     lexed: Lexed,
     spots: Vec<Spot>,
 }
 
 impl Model for Pieces {
     ghost use Rattle.std.specs.Prelude.{List, map};
+    ghost use Rattle.std.specs.Arc.{arc_value};
     ghost use Rattle.directive_scan.specs.declared.directive.Piece.{Piece};
     ghost use Rattle.directive_scan.specs.Spots.{piece_at, EachKnowsRole};
 
     ghost Value = { List Piece };
 
-    ghost view = { λ p. map (piece_at p.lexed) p.spots.items };
+    ghost view = { λ p. let parts = arc_value p.parts in map (piece_at parts.lexed) parts.spots.items };
 
-    ghost invariant = { λ p. EachKnowsRole p.lexed p.spots.items };
+    ghost invariant = { λ p. EachKnowsRole (arc_value p.parts).lexed (arc_value p.parts).spots.items };
 }
 
 /// A directive that lies in its file.
@@ -55,25 +63,39 @@ impl Pieces {
         ensures { IfOk result (λ ps. ps ≡ pieces lexed.lines) }
     {
         let spots = spots(alloc, &lexed)?;
-        Ok(Pieces { lexed, spots })
+        Ok(Pieces {
+            parts: Arc::new(alloc, Parts { lexed, spots })?,
+        })
     }
 
-    /// Those of a file without lines: none.
+    /// Those of a file without lines: none. The only error is want of memory.
     #[tactic(auto, unfolding(crate::specs::Spots::EachKnowsRole))]
-    pub fn empty(alloc: Global) -> Pieces
-        ensures { result ≡ [] }
+    pub fn empty(alloc: Global) -> Result<Pieces, AllocError>
+        ensures { IfOk result (λ ps. ps ≡ []) }
     {
-        Pieces {
+        let parts = Parts {
             lexed: Lexed::empty(alloc),
             spots: Vec::new(alloc),
-        }
+        };
+        Ok(Pieces {
+            parts: Arc::new(alloc, parts)?,
+        })
+    }
+
+    /// A copy, which takes no memory and no time. It is refused only where there are 2^63 copies.
+    pub fn copy(&self) -> Result<Pieces, AllocError>
+        ensures { IfOk result (λ copy. copy ≡ self.now) }
+    {
+        Ok(Pieces {
+            parts: Arc::try_clone(&self.parts)?,
+        })
     }
 
     /// How many there are.
     pub fn len(&self) -> usize
         ensures { result ≡ length self.now }
     {
-        self.spots.len()
+        self.parts.spots.len()
     }
 
     /// The first malformed line of the file: an `#elif`, `#else` or `#endif` that has no place there, or at the end of
@@ -81,7 +103,7 @@ impl Pieces {
     pub fn malformed(&self, alloc: Global) -> Result<Option<Malformed>, AllocError>
         ensures { IfOk result (λ found. found ≡ malformed_by (outline role_of self.now)) }
     {
-        first_malformed(alloc, &self.spots)
+        first_malformed(alloc, &self.parts.spots)
     }
 
     /// What the piece with a number is to the nesting of conditionals (ISO C 6.10.1). No token is read.
@@ -89,7 +111,7 @@ impl Pieces {
         requires { number < length self.now }
         ensures { (p : Piece) → role_told result ≡ role_of (get_or self.now number p) }
     {
-        match self.spots[number] {
+        match self.parts.spots[number] {
             Spot::Text { .. } => Nesting::Single,
             Spot::Line { nesting, .. } => nesting,
         }
@@ -101,12 +123,12 @@ impl Pieces {
         ensures shown { piece_seen result ≡ get_or self.now number (piece_seen result) }
         ensures few { number + 1 ≤ 18446744073709551615 }
     {
-        match self.spots[number] {
-            Spot::Text { from, end } => PieceRef::Run(self.lexed.tokens(from, end)),
+        match self.parts.spots[number] {
+            Spot::Text { from, end } => PieceRef::Run(self.parts.lexed.tokens(from, end)),
             Spot::Line { line, at, .. } => PieceRef::Line {
                 at,
                 what: DirectiveRef {
-                    lexed: &self.lexed,
+                    lexed: &self.parts.lexed,
                     line,
                 },
             },

@@ -1,6 +1,8 @@
 use Rattle.std.proofs.Common.{◌<◌, List, length, get_or, ◌∙◌, sym, ap, arith}
+use Rattle.std.specs.Arc.{arc_value}
 use Rattle.std.proofs.lemmas.List.{length-map}
 use Rattle.directive_scan.specs.declared.directive.Piece.{Piece}
+use Rattle.directive_scan.specs.declared.pieces.Parts.{Parts}
 use Rattle.directive_scan.specs.Groups.{role_of}
 use Rattle.directive_scan.specs.Spots.{piece_at}
 use Rattle.directive_scan.proofs.Roles.{role_here}
@@ -8,8 +10,9 @@ use Rattle.directive_scan.proofs.pieces.Pieces.nesting.Goals as goal
 
 pub returns-in-Line : goal.returns-in-Line
 returns-in-Line c p =
-    let file = c.self.inside.lexed in
-    let spots = c.self.inside.spots.items in
+    let parts = arc_value c.self.inside.parts in
+    let file = parts.lexed in
+    let spots = parts.spots.items in
     let below : c.args.number < length spots = omega (arith, ap length c.self.view_is, length-map spots (piece_at file)) in
-    role_here file spots c.args.number c.index.result.now c.in-Line.line c.in-Line.at c.in-Line.nesting p c.self.invariant below (sym c.index.ensures ∙ c.in-Line.is)
+    role_here file spots c.args.number c.index.result.now c.in-Line.line c.in-Line.at c.in-Line.nesting p c.self.invariant below (sym (ap (λ (q : Parts). get_or q.spots.items c.args.number c.index.result.now) c.deref.ensures) ∙ (sym c.index.ensures ∙ c.in-Line.is))
     ∙ ap (λ (ps : List Piece). role_of (get_or ps c.args.number p)) c.self.view_is
