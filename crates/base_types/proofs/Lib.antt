@@ -1,3 +1,7 @@
 -- Lemmas.
---     Listed    searching a list by a test that tells its members apart
+--     Listed     searching a list by a test that tells its members apart
+--     Lists      all members of a longer list, and rows from a place on
+--     Results    results that are no errors
 pub mod Listed
+pub mod Lists
+pub mod Results
