@@ -1,8 +1,9 @@
 -- Sets that are made of two.
-use Rattle.std.proofs.Common.{◌≡◌, ℕ, ◌<◌, ◌⊎◌, inl, inr, Bool, true, false, ◌&&◌, ◌==◌, if◌then◌else◌, List, [], ◌∷◌, length, refl, sym, ap, ◌∙◌, subst, arith, true≢false, Some, None, Option, IfSome}
+use Rattle.std.proofs.Common.{◌≡◌, ℕ, ◌<◌, ◌⊎◌, inl, inr, Bool, true, false, ◌==◌, if◌then◌else◌, List, [], ◌∷◌, length, refl, sym, ap, ◌∙◌, subst, arith, true≢false, Some, None, Option, IfSome}
 use Rattle.std.specs.Cmp.{unsigned_Decides}
 use Rattle.std.proofs.lemmas.Option.{same_Some}
 use Rattle.std.specs.HashMap as map
+use Rattle.std.proofs.lemmas.Bool.{and_parts}
 use Rattle.hide_sets.specs.declared.set_number.SetNumber.{SetNumber}
 use Rattle.hide_sets.specs.declared.nodes.Node.{Node}
 use Rattle.hide_sets.specs.declared.operation.Operation.{Operation}
@@ -73,14 +74,9 @@ combines-made op n0 n1 n2 n3 x y z a b s t e1 e2 e3 ka kb known at_a at_b at_s h
     }
 
 -- pairs that are found to be the same are the same
-both-true : (p q : Bool) → (p && q) ≡ true → (p ≡ true) × (q ≡ true)
-both-true true true is = (refl, refl)
-both-true true false is = absurd (true≢false (sym is))
-both-true false q is = absurd (true≢false (sym is))
-
 same_pair-is : (x y : Pair) → is_same_pair x y ≡ true → x ≡ y
 same_pair-is x y is =
-    let sets = both-true (x.low.number == y.low.number) (x.high.number == y.high.number) is in
+    let sets = and_parts (x.low.number == y.low.number) (x.high.number == y.high.number) is in
     let low = (unsigned_Decides x.low.number y.low.number).0 sets.0 in
     let high = (unsigned_Decides x.high.number y.high.number).0 sets.1 in
     λ i. record { low = record { number = low i }; high = record { number = high i } }

@@ -1,8 +1,8 @@
 -- What sets hide.
 use Rattle.std.proofs.Common.{◌≡◌, ℕ, ◌<◌, ◌≤◌, ◌⊎◌, inl, inr, Bool, true, false, ◌||◌, ◌==◌, List, [], ◌∷◌, ◌++◌, length, refl, sym, ap, ◌∙◌, subst, arith, true≢false, length-append, Result, Ok, Err, OnOk, OnErr}
-use Rattle.std.specs.Prelude.{bytes_eq, nat_lt}
+use Rattle.std.specs.Prelude.{bytes_eq}
 use Rattle.std.specs.Cmp.{unsigned_Decides}
-use Rattle.std.proofs.lemmas.Bool.{false_from_ne_true}
+use Rattle.std.proofs.lemmas.Bool.{false_from_ne_true, cases_lt}
 use Rattle.hide_sets.specs.declared.set_number.SetNumber.{SetNumber}
 use Rattle.hide_sets.specs.declared.operation.Operation.{Operation}
 use Rattle.hide_sets.specs.declared.nodes.Node.{Node}
@@ -12,14 +12,6 @@ use Rattle.hide_sets.specs.Interned.{Named, Interned, place_of, number_of, hidde
 use Rattle.hide_sets.proofs.TrieLemmas.{has-extends, has-empty, number-way}
 use Rattle.hide_sets.proofs.CombiningLemmas.{operator-either}
 use Rattle.hide_sets.proofs.PlaceLemmas.{place-kept, place-last, place-added, place-same}
-
--- which of two numbers is greater
-either-side : (a b : ℕ) → (a < b) ⊎ (b ≤ a)
-either-side a b = by (nat_lt a b) refl
-  where
-    by : (p : Bool) → nat_lt a b ≡ p → (a < b) ⊎ (b ≤ a)
-    by true p = inl (grind (arith, p))
-    by false p = inr (grind (arith, p))
 
 -- no set has a number that no name has
 pub beyond : (v : Interned) (s : SetNumber) (k : ℕ) → IsSet v s → length v.names ≤ k → has v.nodes s.number (way k) ≡ false
@@ -46,7 +38,7 @@ keeps-name : (names : List Named) (nodes : List Node) (x : Named) →
     Keeps (record { names = names; nodes = nodes }) (record { names = names ++ x ∷ []; nodes = nodes })
 keeps-name names nodes x = record {
   sets = λ s set. record { known = set.known; within = λ w is. omega (arith, set.within w is, length-append names (x ∷ [])) };
-  hides = λ s set n. by s set n (either-side (place_of n names) (length names));
+  hides = λ s set n. by s set n (cases_lt (place_of n names) (length names));
 }
   where
     by : (s : SetNumber) → IsSet (record { names = names; nodes = nodes }) s → (n : List ℕ) →
