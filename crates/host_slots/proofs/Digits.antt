@@ -2,7 +2,7 @@
 use Rattle.std.proofs.Common.{◌≡◌, ℕ, ◌+◌, ◌-◌, ◌*◌, ◌≤◌, ◌==◌, Bool, true, false, ◌&&◌, if◌then◌else◌, Some, None, [], ◌∷◌, length, get_or, take, drop, refl, arith}
 use Rattle.std.specs.Prelude.{nat_le}
 use Rattle.std.specs.List.{list_all}
-use Rattle.std.proofs.lemmas.Bool.{leb-true, leb-false, eqb-true}
+use Rattle.std.proofs.lemmas.Bool.{leb-true, leb-false, eqb-true, and_right}
 use Rattle.std.proofs.lemmas.List.{take_rest}
 use Rattle.host_slots.specs.Hosts.{Text, is_digit, value_behind, number_in}
 use Rattle.host_slots.specs.parts.Numbers.{number_behind, digit_behind}
@@ -23,10 +23,6 @@ above n most digits e = by_test (nat_le (value_behind n digits) most) refl
         absurd (omega (arith, within, more, grows))
     by_test false w = w
 
-last_false : (t w : Bool) → w ≡ false → (t && w) ≡ false
-last_false true w e = e
-last_false false w e = refl
-
 chosen : (t w : Bool) (n m : ℕ) → (if t && w then Some n else None) ≡ Some m → (t ≡ true) × (n ≡ m)
 chosen true true n m e = (refl, cc)
 chosen true false n m e = absurd (cc)
@@ -46,7 +42,7 @@ behind-none most n b digits e = by_tests (is_digit b) (nat_le (n * 10 + (b - 48)
   where
     by_tests : (t w : Bool) → is_digit b ≡ t → nat_le (n * 10 + (b - 48)) most ≡ w → (if t && w then Some (n * 10 + (b - 48)) else None) ≡ None → number_behind most n (b ∷ digits) ≡ None
     by_tests true true d k e = absurd (cc)
-    by_tests true false d k e = rw (last_false (list_all is_digit (b ∷ digits)) _ (above (n * 10 + (b - 48)) most digits k)) refl
+    by_tests true false d k e = rw (and_right (list_all is_digit (b ∷ digits)) _ (above (n * 10 + (b - 48)) most digits k)) refl
     by_tests false w d k e = rw d refl
 
 -- no digit more
