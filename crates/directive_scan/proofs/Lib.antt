@@ -1,4 +1,3 @@
-mod Lines
 mod Steps
 mod Spotted
 mod Roles

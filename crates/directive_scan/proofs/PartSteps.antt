@@ -1,8 +1,9 @@
 -- One more token of a condition's line.
-use Rattle.std.specs.Prelude.{◌≡◌, ◌<◌, ◌≤◌, ◌+◌, ℕ, Bool, true, false, List, [], ◌∷◌, ◌++◌, length, drop, get_or, map, if◌then◌else◌, Some, None, option_map, codes, refl, ◌||◌}
+use Rattle.std.specs.Prelude.{◌≡◌, ◌<◌, ◌≤◌, ◌+◌, ℕ, Bool, true, false, List, [], ◌∷◌, ◌++◌, length, drop, get_or, map, if◌then◌else◌, Some, None, option_map, codes, refl}
 use Rattle.std.proofs.Common.{sym, ◌∙◌, ap, append_assoc}
 use Rattle.std.specs.List.{list_any}
 use Rattle.std.proofs.lemmas.List.{append-nil, at_drop_more, at_drop_all}
+use Rattle.std.proofs.lemmas.Bool.{or_parts}
 use Rattle.pp_tokens.specs.declared.Token.{Token}
 use Rattle.pp_tokens.specs.Marks.{is_word, is_open, is_close}
 use Rattle.directive_scan.specs.declared.directive.Target.{Target}
@@ -142,22 +143,13 @@ goes_on behind_opening asks e a = absurd (cc)
 goes_on (wanted name) k e a = absurd (cc)
 goes_on (within name tokens n) k e a = absurd (cc)
 
-neither_left : (a b : Bool) → (a || b) ≡ false → a ≡ false
-neither_left true b e = absurd (cc)
-neither_left false b e = refl
-
-neither_right : (a b : Bool) → (a || b) ≡ false → b ≡ false
-neither_right true b e = absurd (cc)
-neither_right false b e = e
-
 all_written : (s : Stage) (line : List Token) → at_end s ≡ Some [] → list_any (is_word (codes "__has_include")) line ≡ false → parts_from s line ≡ Some (map Written line)
 unfolding parts_from
 all_written s [] e probeless = e
 all_written s (t ∷ ts) e probeless =
-    let first = neither_left (is_word (codes "__has_include") t) (list_any (is_word (codes "__has_include")) ts) probeless in
-    let others = neither_right (is_word (codes "__has_include") t) (list_any (is_word (codes "__has_include")) ts) probeless in
-    let step = goes_on s (sort_of t) e (no_probe t first) in
-    step.2 (λ next. parts_from next ts) t ∙ ap (part_before (Written t)) (all_written step.0 ts step.1 others)
+    let neither = or_parts (is_word (codes "__has_include") t) (list_any (is_word (codes "__has_include")) ts) probeless in
+    let step = goes_on s (sort_of t) e (no_probe t neither.0) in
+    step.2 (λ next. parts_from next ts) t ∙ ap (part_before (Written t)) (all_written step.0 ts step.1 neither.1)
 
 pub probeless : (line : List Token) → list_any (is_word (codes "__has_include")) line ≡ false → parts_of line ≡ Some (map Written line)
 unfolding parts_of
