@@ -3,7 +3,7 @@ use Rattle.std.proofs.Common.{◌≡◌, ℕ, ◌+◌, ◌<◌, Bool, true, fals
 use Rattle.std.specs.Prelude.{not, ◌&&◌, ◌||◌, bytes_eq}
 use Rattle.std.specs.Borrow.{Bor}
 use Rattle.std.specs.List.{list_any}
-use Rattle.std.proofs.Math.Bool.{or-false}
+use Rattle.std.proofs.Math.Bool.{or-false, and-false}
 use Rattle.std.proofs.Math.ListN.{take-append-drop}
 use Rattle.std.proofs.lemmas.Cmp.{nat_list_eq_equiv}
 use Rattle.std.proofs.lemmas.Slice.Eq.{bytes_eq-Decides}
@@ -62,10 +62,6 @@ in_middle test (n ∷ before) rest name is = ap (λ (b : Bool). test n || b) (in
     by true = refl
     by false = refl
 
-and_none : (p : Bool) → (p && false) ≡ false
-and_none true = refl
-and_none false = refl
-
 again_apart : (before rest : List (List ℕ)) (name : List ℕ) → list_any (bytes_eq name) before ≡ true → are_distinct (before ++ name ∷ rest) ≡ false
 unfolding are_distinct
 again_apart [] rest name is = absurd (true≢false (sym is))
@@ -76,7 +72,7 @@ again_apart (n ∷ before) rest name is = by (bytes_eq name n) refl is (λ left.
     by true same there more =
         ap (λ (b : Bool). not b && are_distinct (before ++ name ∷ rest)) (in_middle (bytes_eq n) before rest name (nat_list_eq_equiv.symm n name ∙ same))
     by false apart there more =
-        ap (λ (b : Bool). not (list_any (bytes_eq n) (before ++ name ∷ rest)) && b) (more there) ∙ and_none (not (list_any (bytes_eq n) (before ++ name ∷ rest)))
+        ap (λ (b : Bool). not (list_any (bytes_eq n) (before ++ name ∷ rest)) && b) (more there) ∙ and-false (not (list_any (bytes_eq n) (before ++ name ∷ rest)))
 
 one_more : (before : List (List ℕ)) (name : List ℕ) → are_distinct before ≡ true → list_any (bytes_eq name) before ≡ false → are_distinct (before ++ name ∷ []) ≡ true
 unfolding are_distinct

@@ -1,19 +1,10 @@
 -- Tokens that are parted at marks.
-use Rattle.std.proofs.Common.{◌≡◌, ℕ, Bool, true, false, List, [], ◌∷◌, ◌++◌, Option, Some, None, refl, sym, ap, ◌∙◌, true≢false, if◌then◌else◌, append_assoc}
-use Rattle.std.specs.Prelude.{◌||◌}
+use Rattle.std.proofs.Common.{◌≡◌, ℕ, Bool, true, false, List, [], ◌∷◌, ◌++◌, Option, Some, None, refl, sym, ap, ◌∙◌, if◌then◌else◌, append_assoc}
 use Rattle.std.specs.List.{list_any}
+use Rattle.std.proofs.lemmas.Bool.{or_parts}
 use Rattle.pp_tokens.specs.declared.Token.{Token}
 use Rattle.pp_tokens.specs.Marks.{is_comma, is_close}
 use Rattle.macro_defs.specs.Defining.{Parameters, IsParted, up_to_close, within_more, cut_at_commas, onto_first, listed, before_parameters, last_parameter, behind_names}
-
--- neither is there
-neither_left : (a b : Bool) → (a || b) ≡ false → a ≡ false
-neither_left true b is = absurd (true≢false is)
-neither_left false b is = refl
-
-neither_right : (a b : Bool) → (a || b) ≡ false → b ≡ false
-neither_right true b is = absurd (true≢false is)
-neither_right false b is = is
 
 -- The first `)`.
 
@@ -21,8 +12,8 @@ close_here : (before : List Token) (t : Token) (behind : List Token) → is_clos
 unfolding up_to_close
 close_here [] t behind mark first = ap (λ (b : Bool). if b then Some (record { within = []; rest = behind }) else within_more t (up_to_close behind)) mark
 close_here (u ∷ before) t behind mark first =
-    ap (λ (b : Bool). if b then Some (record { within = []; rest = before ++ t ∷ behind }) else within_more u (up_to_close (before ++ t ∷ behind))) (neither_left (is_close u) (list_any is_close before) first)
-    ∙ ap (within_more u) (close_here before t behind mark (neither_right (is_close u) (list_any is_close before) first))
+    ap (λ (b : Bool). if b then Some (record { within = []; rest = before ++ t ∷ behind }) else within_more u (up_to_close (before ++ t ∷ behind))) (or_parts (is_close u) (list_any is_close before) first).0
+    ∙ ap (within_more u) (close_here before t behind mark (or_parts (is_close u) (list_any is_close before) first).1)
 
 pub closed : (tokens before behind : List Token) → IsParted is_close tokens before behind → up_to_close tokens ≡ Some (record { within = before; rest = behind })
 closed tokens before behind parted = ap up_to_close parted.whole ∙ close_here before parted.mark behind parted.passes parted.first
@@ -31,8 +22,8 @@ pub unclosed : (tokens : List Token) → list_any is_close tokens ≡ false → 
 unfolding up_to_close
 unclosed [] none = refl
 unclosed (t ∷ tokens) none =
-    ap (λ (b : Bool). if b then Some (record { within = []; rest = tokens }) else within_more t (up_to_close tokens)) (neither_left (is_close t) (list_any is_close tokens) none)
-    ∙ ap (within_more t) (unclosed tokens (neither_right (is_close t) (list_any is_close tokens) none))
+    ap (λ (b : Bool). if b then Some (record { within = []; rest = tokens }) else within_more t (up_to_close tokens)) (or_parts (is_close t) (list_any is_close tokens) none).0
+    ∙ ap (within_more t) (unclosed tokens (or_parts (is_close t) (list_any is_close tokens) none).1)
 
 -- The pieces between commas.
 
@@ -40,8 +31,8 @@ comma_here : (before : List Token) (t : Token) (behind : List Token) → is_comm
 unfolding cut_at_commas
 comma_here [] t behind mark first = ap (λ (b : Bool). if b then [] ∷ cut_at_commas behind else onto_first t (cut_at_commas behind)) mark
 comma_here (u ∷ before) t behind mark first =
-    ap (λ (b : Bool). if b then [] ∷ cut_at_commas (before ++ t ∷ behind) else onto_first u (cut_at_commas (before ++ t ∷ behind))) (neither_left (is_comma u) (list_any is_comma before) first)
-    ∙ ap (onto_first u) (comma_here before t behind mark (neither_right (is_comma u) (list_any is_comma before) first))
+    ap (λ (b : Bool). if b then [] ∷ cut_at_commas (before ++ t ∷ behind) else onto_first u (cut_at_commas (before ++ t ∷ behind))) (or_parts (is_comma u) (list_any is_comma before) first).0
+    ∙ ap (onto_first u) (comma_here before t behind mark (or_parts (is_comma u) (list_any is_comma before) first).1)
 
 cut_once : (tokens before behind : List Token) → IsParted is_comma tokens before behind → cut_at_commas tokens ≡ before ∷ cut_at_commas behind
 cut_once tokens before behind parted = ap cut_at_commas parted.whole ∙ comma_here before parted.mark behind parted.passes parted.first
@@ -50,8 +41,8 @@ uncut : (tokens : List Token) → list_any is_comma tokens ≡ false → cut_at_
 unfolding cut_at_commas
 uncut [] none = refl
 uncut (t ∷ tokens) none =
-    ap (λ (b : Bool). if b then [] ∷ cut_at_commas tokens else onto_first t (cut_at_commas tokens)) (neither_left (is_comma t) (list_any is_comma tokens) none)
-    ∙ ap (onto_first t) (uncut tokens (neither_right (is_comma t) (list_any is_comma tokens) none))
+    ap (λ (b : Bool). if b then [] ∷ cut_at_commas tokens else onto_first t (cut_at_commas tokens)) (or_parts (is_comma t) (list_any is_comma tokens) none).0
+    ∙ ap (onto_first t) (uncut tokens (or_parts (is_comma t) (list_any is_comma tokens) none).1)
 
 -- there is a piece at least
 onto_some : (t : Token) (pieces : List (List Token)) → onto_first t pieces ≡ [] → ⊥
