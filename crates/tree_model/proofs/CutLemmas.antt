@@ -45,12 +45,32 @@ unslashed (x ∷ text) h = go (x == slash) (unslashed text) h
 pub no_cut : (text : Text) → None ≡ position (λ b. b == slash) text → components text ≡ text ∷ []
 no_cut text e = unslashed text (none-position text _ refl (sym e))
 
-but_last-append : (list : List Text) (name : Text) → but_last (list ++ name ∷ []) ≡ list
+some-part : (text : Text) → (part : Text) × ((parts : List Text) × (components text ≡ part ∷ parts))
+some-part [] = ([], ([], refl))
+some-part (b ∷ text) = by_test (b == slash) (some-part text)
+  where
+    by_test : (t : Bool) → (part : Text) × ((parts : List Text) × (components text ≡ part ∷ parts)) → (part : Text) × ((parts : List Text) × (cond t ([] ∷ components text) (onto_first b (components text)) ≡ part ∷ parts))
+    by_test true more = ([], (components text, refl))
+    by_test false more = (b ∷ more.0, (more.1.0, ap (onto_first b) more.1.1))
+
+-- the components on both sides of a `/`
+pub components-append : (front back : Text) → components (front ++ slash ∷ back) ≡ components front ++ components back
+components-append [] back = refl
+components-append (b ∷ front) back = by_test (b == slash) (components-append front back) (some-part front)
+  where
+    by_test : (t : Bool) → components (front ++ slash ∷ back) ≡ components front ++ components back → (part : Text) × ((parts : List Text) × (components front ≡ part ∷ parts))
+        → cond t ([] ∷ components (front ++ slash ∷ back)) (onto_first b (components (front ++ slash ∷ back))) ≡ cond t ([] ∷ components front) (onto_first b (components front)) ++ components back
+    by_test true ih more = ap (λ parts. [] ∷ parts) ih
+    by_test false ih more =
+        ap (onto_first b) (ih ∙ ap (λ parts. parts ++ components back) more.1.1)
+        ∙ ap (λ parts. onto_first b parts ++ components back) (sym more.1.1)
+
+pub but_last-append : (list : List Text) (name : Text) → but_last (list ++ name ∷ []) ≡ list
 but_last-append [] name = refl
 but_last-append (x ∷ []) name = refl
 but_last-append (x ∷ y ∷ list) name = ap (λ rest. x ∷ rest) (but_last-append (y ∷ list) name)
 
-last_of-append : (list : List Text) (name : Text) → last_of (list ++ name ∷ []) ≡ name
+pub last_of-append : (list : List Text) (name : Text) → last_of (list ++ name ∷ []) ≡ name
 last_of-append [] name = refl
 last_of-append (x ∷ []) name = refl
 last_of-append (x ∷ y ∷ list) name = last_of-append (y ∷ list) name

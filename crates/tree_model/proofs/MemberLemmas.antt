@@ -49,6 +49,7 @@ Member-map f x [] m = elim m [ ]
 Member-map f x (z ∷ xs) (inl e) = inl (ap f e)
 Member-map f x (z ∷ xs) (inr m) = inr (Member-map f x xs m)
 
+-- a member that passes makes a list pass
 pub list_any-true : {X : Type 0} (test : X → Bool) (x : X) (xs : List X) → Member x xs → test x ≡ true → list_any test xs ≡ true
 list_any-true test x [] m e = elim m [ ]
 list_any-true test x (z ∷ xs) (inl is) e = ap (λ b. b || list_any test xs) (ap test is ∙ e)

@@ -12,6 +12,7 @@ use Rattle.std.proofs.lemmas.List.{take-append-drop}
 use Rattle.std.proofs.lemmas.List.Folds.{list_any-append, list_all_more}
 use Rattle.std.proofs.Math.Seq.{append_snoc}
 use Rattle.std.specs.Cmp.Lexicographic.{slice_cmp}
+use Rattle.std.proofs.Math.Bool.{and-false, and-true}
 use lib.Pointwise.{pointwise}
 use Rattle.tree_model.specs.Paths.{Text, Path, slash, spelled, path_of}
 use Rattle.tree_model.specs.Trees.{by_bytes}
@@ -157,17 +158,9 @@ dir_there (e ∷ es) text inc =
 
 -- THE LAST
 
-and_false : (x : Bool) → (x && false) ≡ false
-and_false true = refl
-and_false false = refl
-
-and_true : (b : Bool) → (b && true) ≡ b
-and_true true = refl
-and_true false = refl
-
 last_at : (es : Entries) (text : Text) (d : Path × Entry) (n : ℕ) → Increasing es → suc n ≡ length es → below (spelled (get_or es n d).0) text ≡ comes_behind es text
 last_at [] text d n inc h = absurd (omega arith)
-last_at (e ∷ []) text d zero inc h = sym (and_true (below (spelled e.0) text))
+last_at (e ∷ []) text d zero inc h = sym (and-true (below (spelled e.0) text))
 last_at (e ∷ []) text d (suc n) inc h = absurd (omega arith)
 last_at (e ∷ f ∷ es) text d zero inc h = absurd (omega arith)
 last_at (e ∷ f ∷ es) text d (suc n) inc h =
@@ -180,7 +173,7 @@ last_at (e ∷ f ∷ es) text d (suc n) inc h =
     by_last true is first =
         let less : cmp (spelled e.0) text ≡ Less = nat_list_cmp_total.trans (spelled e.0) (spelled (get_or (f ∷ es) n d).0) text (less_than (spelled e.0) (spelled (get_or (f ∷ es) n d).0) first) (less_than (spelled (get_or (f ∷ es) n d).0) text (sym is)) in
         rw less refl
-    by_last false is first = sym (and_false (below (spelled e.0) text))
+    by_last false is first = sym (and-false (below (spelled e.0) text))
 
 -- the last path decides whether a text comes behind all
 pub last_decides : (es : Entries) (text : Text) (d : Path × Entry) → Increasing es → 0 < length es → below (spelled (get_or es (length es - 1) d).0) text ≡ comes_behind es text
@@ -221,7 +214,7 @@ neighbours (a ∷ []) j d e k h = absurd (omega arith)
 neighbours (a ∷ b ∷ es) zero d e k h = by_rest (is_increasing (b ∷ es)) refl
   where
     by_rest : (t : Bool) → is_increasing (b ∷ es) ≡ t → (list_all (λ f. below (spelled a.0) (spelled f.0)) (b ∷ es) && t) ≡ t
-    by_rest false is = and_false _
+    by_rest false is = and-false _
     by_rest true is =
         let pair = and_parts (list_all (λ f. below (spelled b.0) (spelled f.0)) es) (is_increasing es) is in
         and_from _ _ (and_from _ _ h (all_after es (spelled a.0) (spelled b.0) h pair.0)) refl

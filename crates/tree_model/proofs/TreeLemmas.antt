@@ -3,9 +3,7 @@ use Rattle.std.proofs.Common.{◌≡◌, [], ◌∷◌, refl, sym, ◌∙◌, ap
 use Rattle.std.specs.Prelude.{nat_eq}
 use Rattle.std.specs.List.{list_all}
 use Rattle.std.specs.Ordering.{eq_by_cmp, is_eq}
-use Rattle.std.specs.Cmp.{IsTotalOrder}
-use Rattle.std.specs.declared.cmp.Ordering.{Ordering}
-use Rattle.std.specs.declared.cmp.Ordering.TheVariants.{Less, Equal, Greater}
+use Rattle.std.specs.Cmp.{IsTotalOrder, both_ways, Equal-is}
 use Rattle.std.specs.FinMap.{get, from_entries, get-empty, get-insert, get-from_entries, slice_cmp-IsAntisymmetric, nat_cmp-IsAntisymmetric}
 use Rattle.std.specs.FinMap.Entries.{find}
 use Rattle.std.proofs.lemmas.Bool.{and_parts, and_from, leb-true}
@@ -24,13 +22,8 @@ use Rattle.tree_model.proofs.OrderLemmas.{is_dir_there, dir_there, parents_found
 names_total : IsTotalOrder path_cmp
 names_total = lists_total nat_list_cmp_total
 
-is_equal : (o : Ordering) → is_eq o ≡ true → o ≡ Equal
-is_equal Less h = absurd (cc)
-is_equal Equal h = refl
-is_equal Greater h = absurd (cc)
-
 path_same : (p q : Path) → is_eq (path_cmp p q) ≡ true → p ≡ q
-path_same p q h = slice_cmp-IsAntisymmetric (slice_cmp-IsAntisymmetric nat_cmp-IsAntisymmetric) p q (is_equal (path_cmp p q) h)
+path_same p q h = slice_cmp-IsAntisymmetric (slice_cmp-IsAntisymmetric nat_cmp-IsAntisymmetric) p q ((Equal-is (path_cmp p q)).0 h)
 
 -- BY NAMES
 
@@ -53,15 +46,9 @@ all_member test (f ∷ es) e h (inr m) = all_member test es e (and_parts (test f
 
 -- BY BYTES
 
--- two tests that each give what the other wants answer alike
-alike : (a b : Bool) → (a ≡ true → b ≡ true) → (b ≡ true → a ≡ true) → a ≡ b
-alike true b f g = sym (f refl)
-alike false true f g = g refl
-alike false false f g = refl
-
 same_path : (p q : Path) → IsCanonical p → IsCanonical q → eq_by_cmp path_cmp p q ≡ pointwise nat_eq (spelled q) (spelled p)
 same_path p q cp cq =
-    alike (eq_by_cmp path_cmp p q) (pointwise nat_eq (spelled q) (spelled p))
+    both_ways (eq_by_cmp path_cmp p q) (pointwise nat_eq (spelled q) (spelled p))
     (λ h. let same : p ≡ q = path_same p q h in subst (λ (x : Path). pointwise nat_eq (spelled x) (spelled p) ≡ true) same (text_itself (spelled p)))
     (λ h. let same : q ≡ p = spelled-same q p cq cp (text_same (spelled q) (spelled p) h) in
     subst (λ (x : Path). eq_by_cmp path_cmp p x ≡ true) (sym same) (ap is_eq (tied_itself names_total p)))
@@ -129,7 +116,7 @@ pub nodes_are_entries : (es : Entries) (path : Path) (entry : Entry) → entry_a
 nodes_are_entries es [] entry h = let same : Some Dir ≡ Some entry = sym (at_root es) ∙ h in inl (refl, cc)
 nodes_are_entries es (name ∷ path) entry h = inr (below-member es name path entry h)
 
-some_entry : (o : Option Entry) → IsSome o → (entry : Entry) × (o ≡ Some entry)
+pub some_entry : (o : Option Entry) → IsSome o → (entry : Entry) × (o ≡ Some entry)
 some_entry None h = absurd (cc)
 some_entry (Some entry) h = (entry, refl)
 
