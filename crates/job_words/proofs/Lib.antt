@@ -4,7 +4,6 @@
 --     Places      the last `.` of a name, and what stands behind the last `/` of a text
 --     EachOnce    texts, each at its first place alone
 --     MacroLines  the lines of macros, byte by byte
---     TokenLines  the tokens of a logical line from a place on
 --     Jobs        what a reading keeps, and how long its words are
 --     FirstWords  more words than are read
 pub mod Fronts
@@ -12,6 +11,5 @@ pub mod Steps
 pub mod Places
 pub mod EachOnce
 pub mod MacroLines
-pub mod TokenLines
 pub mod Jobs
 pub mod FirstWords

@@ -1,5 +1,5 @@
 -- The last `.` of a name, and what stands behind the last `/` of a text.
-use Rattle.std.proofs.Common.{◌≡◌, ℕ, suc, ◌+◌, ◌-◌, ◌<◌, ◌==◌, List, [], ◌∷◌, ◌++◌, length, take, drop, get_or, Bool, true, false, not, cond, if◌then◌else◌, refl, sym, ap, ◌∙◌, arith, get_or-drop, length-drop}
+use Rattle.std.proofs.Common.{◌≡◌, ℕ, suc, ◌+◌, ◌-◌, ◌<◌, ◌==◌, [], ◌∷◌, ◌++◌, length, take, drop, get_or, true, false, not, cond, if◌then◌else◌, refl, sym, ap, ◌∙◌, arith, get_or-drop, length-drop}
 use Rattle.std.proofs.lemmas.List.{drop_more, get_or_default, take-append-drop}
 use Rattle.std.specs.List.{list_any, before_last, suffix_len, onto_first}
 use Rattle.std.proofs.lemmas.List.Folds.{list_any_at, list_any_none}
@@ -7,6 +7,7 @@ use Rattle.std.proofs.lemmas.Bool.Decides.{nat_tests}
 use Rattle.std.proofs.lemmas.List.Sums.{suffix_len_is}
 use Rattle.tree_model.specs.Paths.{Text, slash}
 use Rattle.tree_model.specs.Walk.{components, last_of}
+use Rattle.tree_model.proofs.CutLemmas.{last_of-append, components-append}
 use Rattle.job_words.specs.Words.{stem}
 use Rattle.job_words.specs.parts.Told.{NoneFrom, IsLast}
 
@@ -38,34 +39,6 @@ one (b ∷ text) none =
 pub component-whole : (text : Text) → NoneFrom 0 47 text → text ≡ last_of (components text)
 component-whole text none = sym (ap last_of (one text none))
 
-onto-first-append : (b : ℕ) (front back : List Text) (part : Text) → onto_first b ((part ∷ front) ++ back) ≡ onto_first b (part ∷ front) ++ back
-onto-first-append b front back part = refl
-
-some-part : (text : Text) → (part : Text) × ((parts : List Text) × (components text ≡ part ∷ parts))
-some-part [] = ([], ([], refl))
-some-part (b ∷ text) = by_test (b == slash) (some-part text)
-  where
-    by_test : (t : Bool) → (part : Text) × ((parts : List Text) × (components text ≡ part ∷ parts)) → (part : Text) × ((parts : List Text) × (cond t ([] ∷ components text) (onto_first b (components text)) ≡ part ∷ parts))
-    by_test true more = ([], (components text, refl))
-    by_test false more = (b ∷ more.0, (more.1.0, ap (onto_first b) more.1.1))
-
--- the components on both sides of a `/`
-cut : (front back : Text) → components (front ++ slash ∷ back) ≡ components front ++ components back
-cut [] back = refl
-cut (b ∷ front) back = by_test (b == slash) (cut front back) (some-part front)
-  where
-    by_test : (t : Bool) → components (front ++ slash ∷ back) ≡ components front ++ components back → (part : Text) × ((parts : List Text) × (components front ≡ part ∷ parts))
-        → cond t ([] ∷ components (front ++ slash ∷ back)) (onto_first b (components (front ++ slash ∷ back))) ≡ cond t ([] ∷ components front) (onto_first b (components front)) ++ components back
-    by_test true ih more = ap (λ parts. [] ∷ parts) ih
-    by_test false ih more =
-        ap (onto_first b) (ih ∙ ap (λ parts. parts ++ components back) more.1.1)
-        ∙ ap (λ parts. onto_first b parts ++ components back) (sym more.1.1)
-
-last_of-append : (list : List Text) (name : Text) → last_of (list ++ name ∷ []) ≡ name
-last_of-append [] name = refl
-last_of-append (x ∷ []) name = refl
-last_of-append (x ∷ y ∷ list) name = last_of-append (y ∷ list) name
-
 byte-is : (b : ℕ) → (b == 47) ≡ true → b ≡ 47
 byte-is b e = grind (arith, nat_tests)
 
@@ -83,5 +56,5 @@ component-behind text place last =
     let whole : text ≡ take place text ++ slash ∷ drop (place + 1) text =
     sym (take-append-drop place text) ∙ ap (λ (more : Text). take place text ++ more) (rest ∙ ap (λ b. b ∷ drop (place + 1) text) here) in
     let parts : components text ≡ components (take place text) ++ drop (place + 1) text ∷ [] =
-    ap components whole ∙ cut (take place text) (drop (place + 1) text) ∙ ap (λ more. components (take place text) ++ more) (one (drop (place + 1) text) (none-behind text place last.2)) in
+    ap components whole ∙ components-append (take place text) (drop (place + 1) text) ∙ ap (λ more. components (take place text) ++ more) (one (drop (place + 1) text) (none-behind text place last.2)) in
     sym (ap last_of parts ∙ last_of-append (components (take place text)) (drop (place + 1) text))
