@@ -8,10 +8,10 @@ use Rattle.closure_memo.specs.Memo.{number_of, with_key}
 use Rattle.closure_memo.proofs.Histories.{get_snoc}
 
 -- the numbers of the first element that passes, of a list with one more in front
-first_here : {A : Type 0} (test : A → Bool) (x : A) (xs : List A) → test x ≡ true → position_or_len test (x ∷ xs) ≡ 0
+pub first_here : {A : Type 0} (test : A → Bool) (x : A) (xs : List A) → test x ≡ true → position_or_len test (x ∷ xs) ≡ 0
 first_here test x xs e = ap (λ b. cond (not b) (1 + position_or_len test xs) 0) e
 
-first_behind : {A : Type 0} (test : A → Bool) (x : A) (xs : List A) → test x ≡ false → position_or_len test (x ∷ xs) ≡ suc (position_or_len test xs)
+pub first_behind : {A : Type 0} (test : A → Bool) (x : A) (xs : List A) → test x ≡ false → position_or_len test (x ∷ xs) ≡ suc (position_or_len test xs)
 first_behind test x xs e = ap (λ b. cond (not b) (1 + position_or_len test xs) 0) e ∙ omega arith
 
 some_more : (n : ℕ) → true ≡ nat_lt 0 (suc n)

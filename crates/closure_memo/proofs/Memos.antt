@@ -24,7 +24,7 @@ value_below [] number v is = absurd (grind (arith, is))
 value_below (w ∷ values) zero v is = omega arith
 value_below (w ∷ values) (suc number) v is = omega (arith, value_below values number v is)
 
-get_within : {A : Type 0} (xs : List A) (i : ℕ) → i < length xs → (x : A) × (slice_get xs i ≡ Some x)
+pub get_within : {A : Type 0} (xs : List A) (i : ℕ) → i < length xs → (x : A) × (slice_get xs i ≡ Some x)
 get_within [] i less = absurd (omega arith)
 get_within (x ∷ xs) zero less = (x, refl)
 get_within (x ∷ xs) (suc i) less = get_within xs i (omega (arith, less))
