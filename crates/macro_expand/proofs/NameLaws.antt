@@ -1,6 +1,6 @@
 -- What the name at the head of pending tokens does, from what the code found, whoever answers.
-use Rattle.std.proofs.Common.{◌≡◌, ◌≤◌, true, subst, ℕ, zero, suc, arith, refl, ◌+◌, Vec, Global, get_or, append-nil, add-one, ◌<◌, Bool, false, List, [], ◌∷◌, ◌++◌, map, length, ap, sym, ◌∙◌, Result, Ok, Err, IfOk, IfErr, Option, Some, None}
-use Rattle.std.proofs.lemmas.List.{map-append, length-append, length-map}
+use Rattle.std.proofs.Common.{◌≡◌, ◌≤◌, true, subst, ℕ, suc, arith, ◌+◌, Vec, Global, get_or, append-nil, add-one, ◌<◌, Bool, false, List, [], ◌∷◌, ◌++◌, map, length, ap, sym, ◌∙◌, Result, Ok, Err, IfOk, IfErr, Option, Some, None}
+use Rattle.std.proofs.lemmas.List.{map-append, length-append, length-map, get_or_default}
 use Rattle.macro_expand.specs.declared.outcome.Mode.{Mode}
 use Rattle.macro_expand.specs.declared.marked.Role.TheVariants.{Name}
 use Rattle.macro_defs.specs.declared.definition.Shape.TheVariants.{Object, Function}
@@ -172,17 +172,11 @@ module _ {S : Type 0} (w : Answerer S) (s : S) (mode : Mode) (depth units : ℕ)
       argument_fails (Ok out) stops = stops
       argument_fails (Err e) stops = Stops-is e u _ _ argument_is stops
 
--- below the list's end the value for none doesn't matter
-get_or-any : {A : Type 0} (xs : List A) (i : ℕ) (a b : A) → i < length xs → get_or xs i a ≡ get_or xs i b
-get_or-any [] i a b h = absurd (omega (arith, h))
-get_or-any (x ∷ xs) zero a b h = refl
-get_or-any (x ∷ xs) (suc i) a b h = get_or-any xs i a b (omega (arith, h))
-
 -- what the code's list says of argument `i`
 stands_is : (alone : List Bool) (count i : ℕ) (parts : List Part) (b : Bool) → length alone ≡ count →
     ((k : ℕ) → k < count → get_or alone k false ≡ stands_alone k None parts) → i < count → b ≡ get_or alone i b → stands_alone i None parts ≡ b
 stands_is alone count i parts b long each below is =
-    sym (each i below) ∙ get_or-any alone i false b (rw long below) ∙ sym is
+    sym (each i below) ∙ get_or_default alone i false b (rw long below) ∙ sym is
 
 -- the same of the next argument, where so many were expanded
 pub stands_next : (alone : List Bool) (count n : ℕ) (out left rest : List (Vec Kept Global)) (a : Vec Kept Global) (parts : List Part) (b : Bool) →

@@ -1,24 +1,19 @@
 -- How a replacement list is read, token by token.
-use Rattle.std.proofs.Common.{◌≡◌, ℕ, ◌+◌, ◌<◌, ◌≤◌, Bool, true, false, ◌&&◌, ◌||◌, List, [], ◌∷◌, ◌++◌, map, length, get_or, slice_get, drop, add-one, zero, suc, drop-cons, arith, refl, ap, sym, ◌∙◌, subst, Option, Some, None, bytes_eq, codes, if◌then◌else◌, ◌⊎◌, inl, inr, append_assoc, append-nil, drop_of_length-le}
+use Rattle.std.proofs.Common.{◌≡◌, ℕ, ◌+◌, ◌<◌, ◌≤◌, Bool, true, false, ◌&&◌, ◌||◌, List, [], ◌∷◌, ◌++◌, map, length, get_or, slice_get, drop, zero, suc, arith, refl, ap, sym, ◌∙◌, subst, Option, Some, None, bytes_eq, codes, if◌then◌else◌, inl, inr, append_assoc, append-nil, drop_of_length-le}
 use Rattle.std.specs.Option.{option_and_then}
 use Rattle.std.proofs.lemmas.List.{map-append}
 use Rattle.std.proofs.lemmas.Slice.Eq.{bytes_eq-Decides}
+use Rattle.std.proofs.lemmas.Bool.{or_cases}
+use Rattle.std.proofs.Math.Bool.{or-false}
 use Rattle.pp_tokens.specs.declared.Token.{Token}
 use Rattle.macro_defs.specs.MacroDefinition.{without_line}
 use Rattle.macro_defs.specs.Arguments.{argument_named}
+use Rattle.macro_defs.proofs.Fronts.{front_at}
 use Rattle.pp_tokens.specs.Marks.{is_punctuator, is_open, is_close, is_comma, is_hash, is_pasting, Mark, Opening, Closing, Comma, Hash, Pasting, NoMark, mark_of}
 use Rattle.macro_expand.specs.declared.replace.Part.{Part as KeptPart}
 use Rattle.macro_expand.specs.Replacement.{Part, Plain, Argument, Spelling, Join, parts_after, is_join, is_alone, stands_alone}
 use Rattle.macro_expand.specs.parts.Parts.{operand_part, part_of, object_part, begins_spelling, Marks}
 use Rattle.macro_expand.specs.Seen.{part_seen, parts_seen}
-
--- the values from an index on are the one there and those behind it
-pub from_here : {A : Type 0} (xs : List A) (i : ℕ) (x : A) → i < length xs → x ≡ get_or xs i x → drop i xs ≡ x ∷ drop (i + 1) xs
-from_here xs i x below is = rw add-one (drop-cons xs i x below ∙ ap (λ y. y ∷ drop (suc i) xs) (sym is))
-
-either_true : (a b : Bool) → (a || b) ≡ true → (a ≡ true) ⊎ (b ≡ true)
-either_true true b h = inl refl
-either_true false b h = inr h
 
 abbrev mark_by : Bool → Bool → Bool → Bool → Bool → Mark
 mark_by o c m h p = if o then Opening else (if c then Closing else (if m then Comma else (if h then Hash else (if p then Pasting else NoMark))))
@@ -32,7 +27,7 @@ mark_at q w =
 hash_at : (q : Bool) (w : List ℕ) → ((q && bytes_eq w (codes "#")) || (q && bytes_eq w (codes "%:"))) ≡ true → mark_at q w ≡ Hash
 hash_at false w h = absurd (cc)
 hash_at true w h =
-    elim (either_true (bytes_eq w (codes "#")) (bytes_eq w (codes "%:")) h) [
+    elim (or_cases (bytes_eq w (codes "#")) (bytes_eq w (codes "%:")) h) [
       | inl e ↦ ap (mark_at true) ((bytes_eq-Decides w (codes "#")).0 e)
       | inr e ↦ ap (mark_at true) ((bytes_eq-Decides w (codes "%:")).0 e)
     ]
@@ -40,7 +35,7 @@ hash_at true w h =
 pasting_at : (q : Bool) (w : List ℕ) → ((q && bytes_eq w (codes "##")) || (q && bytes_eq w (codes "%:%:"))) ≡ true → mark_at q w ≡ Pasting
 pasting_at false w h = absurd (cc)
 pasting_at true w h =
-    elim (either_true (bytes_eq w (codes "##")) (bytes_eq w (codes "%:%:")) h) [
+    elim (or_cases (bytes_eq w (codes "##")) (bytes_eq w (codes "%:%:")) h) [
       | inl e ↦ ap (mark_at true) ((bytes_eq-Decides w (codes "##")).0 e)
       | inr e ↦ ap (mark_at true) ((bytes_eq-Decides w (codes "%:%:")).0 e)
     ]
@@ -131,7 +126,7 @@ module _ (names : List (List ℕ)) (body : List Token) (i : ℕ) (t : Token) (be
     (hash : Option Bool) (parts : List KeptPart) (whole : List Part)
     (keeps : parts_seen parts ++ parts_after hash names (map without_line (drop i body)) ≡ whole) where
   here : parts_seen parts ++ parts_after hash names (without_line t ∷ map without_line (drop (i + 1) body)) ≡ whole
-  here = ap (λ ts. parts_seen parts ++ parts_after hash names (map without_line ts)) (sym (from_here body i t below is)) ∙ keeps
+  here = ap (λ ts. parts_seen parts ++ parts_after hash names (map without_line ts)) (sym (front_at body i t below is)) ∙ keeps
 
   unlined : (hash : Option Bool) → begins_spelling hash (without_line t) ≡ begins_spelling hash t
   unlined None = refl
@@ -196,18 +191,14 @@ alone-turn old new count joined next parts seen k p whole here is behind after s
     ∙ ap (λ b. get_or new i false || b) (alone-before i (part_seen p) next (parts_seen seen) after)
     ∙ ap (λ b. b || stands_alone i (Some (part_seen p)) (parts_seen seen)) (marks.1 i (subst (λ n. i < n) (sym same) below))
     ∙ or_both (get_or old i false) (is_alone i (part_before joined) (part_seen p) (parts_seen seen)) (stands_alone i (Some (part_seen p)) (parts_seen seen))
-    ∙ ap (λ ps. get_or old i false || stands_alone i (part_before joined) (parts_seen ps)) (ap (λ ps. p ∷ ps) behind ∙ sym (from_here parts k p here is))
+    ∙ ap (λ ps. get_or old i false || stands_alone i (part_before joined) (parts_seen ps)) (ap (λ ps. p ∷ ps) behind ∙ sym (front_at parts k p here is))
     ∙ keeps i below
-
-or_nothing : (b : Bool) → (b || false) ≡ b
-or_nothing true = refl
-or_nothing false = refl
 
 pub alone-done : (alone : List Bool) (count : ℕ) (left : Option Part) (parts : List KeptPart) (k : ℕ) (whole : ℕ → Bool) → length parts ≤ k →
     ((i : ℕ) → i < count → (get_or alone i false || stands_alone i left (parts_seen (drop k parts))) ≡ whole i) →
     (i : ℕ) → i < count → get_or alone i false ≡ whole i
 unfolding stands_alone
 alone-done alone count left parts k whole past keeps i below =
-    sym (or_nothing (get_or alone i false))
+    sym (or-false (get_or alone i false))
     ∙ ap (λ ps. get_or alone i false || stands_alone i left (parts_seen ps)) (sym (drop_of_length-le parts past))
     ∙ keeps i below

@@ -1,8 +1,10 @@
 -- How a replacement's pieces are made, part by part, and joined.
 use Rattle.std.proofs.Common.{◌≡◌, ℕ, Vec, Global, IfOk, IfErr, ◌+◌, ◌<◌, ◌≤◌, List, [], ◌∷◌, ◌++◌, map, length, get_or, drop, ap, sym, ◌∙◌, subst, Option, Some, None, Result, Ok, Err, drop_of_length-le, ◌&&◌, ◌||◌, bytes_eq, Bool, true, false, refl, if◌then◌else◌}
 use Rattle.std.specs.List.{list_any}
+use Rattle.std.proofs.lemmas.Bool.{true≢false}
 use mathlib.Core.Path.{fun_ext}
 use Rattle.pp_tokens.specs.declared.Token.{Token}
+use Rattle.macro_defs.proofs.Fronts.{front_at}
 use Rattle.macro_expand.specs.declared.marked.Marked.{Marked as Kept}
 use Rattle.macro_expand.specs.declared.replace.Part.{Part as KeptPart}
 use Rattle.macro_expand.specs.declared.outcome.RunError.{RunError}
@@ -14,7 +16,6 @@ use Rattle.macro_expand.specs.Sets.{names_in}
 use Rattle.macro_expand.specs.Seen.{part_seen, parts_seen, marked_of, call_replaced_by, KeepsWritten, Reports, ReportsPaste}
 use Rattle.macro_expand.specs.parts.Parts.{takes_written}
 use Rattle.pp_tokens.specs.Marks.{is_comma}
-use Rattle.macro_expand.proofs.PartLemmas.{from_here}
 use Rattle.macro_expand.proofs.StringLemmas.{grows, nothing_left}
 
 -- a turn of the loop: one part more, where `seen` are the parts behind it
@@ -26,7 +27,7 @@ unfolding pieces_of
 pieces-turn args parts seen k p left out next whole below is behind made keeps =
     grows out next (pieces_of_part args left (part_seen p) (parts_seen seen)) (pieces_of args left (parts_seen (drop k parts)))
     (pieces_of args (Some (part_seen p)) (parts_seen (drop (k + 1) parts))) whole made
-    (ap (λ ps. pieces_of args left (parts_seen ps)) (from_here parts k p below is)
+    (ap (λ ps. pieces_of args left (parts_seen ps)) (front_at parts k p below is)
     ∙ ap (λ ps. pieces_of_part args left (part_seen p) (parts_seen ps) ++ pieces_of args (Some (part_seen p)) (parts_seen (drop (k + 1) parts))) (sym behind))
     keeps
 
@@ -64,29 +65,23 @@ module _ (t : Token) (hidden : Names) (parts : List Part) (args : Arguments) (pi
 
 -- Where no part takes an argument as it is written, none is needed.
 
-no_truth : true ≡ false → ⊥
-no_truth e = subst is_true e tt
-  where
-    is_true : Bool → Type 0
-    is_true b = elim b [ true ↦ Unit {0} | false ↦ ⊥ ]
-
 no_join : (ps : List Part) → list_any takes_written ps ≡ false → is_join (first_part ps) ≡ false
 no_join [] none = refl
 no_join (Plain t ∷ ps) none = refl
 no_join (Argument i space ∷ ps) none = refl
-no_join (Spelling i space ∷ ps) none = absurd (no_truth none)
-no_join (Join ∷ ps) none = absurd (no_truth none)
+no_join (Spelling i space ∷ ps) none = absurd (true≢false none)
+no_join (Join ∷ ps) none = absurd (true≢false none)
 
 kept_comma : {A : Type 0} (comma join variable empty : Bool) (x y : A) → join ≡ false →
     (if comma && join && variable && empty then x else y) ≡ y
 kept_comma false join variable empty x y apart = refl
 kept_comma true false variable empty x y apart = refl
-kept_comma true true variable empty x y apart = absurd (no_truth apart)
+kept_comma true true variable empty x y apart = absurd (true≢false apart)
 
 expanded_alone : {A : Type 0} (left right : Bool) (x y : A) → left ≡ false → right ≡ false → (if left || right then x else y) ≡ y
 expanded_alone false false x y l r = refl
-expanded_alone true right x y l r = absurd (no_truth l)
-expanded_alone false true x y l r = absurd (no_truth r)
+expanded_alone true right x y l r = absurd (true≢false l)
+expanded_alone false true x y l r = absurd (true≢false r)
 
 pieces_of-unwritten : (written written' expanded : List (List Marked)) (variable : Option ℕ) (left : Option Part) (ps : List Part) →
     is_join left ≡ false → list_any takes_written ps ≡ false →
@@ -106,8 +101,8 @@ pieces_of-unwritten written written' expanded variable left (Argument i space �
     ∙ sym (expanded_alone (is_join left) (is_join (first_part ps)) _ (map Real (with_space space (argument_at i expanded))) apart (no_join ps none)))
     ∙ ap (λ q. pieces_of_part (record { written = written'; expanded = expanded; variable = variable }) left (Argument i space) ps ++ q)
     (pieces_of-unwritten written written' expanded variable (Some (Argument i space)) ps refl none)
-pieces_of-unwritten written written' expanded variable left (Spelling i space ∷ ps) apart none = absurd (no_truth none)
-pieces_of-unwritten written written' expanded variable left (Join ∷ ps) apart none = absurd (no_truth none)
+pieces_of-unwritten written written' expanded variable left (Spelling i space ∷ ps) apart none = absurd (true≢false none)
+pieces_of-unwritten written written' expanded variable left (Join ∷ ps) apart none = absurd (true≢false none)
 
 pub keeps_none : (parts : List Part) (written : List (List Marked)) → list_any takes_written parts ≡ false → KeepsWritten parts written []
 unfolding call_replacement replacement

@@ -1,9 +1,9 @@
 -- The spelling of a literal that `#` makes, token by token.
 use Rattle.std.proofs.Common.{◌≡◌, ℕ, ◌+◌, ◌<◌, ◌≤◌, ◌==◌, Bool, true, false, ◌&&◌, ◌||◌, not, List, [], ◌∷◌, ◌++◌, map, length, get_or, drop, drop-cons, add-one, refl, ap, sym, ◌∙◌, if◌then◌else◌, append_assoc, append-nil, drop_of_length-le}
+use Rattle.macro_defs.proofs.Fronts.{front_at}
 use Rattle.macro_expand.specs.declared.marked.Marked.{Marked as Kept}
 use Rattle.macro_expand.specs.Replacement.{escaped, spelling_of, spellings}
 use Rattle.macro_expand.specs.Seen.{marked_of}
-use Rattle.macro_expand.proofs.PartLemmas.{from_here}
 
 -- what was put out, before what is left, is the same where the first of what is left is put out
 pub grows : {A : Type 0} (out next a rest tail whole : List A) → next ≡ out ++ a → rest ≡ a ++ tail → out ++ rest ≡ whole → next ++ tail ≡ whole
@@ -34,7 +34,7 @@ pub spellings-here : (ts : List Kept) (i : ℕ) (t : Kept) (first : Bool) → i 
     ≡ (space_before (t.token.space && not first) ++ spelling_of t.token) ++ spellings false (map marked_of (drop (i + 1) ts))
 unfolding spellings
 spellings-here ts i t first below is =
-    ap (λ us. spellings first (map marked_of us)) (from_here ts i t below is)
+    ap (λ us. spellings first (map marked_of us)) (front_at ts i t below is)
     ∙ ap (λ w. w ++ spellings false (map marked_of (drop (i + 1) ts))) (spaced (t.token.space && not first) (spelling_of t.token))
 
 pub spellings-done : (ts : List Kept) (i : ℕ) (first : Bool) → length ts ≤ i → spellings first (map marked_of (drop i ts)) ≡ []
