@@ -5,7 +5,7 @@ use Rattle.std.specs.List.{flat_map, Contains}
 use Rattle.macro_defs.specs.MacroDefinition.{MacroDefinition}
 use Rattle.macro_expand.specs.Asking.{Asking, give, fail, ask_definition, ask_file, ask_line}
 use Rattle.macro_expand.specs.Choice.{HasNoRepeat, Sets, IsDistinct, IsPart, Choice, Run, after_choice, runs_of, complete_runs}
-use Rattle.symbolic_expand.proofs.Elements.{contains_first, contains_later}
+use Rattle.macro_expand.proofs.ChoiceLaws.{contains_first, contains_later}
 
 total : {A : Type 0} → (A → ℕ) → List A → ℕ
 total f [] = 0

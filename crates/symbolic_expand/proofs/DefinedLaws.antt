@@ -9,9 +9,10 @@ use Rattle.std.proofs.lemmas.List.Elements.{Contains-append_left, Contains-appen
 use Rattle.indexmap.specs.IndexMap.{insert_entry}
 use Rattle.macro_defs.specs.MacroDefinition.{MacroDefinition}
 use Rattle.macro_expand.specs.Choice.{HasNoRepeat, IsDistinct, IsPart}
+use Rattle.macro_expand.proofs.ChoiceLaws.{contains_first, contains_later}
 use Rattle.symbolic_expand.specs.Defined.{Defined, sets_of, Adds}
 use Rattle.symbolic_expand.specs.parts.Stored.{with_more, seen}
-use Rattle.symbolic_expand.proofs.Elements.{contains_first, contains_later, contains_tail, contains_none}
+use Rattle.symbolic_expand.proofs.Elements.{contains_tail, contains_none}
 
 -- What a map holds.
 

@@ -9,10 +9,11 @@ use Rattle.directive_scan.specs.declared.directive.HeaderName.{HeaderName}
 use Rattle.directive_scan.specs.HeaderNames.{header_named}
 use Rattle.macro_expand.specs.Expansion.{Expanded}
 use Rattle.macro_expand.specs.Choice.{header_of_ending}
+use Rattle.macro_expand.proofs.ChoiceLaws.{contains_first, contains_later}
 use Rattle.symbolic_expand.specs.Texts.{text_cmp, text_inserted, all_inserted}
 use Rattle.symbolic_expand.specs.parts.Enumeration.{Visit}
 use Rattle.symbolic_expand.specs.parts.Search.{with_header, header_at}
-use Rattle.symbolic_expand.proofs.Elements.{contains_first, contains_later, contains_tail, contains_none}
+use Rattle.symbolic_expand.proofs.Elements.{contains_tail, contains_none}
 use Rattle.symbolic_expand.proofs.VisitLaws.{Meets}
 
 -- Texts in order.

@@ -8,14 +8,12 @@ use Rattle.pp_tokens.specs.declared.Token.{Token}
 use Rattle.directive_scan.specs.declared.directive.HeaderName.{HeaderName}
 use Rattle.directive_scan.specs.HeaderNames.{header_named}
 use Rattle.macro_expand.specs.Choice.{Sets, MayName}
+use Rattle.macro_expand.proofs.ChoiceLaws.{contains_map}
+use Rattle.macro_expand.proofs.RunLaws.{contains_map_from}
+use Rattle.base_types.proofs.Lists.{all_append}
 use Rattle.symbolic_expand.specs.Texts.{text_cmp}
 use Rattle.symbolic_expand.specs.Found.{NamesExactly, header_cmp}
 use Rattle.symbolic_expand.specs.parts.Search.{FoundAll, header_at}
-use Rattle.symbolic_expand.proofs.Elements.{contains_map, contains_map_from}
-
-all_append : {A : Type 0} (P : A → Type 0) (xs ys : List A) → AllByRecursion P xs → AllByRecursion P ys → AllByRecursion P (xs ++ ys)
-all_append P [] ys h k = k
-all_append P (x ∷ xs) ys h k = (h.0, all_append P xs ys h.1 k)
 
 all_same : (b : Bool) (t : List ℕ) (us : List (List ℕ)) → AllByRecursion (λ u. text_cmp t u ≡ Less) us →
     AllByRecursion (λ h. header_cmp (header_at b t) h ≡ Less) (map (header_at b) us)

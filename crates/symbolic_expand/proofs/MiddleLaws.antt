@@ -1,9 +1,10 @@
 -- Two sets that agree on the names met under the first, by a set between them: that of the second for the names met, and that
 -- of the first for all others. It has the members of the first, and the lists of the second where that matters.
-use Rattle.std.proofs.Common.{◌≡◌, ℕ, zero, suc, ◌≤◌, Bool, true, false, ◌||◌, List, [], ◌∷◌, length, map, bytes_eq, refl, ap, sym, subst, Option, arith}
+use Rattle.std.proofs.Common.{◌≡◌, ℕ, zero, suc, ◌≤◌, Bool, true, false, List, [], ◌∷◌, length, map, bytes_eq, refl, ap, sym, subst, Option, arith}
 use Rattle.std.specs.List.{list_any, Contains}
 use Rattle.std.proofs.lemmas.Slice.Eq.{bytes_eq-Decides}
 use Rattle.std.proofs.lemmas.Map.Views.{Contains-from_any}
+use Rattle.std.proofs.lemmas.Bool.{or_left, or_right}
 use Rattle.macro_defs.specs.MacroDefinition.{MacroDefinition}
 use Rattle.macro_expand.specs.declared.outcome.Mode.TheVariants.{Text}
 use Rattle.macro_expand.specs.Asking.{Asking}
@@ -23,21 +24,10 @@ one_of false ds es = ds
 middle : List (List ℕ) → Sets → Sets → Sets
 middle names sets other n = one_of (list_any (bytes_eq n) names) (sets n) (other n)
 
-same_name : (n x : List ℕ) → bytes_eq n x ≡ true → n ≡ x
-same_name n x e = (bytes_eq-Decides n x).0 e
-
-or_true : (a b : Bool) → b ≡ true → (a || b) ≡ true
-or_true true b e = refl
-or_true false b e = e
-
-true_or : (a b : Bool) → a ≡ true → (a || b) ≡ true
-true_or true b e = refl
-true_or false b e = absurd (cc e)
-
 in_test : (n : List ℕ) (names : List (List ℕ)) → Contains names n → list_any (bytes_eq n) names ≡ true
 in_test n [] (k, below, is) = absurd (omega arith)
-in_test n (x ∷ names) (zero, below, is) = true_or (bytes_eq n x) (list_any (bytes_eq n) names) ((bytes_eq-Decides n x).1 (sym is))
-in_test n (x ∷ names) (suc k, below, is) = or_true (bytes_eq n x) (list_any (bytes_eq n) names) (in_test n names (k, omega arith, is))
+in_test n (x ∷ names) (zero, below, is) = or_left (bytes_eq n x) (list_any (bytes_eq n) names) ((bytes_eq-Decides n x).1 (sym is))
+in_test n (x ∷ names) (suc k, below, is) = or_right (bytes_eq n x) (list_any (bytes_eq n) names) (in_test n names (k, omega arith, is))
 
 module _ {A : Type 0} (sets other : Sets) (file : Option (List ℕ)) (t : Asking A)
     (once : IsDistinct sets) (other_once : IsDistinct other)
@@ -50,7 +40,7 @@ module _ {A : Type 0} (sets other : Sets) (file : Option (List ℕ)) (t : Asking
   between-members n = go (list_any (bytes_eq n) (met_names sets file t)) refl
     where
       go : (b : Bool) → list_any (bytes_eq n) (met_names sets file t) ≡ b → SameMembers (sets n) (one_of b (sets n) (other n))
-      go true e = agree n (Contains-from_any same_name n (met_names sets file t) e)
+      go true e = agree n (Contains-from_any (λ m x. (bytes_eq-Decides m x).0) n (met_names sets file t) e)
       go false e = λ d. (λ k. k, λ k. k)
 
   between-once : IsDistinct between

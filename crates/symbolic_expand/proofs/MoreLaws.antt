@@ -4,8 +4,10 @@ use Rattle.std.specs.List.{Contains}
 use Rattle.macro_defs.specs.MacroDefinition.{MacroDefinition}
 use Rattle.macro_expand.specs.Asking.{Asking, give, fail, ask_definition, ask_file, ask_line}
 use Rattle.macro_expand.specs.Choice.{Sets, IsPart, Choice, Run, after_choice, runs_of, complete_runs}
+use Rattle.macro_expand.proofs.ChoiceLaws.{contains_map, contains_first, contains_later, contains_flat_map}
+use Rattle.macro_expand.proofs.RunLaws.{contains_map_from, contains_flat_map_from}
 use Rattle.symbolic_expand.specs.parts.Enumeration.{choices_of}
-use Rattle.symbolic_expand.proofs.Elements.{contains_first, contains_later, contains_none, contains_map, contains_map_from, contains_flat_map, contains_flat_map_from}
+use Rattle.symbolic_expand.proofs.Elements.{contains_none}
 
 -- a choice that these definitions allow
 abbrev pub IsAllowed : List MacroDefinition → Choice → Type 0

@@ -10,13 +10,14 @@ use Rattle.macro_expand.specs.Asking.{Work}
 use Rattle.macro_expand.specs.Expansion.{Expanded}
 use Rattle.macro_expand.specs.Choice.{Sets, Ending, Failed, Presumed, Run, complete_runs, header_of_ending, MayName, HasManyRuns, Supports}
 use Rattle.macro_expand.specs.Laws.{IsCutOff}
+use Rattle.macro_expand.proofs.ChoiceLaws.{contains_first}
 use Rattle.symbolic_expand.specs.declared.outcome.SymError.{SymError}
 use Rattle.symbolic_expand.specs.declared.outcome.SymError.TheVariants.{Budget, Long, Presumed as PresumedNames, Memory}
 use Rattle.symbolic_expand.specs.Texts.{all_inserted}
 use Rattle.symbolic_expand.specs.parts.Enumeration.{Visit, visits, run_at, visits_from, rest_of, next_numbers}
 use Rattle.symbolic_expand.specs.Found.{Refuses}
 use Rattle.symbolic_expand.specs.parts.Search.{computed, EndsWith, RefusesRun, FoundAll, with_header, header_at}
-use Rattle.symbolic_expand.proofs.Elements.{contains_first, contains_tail, contains_none}
+use Rattle.symbolic_expand.proofs.Elements.{contains_tail, contains_none}
 use Rattle.symbolic_expand.proofs.EnumerationLaws.{visits_from-nil, visits_from-step}
 use Rattle.symbolic_expand.proofs.VisitLaws.{visits-count, run_of_visit, visit_of_run, Meets, met_names-met, met_names-all}
 use Rattle.symbolic_expand.proofs.FoundLaws.{headers_after, headers_after-last, headers_after-all, headers_after-may, Names, met_after, met_after-last, met_after-all, met_after-met}

@@ -5,7 +5,8 @@ use Rattle.std.specs.List.{flat_map, Contains}
 use Rattle.macro_defs.specs.MacroDefinition.{MacroDefinition}
 use Rattle.macro_expand.specs.Asking.{Asking, give, fail, ask_definition, ask_file, ask_line}
 use Rattle.macro_expand.specs.Choice.{Sets, IsPart, Choice, Run, after_choice, runs_of, complete_runs, met_names}
-use Rattle.symbolic_expand.proofs.Elements.{contains_first, contains_later, contains_flat_map, contains_flat_map_from}
+use Rattle.macro_expand.proofs.ChoiceLaws.{contains_first, contains_later, contains_flat_map}
+use Rattle.macro_expand.proofs.RunLaws.{contains_flat_map_from}
 use Rattle.symbolic_expand.proofs.MoreLaws.{IsAllowed, allowed_choice, choice_allowed}
 
 -- two functions that agree on the elements of a list map it flat to the same

@@ -7,11 +7,13 @@ use Rattle.std.specs.Cmp.Lexicographic.{bytes_decides}
 use Rattle.std.proofs.lemmas.List.{length-map}
 use Rattle.std.proofs.lemmas.List.Folds.{list_any_more}
 use Rattle.std.proofs.lemmas.Option.{slice_get_within, get_or_from_slice_get, slice_get-map}
+use Rattle.std.proofs.Math.Bool.{or-false, or-true}
 use Rattle.macro_defs.specs.MacroDefinition.{MacroDefinition}
 use Rattle.macro_defs.specs.Table.{Entries, names_of, lookup}
+use Rattle.macro_expand.proofs.ChoiceLaws.{contains_first}
 use Rattle.symbolic_expand.specs.Defined.{Defined, sets_of, Adds}
 use Rattle.symbolic_expand.specs.parts.Stored.{HasBefore, one_where}
-use Rattle.symbolic_expand.proofs.Elements.{contains_none, contains_first}
+use Rattle.symbolic_expand.proofs.Elements.{contains_none}
 
 abbrev before : Entries → ℕ → List ℕ → Bool
 before table place n = list_any (bytes_eq n) (take place (names_of table))
@@ -24,22 +26,14 @@ before_more table place e n is =
     list_any_more (bytes_eq n) (names_of table) place e.0 (slice_get_within (names_of table) place e.0 there)
     ∙ ap (λ x. before table place n || bytes_eq n x) (get_or_from_slice_get (names_of table) place e.0 e.0 there)
 
-or_false : (b : Bool) → (b || false) ≡ b
-or_false true = refl
-or_false false = refl
-
-or_true : (b : Bool) → (b || true) ≡ true
-or_true true = refl
-or_true false = refl
-
 -- of another name
 other_name : (table : Entries) (place : ℕ) (e : List ℕ × Option MacroDefinition) (n : List ℕ) → Some e ≡ slice_get table place → bytes_eq n e.0 ≡ false →
     before table (place + 1) n ≡ before table place n
-other_name table place e n is apart = before_more table place e n is ∙ ap (λ b. before table place n || b) apart ∙ or_false (before table place n)
+other_name table place e n is apart = before_more table place e n is ∙ ap (λ b. before table place n || b) apart ∙ or-false (before table place n)
 
 this_name : (table : Entries) (place : ℕ) (e : List ℕ × Option MacroDefinition) (n : List ℕ) → Some e ≡ slice_get table place → bytes_eq n e.0 ≡ true →
     before table (place + 1) n ≡ true
-this_name table place e n is same = before_more table place e n is ∙ ap (λ b. before table place n || b) same ∙ or_true (before table place n)
+this_name table place e n is same = before_more table place e n is ∙ ap (λ b. before table place n || b) same ∙ or-true (before table place n)
 
 -- a name that isn't defined any more
 pub has_none : (table : Entries) (place : ℕ) (e : List ℕ × Option MacroDefinition) (sets : Defined) → Some e ≡ slice_get table place → lookup table e.0 ≡ None →

@@ -6,8 +6,10 @@ use Rattle.std.proofs.lemmas.List.{map-append, length-map}
 use Rattle.macro_defs.specs.MacroDefinition.{MacroDefinition}
 use Rattle.macro_expand.specs.Asking.{Asking, give, fail, ask_definition, ask_file, ask_line}
 use Rattle.macro_expand.specs.Choice.{Sets, Choice, Ending, Gave, Failed, Presumed, Run, after_choice, runs_of, complete_runs, met_names}
+use Rattle.macro_expand.proofs.ChoiceLaws.{contains_map, contains_first, contains_later, contains_flat_map}
+use Rattle.macro_expand.proofs.RunLaws.{contains_map_from, contains_flat_map_from}
 use Rattle.symbolic_expand.specs.parts.Enumeration.{Visit, ended_so, meets, choices_of, visits_of, visits, run_at}
-use Rattle.symbolic_expand.proofs.Elements.{contains_first, contains_later, contains_tail, contains_none, contains_map, contains_map_from, contains_flat_map, contains_flat_map_from}
+use Rattle.symbolic_expand.proofs.Elements.{contains_tail, contains_none}
 use Rattle.symbolic_expand.proofs.EnumerationLaws.{visits_from-nil, visits_from-step}
 
 -- How runs end.
