@@ -1,8 +1,7 @@
 -- Conditions: what their steps lead to.
-use Rattle.std.specs.Prelude.{IfOk, IfErr, OnOk, is_some, map, codes, ◌++◌}
+use Rattle.std.specs.Prelude.{IfOk, IfErr, is_some, map, codes, ◌++◌}
 use Rattle.std.proofs.Common.{◌≡◌, ◌≤◌, length, get_or, arith, ℕ, Bool, false, List, [], ◌∷◌, Option, None, Some, Result, Ok, Err, refl, sym, ◌∙◌, ap, subst, append_assoc}
 use Rattle.std.specs.List.{list_any}
-use Rattle.std.specs.Result.{is_err}
 use Rattle.std.proofs.lemmas.List.{append-nil}
 use Rattle.pp_tokens.specs.declared.Token.{Token}
 use Rattle.pp_tokens.specs.Marks.{is_word}
@@ -39,11 +38,6 @@ refused-leads old main file f at complaint e same told =
 pub then-leads : {A B : Type 0} (old mid new : Kept) (main : Path) (file : Here) (f : State → Reached A) (g : A → State → Reached B) (r : Result A Stop) (x : A) (s : Result B Stop) →
     r ≡ Ok x → Leads old mid main file f r → Leads mid new main file (g x) s → Leads old new main file (λ state. reach g (f state)) s
 then-leads old mid new main file f g r x s is first next = leads-then old mid new main file f g x s (subst (λ q. Leads old mid main file f q) is first) next
-
--- what holds of a value, where there is no error
-pub no-error : {A E P : Type 0} (r : Result A E) → false ≡ is_err r → OnOk r P → P
-no-error (Ok x) is holds = holds
-no-error (Err e) is holds = absurd (cc)
 
 -- ---- a line that was expanded ----
 

@@ -14,6 +14,8 @@ use Rattle.macro_expand.specs.Replacement.{Marked, unmarked}
 use Rattle.macro_expand.specs.Seen as seen
 use Rattle.macro_expand.specs.Seen.{marked_of, kept_plain, place_of}
 use Rattle.macro_expand.specs.Stream.{Given, Stream, given, given_before, to_come, GivesNext}
+use Rattle.macro_expand.proofs.PendingLemmas.{plain_unmarked}
+use Rattle.macro_expand.proofs.StreamLemmas.{given_before-nothing}
 use Rattle.cpp_output.specs.Layout.{Event, put, text_limit, written}
 use Rattle.cpp_output.specs.Laid.{Laid, after_event, after_events}
 use Rattle.tree_model.specs.Paths.{Path}
@@ -54,22 +56,13 @@ pub lays-end : (o : Laid) (old new : Stream) (units left : ℕ) → GivesNext No
 unfolding after_events
 lays-end o old new units left gives = ap (laid_from o) gives
 
--- tokens with no hidden name are those of the text
-plain-unmarked : (ts : List Token) → map marked_of (map kept_plain ts) ≡ map unmarked ts
-plain-unmarked [] = refl
-plain-unmarked (t ∷ ts) = ap (λ (l : List Marked). unmarked t ∷ l) (plain-unmarked ts)
-
-before-none : (r : Result Given Failure) → given_before [] r ≡ r
-before-none (Ok g) = refl
-before-none (Err f) = refl
-
 -- before the first token, all are still to come
 pub lays-init : (o : Laid) (table : Entries) (here : Presumed) (mode : Mode) (units : ℕ) (ts : List Token) →
     laid_from o (given (expanded_by (lookup table) (place_of here) mode 0 units (map unmarked ts)))
     ≡ laid_from o (to_come (record { table = table; here = here; mode = mode; ready = []; pending = map kept_plain ts; standing = Going }) units)
 lays-init o table here mode units ts =
-    ap (λ (l : List Marked). laid_from o (given (expanded_by (lookup table) (place_of here) mode 0 units l))) (sym (plain-unmarked ts))
-    ∙ ap (laid_from o) (sym (before-none (given (expanded_by (lookup table) (place_of here) mode 0 units (map marked_of (map kept_plain ts))))))
+    ap (λ (l : List Marked). laid_from o (given (expanded_by (lookup table) (place_of here) mode 0 units l))) (sym (plain_unmarked ts))
+    ∙ ap (laid_from o) (sym (given_before-nothing (given (expanded_by (lookup table) (place_of here) mode 0 units (map marked_of (map kept_plain ts))))))
 
 -- ---- what is shown of a state ----
 

@@ -1,13 +1,12 @@
 -- The counts of what an expansion gives, token by token.
-use Rattle.std.proofs.Common.{◌≡◌, ℕ, ◌+◌, List, [], ◌∷◌, map, length, take, min, ◌-◌, ◌≤◌, Some, Result, Ok, Err, refl, ap, sym, ◌∙◌, arith}
+use Rattle.std.proofs.Common.{◌≡◌, ℕ, ◌+◌, List, [], ◌∷◌, length, take, min, ◌-◌, ◌≤◌, Some, Result, Ok, Err, refl, ap, sym, ◌∙◌, arith}
 use Rattle.std.proofs.lemmas.List.{length-append, length-take}
 use Rattle.pp_tokens.specs.declared.token.Token.{Token}
 use Rattle.macro_expand.specs.declared.outcome.ExpandError.{ExpandError}
 use Rattle.macro_expand.specs.declared.outcome.ExpandError.TheVariants.{Count, Unclosed, Paste, Deep, Work, Memory}
 use Rattle.macro_expand.specs.Asking.{Failure}
 use Rattle.macro_expand.specs.Expansion.{Expanded}
-use Rattle.macro_expand.specs.Replacement.{Marked, unmarked}
-use Rattle.macro_expand.specs.Seen.{marked_of, kept_plain, ReportsResult}
+use Rattle.macro_expand.specs.Seen.{ReportsResult}
 use Rattle.macro_expand.specs.Stream.{Given, Stream, given, given_before, to_come, GivesNext}
 use Rattle.expand_program.specs.declared.counts.Counts.{Counts}
 use Rattle.expand_program.specs.Counting.{Counted}
@@ -25,11 +24,6 @@ count_of (Err f) = Err f
 abbrev pub after_tokens : ℕ → Result Amount Failure → Result Amount Failure
 after_tokens n (Ok c) = Ok (record { tokens = n + c.tokens; units = c.units })
 after_tokens n (Err f) = Err f
-
--- tokens with no hidden name are those of the text
-pub plain_unmarked : (ts : List Token) → map marked_of (map kept_plain ts) ≡ map unmarked ts
-plain_unmarked [] = refl
-plain_unmarked (t ∷ ts) = ap (λ (l : List Marked). unmarked t ∷ l) (plain_unmarked ts)
 
 -- a stretch has no more tokens than its numbers
 pub rest_few : (end at : ℕ) (ts : List Token) → length (take (end - at) ts) ≤ end

@@ -1,8 +1,9 @@
 use Rattle.std.proofs.Common.{◌≡◌, [], refl, sym, ◌∙◌, arith}
 use Rattle.std.proofs.lemmas.List.{nil_from_length}
+use Rattle.base_types.proofs.Results.{no-error}
 use Rattle.daemon_cpp.specs.Prep.{world_of}
 use Rattle.daemon_cpp.specs.parts.Showing.{here_seen}
-use Rattle.daemon_cpp.proofs.Conditions.{answers-first, answers-next, answers-stop, answers-all, no-error}
+use Rattle.daemon_cpp.proofs.Conditions.{answers-first, answers-next, answers-stop, answers-all}
 use Rattle.daemon_cpp.proofs.condition.answer_parts.Goals as goal
 
 pub loop-part-init : goal.loop-part-init

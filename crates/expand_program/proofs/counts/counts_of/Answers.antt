@@ -10,7 +10,8 @@ use Rattle.macro_expand.specs.Asking.{Failure}
 use Rattle.macro_expand.specs.Expansion.{expanded_by}
 use Rattle.macro_expand.specs.Seen.{place_of, kept_plain}
 use Rattle.macro_expand.specs.Stream.{Given, Stream, given, given_before, to_come, at_hand}
-use Rattle.expand_program.proofs.CountLemmas.{count_init, count_turn, count_end, count_fails, count_of, after_tokens, plain_unmarked, rest_few}
+use Rattle.macro_expand.proofs.PendingLemmas.{plain_unmarked}
+use Rattle.expand_program.proofs.CountLemmas.{count_init, count_turn, count_end, count_fails, count_of, after_tokens, rest_few}
 use Rattle.expand_program.proofs.counts.counts_of.Goals as goal
 
 pub loop-stream-init : goal.loop-stream-init
