@@ -23,10 +23,6 @@ all-on_last P f [] all keeps = tt
 all-on_last P f (x ∷ []) all keeps = (keeps x all.0, tt)
 all-on_last P f (x ∷ y ∷ rest) all keeps = (all.0, all-on_last P f (y ∷ rest) all.1 keeps)
 
-pub all-end : {A : Type 0} (P : A → Type 0) (xs : List A) (x : A) → AllByRecursion P xs → P x → AllByRecursion P (xs ++ x ∷ [])
-all-end P [] x all new = (new, tt)
-all-end P (y ∷ ys) x all new = (all.0, all-end P ys x all.1 new)
-
 -- what the last member is like gives what the changed one is like, and what all are like
 pub at_last-on_last : (P Q : Exchange → Type 0) (f : Exchange → Exchange) (xs : List Exchange) → AtLast P xs → ((x : Exchange) → P x → Q (f x)) → AtLast Q (on_last f xs)
 at_last-on_last P Q f [] last gives = last

@@ -1,33 +1,28 @@
 -- How a wire in memory stands after each call.
 use Rattle.std.proofs.Common.{◌≡◌, ℕ, ◌+◌, ◌≤◌, List, [], ◌∷◌, ◌++◌, Bool, true, false, cond, nat_eq, append-nil, take, drop, length, ap, refl, sym, ◌∙◌, subst, inl, inr, arith}
 use Rattle.std.proofs.lemmas.Bool.Decides.{eqb_tells}
-use Rattle.std.proofs.Math.Seq.{take-add}
+use Rattle.std.proofs.Math.Seq.{take-add, take-length}
 use Rattle.std.proofs.lemmas.List.{take-append-drop}
 use Rattle.std.specs.List.{AllByRecursion}
+use Rattle.std.proofs.lemmas.Bool.{true≢false}
 use Rattle.base_types.specs.Told.{on_last}
+use Rattle.base_types.proofs.Lists.{all_push}
 use Rattle.io_edges.specs.declared.wire.Exchange.{Exchange}
 use Rattle.io_edges.specs.declared.wire.Host.{Host}
 use Rattle.io_edges.specs.declared.wire.LinkState.{LinkState}
 use Rattle.io_edges.specs.declared.wire.LinkState.TheVariants.{Sending, Taking}
 use Rattle.io_edges.specs.Talk.{IsAnswered, dialled, sending, finishing, taking, ending}
 use Rattle.daemon_serve.specs.MemWire.{AtLast, IsFresh, IsTaken, LastHolds, WireHolds}
-use Rattle.daemon_serve.proofs.LastMember.{all-end, all-at_last, at_last-end, at_last-on_last, at_last-both}
-
-no : true ≡ false → ⊥
-no e = cc
-
-take-all : (answer : List ℕ) → take (length answer) answer ≡ answer
-take-all [] = refl
-take-all (x ∷ xs) = ap (λ l. x ∷ l) (take-all xs)
+use Rattle.daemon_serve.proofs.LastMember.{all-at_last, at_last-end, at_last-on_last, at_last-both}
 
 -- an exchange that was sent or taken so far was answered
 answered-fresh : (peer : List ℕ → List ℕ → Type 0) (e : Exchange) → IsFresh e → IsAnswered peer e
-answered-fresh peer e fresh = record { so_far = inl fresh.0; whole = λ w. absurd (no (sym w ∙ fresh.1)) }
+answered-fresh peer e fresh = record { so_far = inl fresh.0; whole = λ w. absurd (true≢false (sym w ∙ fresh.1)) }
 
 answered-taken : (peer : List ℕ → List ℕ → Type 0) (answer : List ℕ) (given : ℕ) (e : Exchange) → IsTaken peer answer given e → IsAnswered peer e
 answered-taken peer answer given e t = record {
   so_far = inr (drop given answer, subst (λ (a : List ℕ). peer e.sent a) (sym (ap (λ r. r ++ drop given answer) t.front ∙ take-append-drop given answer)) t.from);
-  whole = λ w. subst (λ (a : List ℕ). peer e.sent a) (sym (t.front ∙ ap (λ n. take n answer) (t.whole w) ∙ take-all answer)) t.from;
+  whole = λ w. subst (λ (a : List ℕ). peer e.sent a) (sym (t.front ∙ ap (λ n. take n answer) (t.whole w) ∙ take-length answer)) t.from;
 }
 
 -- the last exchange, in the states in which it goes on
@@ -48,7 +43,7 @@ taken-within peer talk answer given state holds is = within_at peer talk answer 
 -- after a dial
 pub holds-dialled : (peer : List ℕ → List ℕ → Type 0) (talk : List Exchange) (answer : List ℕ) (given : ℕ) (host : Host) → AllByRecursion (IsAnswered peer) talk → WireHolds peer (talk ++ dialled host ∷ []) answer given Sending
 holds-dialled peer talk answer given host each = record {
-  each = all-end (IsAnswered peer) talk (dialled host) each (answered-fresh peer (dialled host) (refl, refl));
+  each = all_push (IsAnswered peer) talk (dialled host) each (answered-fresh peer (dialled host) (refl, refl));
   last = at_last-end IsFresh talk (dialled host) (refl, refl);
 }
 
@@ -74,7 +69,7 @@ finished_at peer answer e f = record {
   from = f.1;
   front = f.0.0;
   within = (let w : 0 ≤ length answer = omega arith in w);
-  whole = λ w. absurd (no (sym w ∙ f.0.1));
+  whole = λ w. absurd (true≢false (sym w ∙ f.0.1));
 }
 
 pub holds-finished : (peer : List ℕ → List ℕ → Type 0) (talk : List Exchange) (answer : List ℕ) → AllByRecursion (IsAnswered peer) talk → AtLast IsFresh talk → AtLast (λ e. peer e.sent answer) talk → WireHolds peer (on_last finishing talk) answer 0 Taking
@@ -103,8 +98,8 @@ taken_by peer answer room given n false e none more same within end t = record {
 taken_at : (peer : List ℕ → List ℕ → Type 0) (answer room : List ℕ) (given n : ℕ) (e : Exchange) → take n room ≡ take n (drop given answer) → given + n ≤ length answer → (n ≡ 0 → given ≡ length answer) → IsTaken peer answer given e → IsTaken peer answer (given + n) (cond (nat_eq n 0) (ending e) (taking (take n room) e))
 taken_at peer answer room given n e same within end t =
     elim (eqb_tells n 0) [
-      | inl both ↦ taken_by peer answer room given n (nat_eq n 0) e (λ _. both.1) (λ f. absurd (no (sym both.0 ∙ f))) same within end t
-      | inr both ↦ taken_by peer answer room given n (nat_eq n 0) e (λ y. absurd (no (sym y ∙ both.0))) (λ _. both.1) same within end t
+      | inl both ↦ taken_by peer answer room given n (nat_eq n 0) e (λ _. both.1) (λ f. absurd (true≢false (sym both.0 ∙ f))) same within end t
+      | inr both ↦ taken_by peer answer room given n (nat_eq n 0) e (λ y. absurd (true≢false (sym y ∙ both.0))) (λ _. both.1) same within end t
     ]
 
 pub holds-taken : (peer : List ℕ → List ℕ → Type 0) (talk : List Exchange) (answer : List ℕ) (given : ℕ) (state : LinkState) (room : List ℕ) (n : ℕ) → WireHolds peer talk answer given state → state ≡ Taking → take n room ≡ take n (drop given answer) → given + n ≤ length answer → (n ≡ 0 → given ≡ length answer) → WireHolds peer (on_last (λ e. cond (nat_eq n 0) (ending e) (taking (take n room) e)) talk) answer (given + n) state
