@@ -1,8 +1,9 @@
 -- An analysis holds: the entries gathered are those of the job, and nothing is refused wrongly.
-use Rattle.std.proofs.Common.{◌≡◌, ◌⊎◌, ◌||◌, ◌<◌, ◌≤◌, ℕ, List, [], ◌∷◌, length, Option, None, Some, IsSome, Bool, true, false, ◌&&◌, refl, sym, ◌∙◌, ap, subst, arith, inl, inr, ltb-true, ltb-false}
+use Rattle.std.proofs.Common.{◌≡◌, ◌⊎◌, ◌||◌, ◌<◌, ◌≤◌, ℕ, List, [], ◌∷◌, length, Option, None, Some, IsSome, Bool, true, false, refl, sym, ◌∙◌, ap, subst, arith, inl, inr, ltb-true, ltb-false}
 use Rattle.std.specs.Prelude.{Result, Ok, Err, nat_lt, ◌↔◌, IfOk, IfSome}
 use Rattle.std.specs.Option.{ForSome}
 use Rattle.std.specs.List.{list_all}
+use Rattle.std.proofs.lemmas.Bool.{and_parts, or_parts}
 use Rattle.base_types.specs.Members.{Member, Within}
 use Rattle.directive_scan.specs.declared.HeaderName.{HeaderName}
 use Rattle.symbolic_expand.specs.Laws.{MoreKeepHeaders, MoreKeepLongRuns, MoreKeepPresumedRuns, MoreKeepManyRuns}
@@ -12,6 +13,7 @@ use Rattle.tree_model.specs.Trees.{FileTree, IsTree, IsTooLarge, entry_at, body_
 use Rattle.tree_model.specs.Frame.{HoldsOfLocated}
 use Rattle.tree_model.specs.declared.entry.Entry.{Entry}
 use Rattle.tree_model.specs.declared.entry.Entry.TheVariants.{Dir, File, Link}
+use Rattle.tree_model.proofs.TreeLemmas.{some_entry}
 use Rattle.search_path.specs.Laws.{SearchesLocate}
 use Rattle.search_path.specs.declared.asking.Visit.{Visit}
 use Rattle.job_words.specs.declared.job.Job.{Job}
@@ -47,18 +49,10 @@ ok-for-told o (Err e) P each = tt
 
 -- ENTRIES
 
-first-of : (a b : Bool) → (a && b) ≡ true → a ≡ true
-first-of true b e = refl
-first-of false b e = cc
-
-second-of : (a b : Bool) → (a && b) ≡ true → b ≡ true
-second-of true b e = e
-second-of false b e = cc
-
 test-all : {X : Type 0} (test : X → Bool) (xs : List X) → list_all test xs ≡ true → (x : X) → Member x xs → test x ≡ true
 test-all test [] all x m = elim m [ ]
-test-all test (y ∷ xs) all x (inl e) = ap test (sym e) ∙ first-of (test y) (list_all test xs) all
-test-all test (y ∷ xs) all x (inr m) = test-all test xs (second-of (test y) (list_all test xs) all) x m
+test-all test (y ∷ xs) all x (inl e) = ap test (sym e) ∙ (and_parts (test y) (list_all test xs) all).0
+test-all test (y ∷ xs) all x (inr m) = test-all test xs (and_parts (test y) (list_all test xs) all).1 x m
 
 -- lists that increase and have the same entries are one
 same-lists : (a b : Entries) → is_increasing a ≡ true → is_increasing b ≡ true → ((e : Path × Entry) → Member e a → Member e b) → ((e : Path × Entry) → Member e b → Member e a) → a ≡ b
@@ -67,13 +61,13 @@ same-lists [] (y ∷ b) ia ib to back = elim (back y (inl refl)) [ ]
 same-lists (x ∷ a) [] ia ib to back = elim (to x (inl refl)) [ ]
 same-lists (x ∷ a) (y ∷ b) ia ib to back =
     let heads : x ≡ y = same_heads (to x (inl refl)) (back y (inl refl)) in
-    let tails : a ≡ b = same-lists a b (second-of (list_all (λ f. below (spelled x.0) (spelled f.0)) a) (is_increasing a) ia) (second-of (list_all (λ f. below (spelled y.0) (spelled f.0)) b) (is_increasing b) ib)
+    let tails : a ≡ b = same-lists a b (and_parts (list_all (λ f. below (spelled x.0) (spelled f.0)) a) (is_increasing a) ia).1 (and_parts (list_all (λ f. below (spelled y.0) (spelled f.0)) b) (is_increasing b) ib).1
     (λ e m. not_head y b e (to e (inr m)) (λ same. never_itself x a ia (subst (λ (w : Path × Entry). Member w a) (sym same ∙ sym heads) m)))
     (λ e m. not_head x a e (back e (inr m)) (λ same. never_itself y b ib (subst (λ (w : Path × Entry). Member w b) (sym same ∙ heads) m))) in
     ap (λ (h : Path × Entry). h ∷ a) heads ∙ ap (λ (t : Entries). y ∷ t) tails
   where
     behind_head : (h : Path × Entry) (t : Entries) → is_increasing (h ∷ t) ≡ true → (e : Path × Entry) → Member e t → comes_before h.0 e.0 ≡ true
-    behind_head h t up e m = test-all (λ (f : Path × Entry). below (spelled h.0) (spelled f.0)) t (first-of (list_all (λ f. below (spelled h.0) (spelled f.0)) t) (is_increasing t) up) e m
+    behind_head h t up e m = test-all (λ (f : Path × Entry). below (spelled h.0) (spelled f.0)) t (and_parts (list_all (λ f. below (spelled h.0) (spelled f.0)) t) (is_increasing t) up).0 e m
 
     never_itself : (h : Path × Entry) (t : Entries) → is_increasing (h ∷ t) ≡ true → Member h t → ⊥
     never_itself h t up m =
@@ -106,10 +100,6 @@ same-entries tree job a b are be = same-lists a b are.increasing be.increasing (
 few : (a b : ℕ) → nat_lt a b ≡ false → a < b → ⊥
 few a b e lt = let above : b ≤ a = ltb-false a b e in absurd (omega (arith, above, lt))
 
-or-none : (a b : Bool) → (a || b) ≡ false → (a ≡ false) × (b ≡ false)
-or-none true b e = absurd (cc)
-or-none false b e = (refl, e)
-
 file-of : (entry : Entry) (body : Text) → body_of (Some entry) ≡ Some body → entry ≡ File body
 file-of Dir body e = absurd (cc)
 file-of (File other) body e = let same : other ≡ body = cc in ap (λ (b : Text). File b) same
@@ -119,7 +109,7 @@ some-same : (x y : Entry) → Some x ≡ Some y → x ≡ y
 some-same x y e = cc
 
 -- what is above a node, and isn't the root, is a node
-up-above : (name : Text) (path met : Path) → IsAtOrAbove (name ∷ path) met → IsAtOrAbove path met
+pub up-above : (name : Text) (path met : Path) → IsAtOrAbove (name ∷ path) met → IsAtOrAbove path met
 up-above name path [] above = let never : name ∷ path ≡ [] = above in absurd (cc)
 up-above name path (other ∷ met) (inl e) =
     let same : path ≡ met = tail-same e in inr (subst (λ (p : Path). IsAtOrAbove path p) same (itself path))
@@ -144,10 +134,6 @@ node-above name up path node = record {
   below_root = λ e. let never : up ∷ path ≡ [] = e in absurd (cc);
 }
 
-some-of : (o : Option Entry) → IsSome o → (entry : Entry) × (o ≡ Some entry)
-some-of None is = absurd (cc)
-some-of (Some entry) is = (entry, refl)
-
 -- WHAT IS SENT
 
 module _ (holds : HoldsOfLocated) (locates : SearchesLocate) (tree : FileTree) (whole : IsTree tree) (job : Job) (nodes : List Path)
@@ -156,12 +142,12 @@ module _ (holds : HoldsOfLocated) (locates : SearchesLocate) (tree : FileTree) (
   node-entry : (path : Path) → IsNodeOf tree job path → (entry : Entry) × (entry_at tree path ≡ Some entry) × Member (path, entry) entries
   node-entry [] node = absurd (node.below_root refl)
   node-entry (name ∷ []) node =
-      let there = some-of (entry_at tree (name ∷ [])) (node_there holds locates tree whole job (name ∷ []) node) in
+      let there = some_entry (entry_at tree (name ∷ [])) (node_there holds locates tree whole job (name ∷ []) node) in
       (there.0, there.1, given.whole (name ∷ []) there.0 ((is_node (name ∷ [])).1 node) there.1 refl)
   node-entry (name ∷ up ∷ path) node =
       let above = node-entry (up ∷ path) (node-above name up path node) in
       let some : IsSome (entry_at tree (name ∷ up ∷ path)) = node_there holds locates tree whole job (name ∷ up ∷ path) node in
-      let there = some-of (entry_at tree (name ∷ up ∷ path)) some in
+      let there = some_entry (entry_at tree (name ∷ up ∷ path)) some in
       let is_dir : above.0 ≡ Dir = some-same above.0 Dir (sym above.1 ∙ whole.parent name (up ∷ path) some) in (
         there.0,
         there.1,
@@ -264,10 +250,10 @@ module _ (keep : MoreKeepHeaders HeaderName) (long : MoreKeepLongRuns) (presumed
         nothing small fits refusal.Visits h = not-met refusal.Visits h
         nothing small fits refusal.Large (path, node, large) = none-large small path node large
         nothing small fits refusal.Request (others, be, inl many) =
-            few 100000 (length entries) (or-none (nat_lt 100000 (length entries)) (nat_lt most (length (request_bytes job entries))) fits).0
+            few 100000 (length entries) (or_parts (nat_lt 100000 (length entries)) (nat_lt most (length (request_bytes job entries))) fits).0
             (subst (λ (e : Entries). 100000 < length e) (same-entries tree job others entries be are) many)
         nothing small fits refusal.Request (others, be, inr long) =
-            few most (length (request_bytes job entries)) (or-none (nat_lt 100000 (length entries)) (nat_lt most (length (request_bytes job entries))) fits).1
+            few most (length (request_bytes job entries)) (or_parts (nat_lt 100000 (length entries)) (nat_lt most (length (request_bytes job entries))) fits).1
             (subst (λ (e : Entries). most < length (request_bytes job e)) (same-entries tree job others entries be are) long)
         nothing small fits refusal.NoSource none = done.done.accepted (answers_of tree job) (is_large_in tree) done.is_true refusal.NoSource none
 

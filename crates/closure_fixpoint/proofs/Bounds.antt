@@ -1,14 +1,13 @@
 -- Each job has a closure: there are finitely many visits.
-use Rattle.std.proofs.Common.{◌≡◌, ℕ, zero, suc, ◌+◌, ◌∷◌, ◌++◌, [], List, length, Option, Some, None, IsSome, Bool, true, false, ◌&&◌, inl, inr, refl, sym, ap, subst, ◌∙◌, map, drop, cond, arith}
+use Rattle.std.proofs.Common.{◌≡◌, ℕ, zero, suc, ◌+◌, ◌∷◌, ◌++◌, [], List, length, Option, Some, None, IsSome, Bool, true, false, inl, inr, refl, sym, ap, subst, ◌∙◌, map, drop, cond, arith}
 use Rattle.std.specs.Prelude.{nat_eq}
 use Rattle.std.specs.Bool.{Decides}
-use Rattle.std.specs.Cmp.{IsTotalOrder, unsigned_Decides}
+use Rattle.std.specs.Cmp.{IsTotalOrder, unsigned_Decides, Equal-is}
 use Rattle.std.proofs.lemmas.Cmp.{nat_list_cmp_total, lists_total, tied_itself}
 use Rattle.std.specs.List.{flat_map, enumerate_from}
 use Rattle.std.specs.Ordering.{eq_by_cmp, is_eq}
-use Rattle.std.specs.declared.cmp.Ordering.{Ordering}
-use Rattle.std.specs.declared.cmp.Ordering.TheVariants.{Less, Equal, Greater}
 use Rattle.std.specs.FinMap.{keys, contains_key-keys, slice_cmp-IsAntisymmetric, nat_cmp-IsAntisymmetric}
+use Rattle.std.proofs.lemmas.Bool.{and_parts, and_from}
 use Rattle.base_types.specs.Members.{Member}
 use Rattle.directive_scan.specs.declared.HeaderName.{HeaderName}
 use Rattle.symbolic_expand.specs.Laws.{MoreKeepHeaders}
@@ -18,6 +17,7 @@ use Rattle.tree_model.specs.Walk.{is_absolute, locate}
 use Rattle.tree_model.specs.Frame.{LocatedHolds, HoldsOfLocated}
 use Rattle.tree_model.specs.declared.entry.Entry.TheVariants.{Dir}
 use Rattle.tree_model.specs.declared.walk.Located.{Located}
+use Rattle.tree_model.proofs.MemberLemmas.{Member-map, Member-flat_map, list_any-true}
 use Rattle.search_path.specs.SetupOf.{SetupData}
 use Rattle.search_path.specs.Search.{Candidate, from_root, in_directory, chain_from, beside, quote_candidates, angle_candidates, next_candidates, of_visit, relative_candidates, found_absolute, candidates, Hit, hit_or, hit_by, first_located, search}
 use Rattle.search_path.specs.Laws.{IsStart, SearchesLocate}
@@ -33,7 +33,7 @@ use Rattle.sheet_build.specs.Sheet.{asked_for}
 use Rattle.closure_fixpoint.specs.Closure.{answers_of, computed_ask, LeadsTo, ByName, ByTokens, first_asks, first_hits, first_visits, IsClosedFor}
 use Rattle.closure_fixpoint.specs.Laws.{ClosuresExist}
 use Rattle.closure_fixpoint.specs.parts.Worklist.{found_number, same_visit}
-use Rattle.closure_fixpoint.proofs.MemberLaws.{Member-map, Member-flat_map, GivenBy, filter_map-Member, MappedBy, map-Member, flat_map-Member, list_any-by, list_any-from}
+use Rattle.closure_fixpoint.proofs.MemberLaws.{GivenBy, filter_map-Member, MappedBy, map-Member, flat_map-Member, list_any-by}
 use Rattle.closure_fixpoint.proofs.ClosedLaws.{closure_exists}
 use Rattle.closure_fixpoint.proofs.LeadsLaws.{leads_monotone, led, led_sound, led_whole}
 use Rattle.closure_fixpoint.proofs.Searched.{IsHome, IsSearched, included_searched}
@@ -58,22 +58,14 @@ same_number (Chain j) Absolute e = absurd (omega (arith, e))
 same_number (Chain j) Here e = absurd (omega (arith, e))
 same_number (Chain j) (Chain k) e = let same : j ≡ k = omega (arith, e) in ap Chain same
 
-pub both_true : (a b : Bool) → (a && b) ≡ true → (a ≡ true) × (b ≡ true)
-both_true true b e = (refl, e)
-both_true false b e = absurd (cc)
-
-pub and_true : (a b : Bool) → a ≡ true → b ≡ true → (a && b) ≡ true
-and_true true b ea eb = eb
-and_true false b ea eb = absurd (cc)
-
 pub same_visit-Decides : (a b : Visit) → Decides (same_visit a b) (a ≡ b)
 same_visit-Decides a b = (
   λ e.
-      let both = both_true (is_same_path a.place b.place) (nat_eq (found_number a.found) (found_number b.found)) e in
+      let both = and_parts (is_same_path a.place b.place) (nat_eq (found_number a.found) (found_number b.found)) e in
       let place : a.place ≡ b.place = (is_same_path-Decides a.place b.place).0 both.0 in
       let found : a.found ≡ b.found = same_number a.found b.found ((unsigned_Decides (found_number a.found) (found_number b.found)).0 both.1) in
       λ i. record { place = place i; found = found i },
-  λ e. and_true (is_same_path a.place b.place) (nat_eq (found_number a.found) (found_number b.found))
+  λ e. and_from (is_same_path a.place b.place) (nat_eq (found_number a.found) (found_number b.found))
       ((is_same_path-Decides a.place b.place).1 (ap (λ (v : Visit). v.place) e))
       ((unsigned_Decides (found_number a.found) (found_number b.found)).1 (ap (λ (v : Visit). found_number v.found) e)),
 )
@@ -168,16 +160,11 @@ way_found tree setup ask hit is = located_way tree setup (candidates setup ask) 
 
 -- THE PLACES OF A TREE
 
-is_equal : (o : Ordering) → is_eq o ≡ true → o ≡ Equal
-is_equal Less e = absurd (cc)
-is_equal Equal e = refl
-is_equal Greater e = absurd (cc)
-
 paths_total : IsTotalOrder path_cmp
 paths_total = lists_total nat_list_cmp_total
 
 same_key : (p q : Path) → eq_by_cmp path_cmp p q ≡ true → p ≡ q
-same_key p q h = slice_cmp-IsAntisymmetric (slice_cmp-IsAntisymmetric nat_cmp-IsAntisymmetric) p q (is_equal (path_cmp p q) h)
+same_key p q h = slice_cmp-IsAntisymmetric (slice_cmp-IsAntisymmetric nat_cmp-IsAntisymmetric) p q ((Equal-is (path_cmp p q)).0 h)
 
 key_there : (tree : FileTree) (path : Path) → IsSome (entry_at tree path) → Member path (keys tree)
 key_there tree path there =
@@ -185,7 +172,7 @@ key_there tree path there =
     subst (λ (p : Path). Member p (keys tree)) (sym (same_key path by.by by.passes)) by.member
 
 there_key : (tree : FileTree) (path : Path) → Member path (keys tree) → IsSome (entry_at tree path)
-there_key tree path m = contains_key-keys tree path ∙ list_any-from (eq_by_cmp path_cmp path) path (keys tree) m (own_key path)
+there_key tree path m = contains_key-keys tree path ∙ list_any-true (eq_by_cmp path_cmp path) path (keys tree) m (own_key path)
   where
     own_key : (p : Path) → eq_by_cmp path_cmp p p ≡ true
     own_key p = ap is_eq (tied_itself paths_total p)

@@ -2,8 +2,8 @@
 use Rattle.std.proofs.Common.{◌≡◌, ◌⊎◌, ◌≤◌, ◌<◌, ◌+◌, ℕ, zero, suc, ◌∷◌, ◌++◌, [], List, length, Bool, true, false, refl, sym, ap, subst, ◌∙◌, inl, inr, arith}
 use Rattle.std.specs.Bool.{Decides}
 use Rattle.base_types.specs.Members.{Member, Within, EachOnce}
+use Rattle.tree_model.proofs.MemberLemmas.{Member-append, Member-append_left, Member-append_right}
 use Rattle.closure_fixpoint.specs.Closed.{IsClosed, IsClosure, IsMonotone}
-use Rattle.closure_fixpoint.proofs.MemberLaws.{Member-append, Member-append_left, Member-append_right}
 
 -- LISTS WITH NO ELEMENT TWICE
 

@@ -1,7 +1,9 @@
 -- What an analysis over a tree was told stays true of it.
-use Rattle.std.proofs.Common.{◌≡◌, ◌<◌, ℕ, [], ◌∷◌, length, Option, Some, Bool, true, false, inl, inr, refl, sym, ap, subst, ◌∙◌, ◌≤◌, ltb-false, arith}
-use Rattle.std.specs.Prelude.{IsTrue, nat_lt}
+use Rattle.std.proofs.Common.{◌≡◌, ℕ, [], ◌∷◌, length, Option, Some, Bool, true, false, inl, inr, refl, sym, ap, subst, ◌∙◌}
+use Rattle.std.specs.Prelude.{IsTrue}
+use Rattle.std.proofs.lemmas.Bool.{lt-ltb}
 use Rattle.tree_model.specs.Trees.{FileTree, body_limit}
+use Rattle.tree_model.proofs.MemberLemmas.{Member-append}
 use Rattle.search_path.specs.Search.{Hit, search}
 use Rattle.search_path.specs.declared.asking.Visit.{Visit}
 use Rattle.search_path.specs.declared.asking.Ask.{Ask}
@@ -12,16 +14,8 @@ use Rattle.closure_fixpoint.specs.declared.fixpoint.Next.TheVariants as next
 use Rattle.closure_fixpoint.specs.Progress.{Heard, with_search, with_sheet}
 use Rattle.closure_fixpoint.specs.Told.{Progress, IsBegun, OfSearch, OfSheet, PutsSearch, PutsSheet, PutsLarge, AsksSearch, AsksSheet}
 use Rattle.closure_fixpoint.specs.Driving.{is_large_in, IsTrueIn, IsOfTree, GoesOn}
-use Rattle.closure_fixpoint.proofs.MemberLaws.{Member-append}
 
 -- WHAT IS TOLD
-
-pub nat-below : (a b : ℕ) → a < b → nat_lt a b ≡ true
-nat-below a b below = by_test (nat_lt a b) refl
-  where
-    by_test : (t : Bool) → nat_lt a b ≡ t → nat_lt a b ≡ true
-    by_test true e = e
-    by_test false e = let above : b ≤ a = ltb-false a b e in absurd (omega (arith, below, above))
 
 module _ (tree : FileTree) (job : JobData) where
   true_search : (heard : Heard) (ask : Ask) (got : Option Hit) → IsTrueIn tree job heard → got ≡ search tree job.setup ask → IsTrueIn tree job (with_search heard ask got)
@@ -62,7 +56,7 @@ module _ (tree : FileTree) (job : JobData) where
     sheets = is.sheets;
     large = λ v same.
         let one : visit ≡ v = cc in
-        subst (λ (w : Visit). is_large_in tree w ≡ true) one (nat-below body_limit (length (body_of_place tree visit.place)) large);
+        subst (λ (w : Visit). is_large_in tree w ≡ true) one (lt-ltb body_limit (length (body_of_place tree visit.place)) large);
   }
 
   module _ (budget : ℕ) where

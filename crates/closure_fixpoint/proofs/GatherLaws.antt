@@ -5,42 +5,27 @@ use Rattle.std.specs.List.{list_any, list_all}
 use Rattle.std.specs.Ordering.{nat_cmp, is_lt}
 use Rattle.std.specs.Cmp.Lexicographic.{slice_cmp}
 use Rattle.std.proofs.lemmas.Cmp.{nat_cmp_total, tied_itself}
-use Rattle.std.proofs.lemmas.Bool.{and_parts, and_from, eqb-true}
+use Rattle.std.proofs.lemmas.Bool.{and_parts, and_from, lt-ltb}
 use Rattle.std.proofs.lemmas.List.{take-append-drop, take_all}
 use Rattle.std.proofs.lemmas.List.Elements.{All-push}
 use Rattle.std.proofs.lemmas.List.Folds.{list_any-append}
 use lib.Pointwise.{pointwise}
 use Rattle.base_types.specs.Members.{Member, Within}
 use Rattle.tree_model.specs.Paths.{Text, Path, slash, spelled, spelled_below, is_canonical, IsCanonical}
-use Rattle.tree_model.specs.Entries.{Entries, Increasing, is_increasing, below, is_dir, is_dir_at, has_parent, is_link_text, entry_fits, makes_tree}
+use Rattle.tree_model.specs.Entries.{Entries, is_increasing, below, is_dir, is_dir_at, has_parent, is_link_text, entry_fits, makes_tree}
 use Rattle.tree_model.specs.Laws.{ParentsMakeTrees, TestsDecide}
-use Rattle.tree_model.specs.Trees.{FileTree, entry_at, body_of, by_bytes, IsTooLarge}
+use Rattle.tree_model.specs.Trees.{FileTree, entry_at, body_of, IsTooLarge}
 use Rattle.tree_model.specs.declared.entry.Entry.{Entry}
 use Rattle.tree_model.specs.declared.entry.Entry.TheVariants.{Dir, File, Link}
+use Rattle.tree_model.proofs.MemberLemmas.{Member-append, Member-append_left, Member-append_right, list_any-true}
+use Rattle.tree_model.proofs.PathLemmas.{text_same, text_itself}
 use Rattle.job_frames.specs.Request.{HasSpelling, IsSpellable}
+use Rattle.macro_defs.proofs.Fronts.{front_at}
 use Rattle.closure_fixpoint.specs.Gathering.{comes_before, are_rising, AreGathered, HasLarge, with_path, kept_at, gathered_from, AreKept, AddsAt, files_there, files_among}
 use Rattle.closure_fixpoint.proofs.Orders.{in_order, at-member}
-use Rattle.closure_fixpoint.proofs.DrivingLaws.{nat-below}
-use Rattle.closure_fixpoint.proofs.MemberLaws.{Member-append, Member-append_left, Member-append_right, list_any-from}
 use Rattle.closure_fixpoint.proofs.NodesTold.{test-all}
-use Rattle.closure_fixpoint.proofs.Steps.{next-at}
 
 -- SPELLINGS
-
-text-same : (a b : Text) → pointwise nat_eq a b ≡ true → a ≡ b
-text-same [] [] h = refl
-text-same [] (y ∷ b) h = absurd (cc)
-text-same (x ∷ a) [] h = absurd (cc)
-text-same (x ∷ a) (y ∷ b) h =
-    let pair = and_parts (nat_eq x y) (pointwise nat_eq a b) h in
-    ap (λ (n : ℕ). n ∷ a) (eqb-true x y pair.0) ∙ ap (λ (t : Text). y ∷ t) (text-same a b pair.1)
-
-same-text : (a : Text) → pointwise nat_eq a a ≡ true
-same-text [] = refl
-same-text (x ∷ a) = and_from (nat_eq x x) (pointwise nat_eq a a) (itself x) (same-text a)
-  where
-    itself : (n : ℕ) → nat_eq n n ≡ true
-    itself n = grind arith
 
 -- a text comes before what goes on behind it
 front-below : (a : Text) (b : ℕ) (c : Text) → is_lt (slice_cmp nat_cmp a (a ++ b ∷ c)) ≡ true
@@ -66,7 +51,7 @@ rising-front (y ∷ done) q rest up x (inr m) =
 pub rising-at : (nodes : List Path) (i : ℕ) (q : Path) → i < length nodes → q ≡ get_or nodes i q → are_rising nodes ≡ true → (x : Path) → Member x (take i nodes) → comes_before x q ≡ true
 rising-at nodes i q below is up x m =
     rising-front (take i nodes) q (drop (i + 1) nodes)
-    (subst (λ (l : List Path). are_rising l ≡ true) (sym (take-append-drop i nodes) ∙ ap (λ (l : List Path). take i nodes ++ l) (next-at nodes i q below is)) up)
+    (subst (λ (l : List Path). are_rising l ≡ true) (sym (take-append-drop i nodes) ∙ ap (λ (l : List Path). take i nodes ++ l) (front_at nodes i q below is)) up)
     x m
 
 -- PARENTS
@@ -87,7 +72,7 @@ new-parent es q entry (name ∷ up ∷ path) h =
     by_test : (b : Bool) → list_any (is_dir_at (spelled (up ∷ path))) es ≡ b → (b || (is_dir_at (spelled (up ∷ path)) (q, entry) || false)) ≡ true
         → (list_any (is_dir_at (spelled (up ∷ path))) es ≡ true) ⊎ (comes_before q (name ∷ up ∷ path) ≡ true)
     by_test true e g = inl e
-    by_test false e g = inr (ap (λ (t : Text). below t (spelled (name ∷ up ∷ path))) (text-same (spelled q) (spelled (up ∷ path)) (and_parts (pointwise nat_eq (spelled q) (spelled (up ∷ path))) (is_dir entry) (last (is_dir_at (spelled (up ∷ path)) (q, entry)) g)).0) ∙ parent-before name up path)
+    by_test false e g = inr (ap (λ (t : Text). below t (spelled (name ∷ up ∷ path))) (text_same (spelled q) (spelled (up ∷ path)) (and_parts (pointwise nat_eq (spelled q) (spelled (up ∷ path))) (is_dir entry) (last (is_dir_at (spelled (up ∷ path)) (q, entry)) g)).0) ∙ parent-before name up path)
       where
         last : (b : Bool) → (b || false) ≡ true → b ≡ true
         last true k = refl
@@ -96,7 +81,7 @@ new-parent es q entry (name ∷ up ∷ path) h =
 -- a directory among entries holds its paths
 pub dir-holds : (es : Entries) (name up : Text) (path : Path) → Member (up ∷ path, Dir) es → has_parent es (name ∷ up ∷ path) ≡ true
 dir-holds es name up path m =
-    list_any-from (is_dir_at (spelled (up ∷ path))) (up ∷ path, Dir) es m (and_from (pointwise nat_eq (spelled (up ∷ path)) (spelled (up ∷ path))) true (same-text (spelled (up ∷ path))) refl)
+    list_any-true (is_dir_at (spelled (up ∷ path))) (up ∷ path, Dir) es m (and_from (pointwise nat_eq (spelled (up ∷ path)) (spelled (up ∷ path))) true (text_itself (spelled (up ∷ path))) refl)
 
 -- AN ENTRY MORE
 
@@ -307,12 +292,12 @@ kept-all nodes i es end kept = subst (λ (l : List Path). AreKept l es) (take_al
 pub gathered-next : (tree : FileTree) (nodes : List Path) (i : ℕ) (q : Path) (old new whole : Entries) → i < length nodes → q ≡ get_or nodes i q → gathered_from tree old (drop i nodes) ≡ whole
     → new ≡ old ++ kept_at tree old q → gathered_from tree new (drop (i + 1) nodes) ≡ whole
 gathered-next tree nodes i q old new whole below is so_far added =
-    ap (λ (es : Entries). gathered_from tree es (drop (i + 1) nodes)) added ∙ ap (gathered_from tree old) (sym (next-at nodes i q below is)) ∙ so_far
+    ap (λ (es : Entries). gathered_from tree es (drop (i + 1) nodes)) added ∙ ap (gathered_from tree old) (sym (front_at nodes i q below is)) ∙ so_far
 
 pub large-at : (tree : FileTree) (nodes : List Path) (i : ℕ) (q : Path) (old whole : Entries) → i < length nodes → q ≡ get_or nodes i q → gathered_from tree old (drop i nodes) ≡ whole
     → has_parent old q ≡ true → IsTooLarge tree q → HasLarge whole
 large-at tree nodes i q old whole below is so_far parent large =
-    subst (λ (es : Entries). HasLarge es) (ap (gathered_from tree old) (sym (next-at nodes i q below is)) ∙ so_far) (large-gathered tree old q (drop (i + 1) nodes) parent large)
+    subst (λ (es : Entries). HasLarge es) (ap (gathered_from tree old) (sym (front_at nodes i q below is)) ∙ so_far) (large-gathered tree old q (drop (i + 1) nodes) parent large)
 
 -- THE WHOLE
 
@@ -345,14 +330,14 @@ no-large entries all (path, body, m, large) =
     let fits : HasSpelling (path, File body) = at-member HasSpelling entries all (path, File body) m in
     absurd (omega (arith, fits.1, large))
 
-all-test : {X : Type 0} (test : X → Bool) (xs : List X) → ((x : X) → Member x xs → test x ≡ true) → list_all test xs ≡ true
+pub all-test : {X : Type 0} (test : X → Bool) (xs : List X) → ((x : X) → Member x xs → test x ≡ true) → list_all test xs ≡ true
 all-test test [] each = refl
 all-test test (x ∷ xs) each = and_from (test x) (list_all test xs) (each x (inl refl)) (all-test test xs (λ y m. each y (inr m)))
 
 link-fits : (text : Text) → (1 ≤ length text) × (length text ≤ 4095) × (list_any (λ c. c == 0) text ≡ false) → is_link_text text ≡ true
 link-fits text fits =
-    and_from (nat_lt 0 (length text)) (nat_lt (length text) 4096 && not (list_any (λ byte. byte == 0) text)) (nat-below 0 (length text) (omega (arith, fits.0)))
-    (and_from (nat_lt (length text) 4096) (not (list_any (λ byte. byte == 0) text)) (nat-below (length text) 4096 (omega (arith, fits.1))) (ap not fits.2))
+    and_from (nat_lt 0 (length text)) (nat_lt (length text) 4096 && not (list_any (λ byte. byte == 0) text)) (lt-ltb 0 (length text) (omega (arith, fits.0)))
+    (and_from (nat_lt (length text) 4096) (not (list_any (λ byte. byte == 0) text)) (lt-ltb (length text) 4096 (omega (arith, fits.1))) (ap not fits.2))
 
 entry-fits : (entry : Entry) → IsSpellable entry → entry_fits entry ≡ true
 entry-fits Dir fits = refl
@@ -365,37 +350,3 @@ tree-made makes decide nodes entries canonical kept fits =
     (all-test (λ (e : Path × Entry). has_parent entries e.0) entries (λ e m. kept.parents e.0 e.1 m))
     (all-test (λ (e : Path × Entry). is_canonical e.0) entries (λ e m. (decide e.0).1 (at-member IsCanonical nodes canonical e.0 (kept.inside e.0 e.1 m))))
     (all-test (λ (e : Path × Entry). entry_fits e.1) entries (λ e m. entry-fits e.1 (at-member HasSpelling entries fits e m).1))
-
--- A DIRECTORY AMONG ENTRIES
-
-abbrev pub is_dir_there : Option Entry → Bool
-is_dir_there None = false
-is_dir_there (Some e) = is_dir e
-
-no-dir : (es : Entries) (text from : Text) → text ≡ from → list_all (λ f. below from (spelled f.0)) es ≡ true → list_any (is_dir_at text) es ≡ false
-no-dir [] text from same all = refl
-no-dir (e ∷ es) text from same all =
-    let pair = and_parts (below from (spelled e.0)) (list_all (λ f. below from (spelled f.0)) es) all in
-    by_test (pointwise nat_eq (spelled e.0) text) refl pair.0 (no-dir es text from same pair.1)
-  where
-    by_test : (t : Bool) → pointwise nat_eq (spelled e.0) text ≡ t → below from (spelled e.0) ≡ true → list_any (is_dir_at text) es ≡ false → ((t && is_dir e.1) || list_any (is_dir_at text) es) ≡ false
-    by_test false is before rest = rest
-    by_test true is before rest =
-        let one : spelled e.0 ≡ from = text-same (spelled e.0) text is ∙ same in
-        let itself : comes_before e.0 e.0 ≡ true = ap (λ (t : Text). below t (spelled e.0)) one ∙ before in
-        let not_so : comes_before e.0 e.0 ≡ false = in_order.one_way e.0 e.0 itself in absurd (cc)
-
-pub dir-there : (es : Entries) (text : Text) → Increasing es → is_dir_there (by_bytes text es) ≡ list_any (is_dir_at text) es
-dir-there [] text inc = refl
-dir-there (e ∷ es) text inc =
-    let pair = and_parts (list_all (λ f. below (spelled e.0) (spelled f.0)) es) (is_increasing es) inc in
-    by_first (pointwise nat_eq (spelled e.0) text) refl pair.0 (dir-there es text pair.1)
-  where
-    or_false : (b : Bool) → b ≡ (b || false)
-    or_false true = refl
-    or_false false = refl
-
-    by_first : (t : Bool) → pointwise nat_eq (spelled e.0) text ≡ t → list_all (λ f. below (spelled e.0) (spelled f.0)) es ≡ true → is_dir_there (by_bytes text es) ≡ list_any (is_dir_at text) es
-        → is_dir_there (cond t (Some e.1) (by_bytes text es)) ≡ ((t && is_dir e.1) || list_any (is_dir_at text) es)
-    by_first true is all rest = or_false (is_dir e.1) ∙ ap (λ (b : Bool). is_dir e.1 || b) (sym (no-dir es text (spelled e.0) (sym (text-same (spelled e.0) text is)) all))
-    by_first false is all rest = rest

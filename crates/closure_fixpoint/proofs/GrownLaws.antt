@@ -1,25 +1,21 @@
 -- Lists of visits that grow.
 use Rattle.std.proofs.Common.{◌≡◌, ◌⊎◌, ◌≤◌, ◌<◌, ◌+◌, ℕ, zero, suc, ◌∷◌, ◌++◌, [], List, length, take, map, Option, Some, None, Bool, true, false, inl, inr, refl, sym, ap, subst, ◌∙◌, cond, arith}
 use Rattle.std.specs.List.{list_any, slice_get}
-use Rattle.std.proofs.lemmas.List.{take_more, take-append-le, map-append, length-append}
+use Rattle.std.proofs.lemmas.List.{take_more, take-append-le, map-append, length-append, append-nil}
 use Rattle.std.proofs.lemmas.Option.{slice_get_within, get_or_from_slice_get}
 use Rattle.base_types.specs.Members.{Member, Within, EachOnce}
 use Rattle.search_path.specs.Search.{Hit}
 use Rattle.search_path.specs.declared.asking.Visit.{Visit}
 use Rattle.sheet_build.specs.Sheet.{SheetData}
+use Rattle.tree_model.proofs.MemberLemmas.{Member-append, Member-append_left, Member-append_right, Member-map}
 use Rattle.closure_fixpoint.specs.Progress.{Heard, with_sheet, visits_told, PlainAreFound}
 use Rattle.closure_fixpoint.specs.parts.Worklist.{same_visit, with_visit, with_visits, with_hit}
-use Rattle.closure_fixpoint.proofs.MemberLaws.{Member-append, Member-append_left, Member-append_right, Member-map}
 use Rattle.closure_fixpoint.proofs.WantingLaws.{visit_there}
 
 -- the longer list begins with the other
 pub record Grows (xs ys : List Visit) : Type 0 where
   pub more : List Visit
   pub is : ys ≡ xs ++ more
-
-append-nil : {X : Type 0} (xs : List X) → xs ++ [] ≡ xs
-append-nil [] = refl
-append-nil (x ∷ xs) = ap (λ ys. x ∷ ys) (append-nil xs)
 
 append-assoc : {X : Type 0} (xs ys zs : List X) → (xs ++ ys) ++ zs ≡ xs ++ (ys ++ zs)
 append-assoc [] ys zs = refl

@@ -11,6 +11,7 @@ use Rattle.tree_model.specs.Frame.{LocatedHolds, HoldsOfLocated}
 use Rattle.tree_model.specs.declared.entry.Entry.{Entry}
 use Rattle.tree_model.specs.declared.entry.Entry.TheVariants.{Dir}
 use Rattle.tree_model.specs.declared.walk.Located.{Located}
+use Rattle.tree_model.proofs.MemberLemmas.{Member-append, Member-append_left, Member-append_right}
 use Rattle.search_path.specs.Search.{Hit, search}
 use Rattle.search_path.specs.Laws.{IsStart, HitIsLocated, SearchesLocate}
 use Rattle.search_path.specs.Asks.{forced_ask}
@@ -22,7 +23,7 @@ use Rattle.sheet_build.specs.Sheet.{asked_for, body_found, body_of_place}
 use Rattle.closure_fixpoint.specs.Closure.{answers_of, computed_ask, first_asks, first_hits, first_visits, LeadsTo, ByName, ByTokens, IsClosedFor, IsClosureOf, Known, AtFirst, Included, Probed, ByMacros}
 use Rattle.closure_fixpoint.specs.Analysis.{IsNodeOf}
 use Rattle.closure_fixpoint.specs.Driving.{is_large_in}
-use Rattle.closure_fixpoint.proofs.MemberLaws.{Member-append, Member-append_left, Member-append_right, GivenBy, filter_map-Member, MappedBy, map-Member}
+use Rattle.closure_fixpoint.proofs.MemberLaws.{GivenBy, filter_map-Member, MappedBy, map-Member}
 use Rattle.closure_fixpoint.proofs.LeadsLaws.{leads_monotone, led, led_sound, led_whole}
 use Rattle.closure_fixpoint.proofs.Searched.{IsHome, IsSearched, included_searched, IsProbed, probed_searched}
 use Rattle.closure_fixpoint.proofs.Bounds.{all_visits, all_closed, visit_home, from_visit}

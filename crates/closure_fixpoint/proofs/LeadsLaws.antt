@@ -15,9 +15,10 @@ use Rattle.search_path.specs.declared.asking.Visit.{Visit}
 use Rattle.search_path.specs.declared.asking.Ask.{Ask}
 use Rattle.job_words.specs.JobOf.{JobData}
 use Rattle.sheet_build.specs.Sheet.{ComputedAsk, SheetData, empty_sheet}
+use Rattle.tree_model.proofs.MemberLemmas.{Member-append, Member-append_left, Member-append_right, Member-map, Member-flat_map, Member-filter_map}
 use Rattle.closure_fixpoint.specs.Closed.{IsMonotone}
 use Rattle.closure_fixpoint.specs.Closure.{Answers, first_definitions, of_name, added, distinct, sets_of, computed_ask, known_name, definitions, sets, IsAsked, MayFind, LeadsTo, ByName, ByTokens, HasLong, HasPresumed}
-use Rattle.closure_fixpoint.proofs.MemberLaws.{Member-append, Member-append_left, Member-append_right, Member-map, Member-flat_map, Member-filter_map, GivenBy, filter_map-Member, MappedBy, map-Member, MadeBy, flat_map-Member, Contains-from_Member, Member-from_Contains}
+use Rattle.closure_fixpoint.proofs.MemberLaws.{GivenBy, filter_map-Member, MappedBy, map-Member, MadeBy, flat_map-Member, Contains-from_Member, Member-from_Contains}
 use Rattle.closure_fixpoint.proofs.DistinctLaws.{distinct_there}
 
 -- DEFINITIONS

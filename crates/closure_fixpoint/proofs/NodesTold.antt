@@ -1,10 +1,12 @@
 -- The nodes gathered of what was told are those of its located files.
-use Rattle.std.proofs.Common.{◌≡◌, ◌<◌, ◌+◌, ℕ, zero, suc, length, drop, arith, add-one, ◌++◌, ◌∷◌, [], List, Option, None, Some, Bool, true, false, ◌&&◌, inl, inr, refl, sym, ◌∙◌, ap, subst, map, append_assoc}
+use Rattle.std.proofs.Common.{◌≡◌, ◌<◌, ◌+◌, ℕ, zero, suc, length, drop, arith, add-one, ◌++◌, ◌∷◌, [], List, Option, None, Some, true, false, inl, inr, refl, sym, ◌∙◌, ap, subst, map, append_assoc}
 use Rattle.std.specs.Prelude.{IsTrue, IfSome, IfOk, Result, Ok, Err, ◌↔◌}
 use Rattle.std.specs.List.{list_all, flat_map, slice_get}
+use Rattle.std.proofs.lemmas.Bool.{and_parts}
 use Rattle.base_types.specs.Members.{Member, EachOnce}
 use Rattle.tree_model.specs.Paths.{Path, IsAtOrAbove}
 use Rattle.tree_model.specs.declared.walk.Located.{Located}
+use Rattle.tree_model.proofs.MemberLemmas.{Member-flat_map}
 use Rattle.search_path.specs.Search.{Hit}
 use Rattle.search_path.specs.declared.asking.Visit.{Visit}
 use Rattle.search_path.specs.declared.asking.Ask.{Ask}
@@ -13,7 +15,7 @@ use Rattle.closure_fixpoint.specs.Progress.{Heard, located_by_search, located_in
 use Rattle.closure_fixpoint.specs.Told.{AreNodesOf}
 use Rattle.closure_fixpoint.specs.Gathering.{upward, all_upward, walked_of, found_walked, searched_walked, hits_walked, sheets_walked, comes_before, are_rising}
 use Rattle.closure_fixpoint.proofs.Orders.{in_order}
-use Rattle.closure_fixpoint.proofs.MemberLaws.{Member-flat_map, MadeBy, flat_map-Member}
+use Rattle.closure_fixpoint.proofs.MemberLaws.{MadeBy, flat_map-Member}
 
 -- NODES OF JOINED LISTS
 
@@ -77,28 +79,20 @@ member-above path (name ∷ met) (inr above) never = inr (member-above path met 
 
 -- RISING PATHS STAND ONCE
 
-first-of : (a b : Bool) → (a && b) ≡ true → a ≡ true
-first-of true b e = refl
-first-of false b e = cc
-
-second-of : (a b : Bool) → (a && b) ≡ true → b ≡ true
-second-of true b e = e
-second-of false b e = cc
-
 pub test-all : (path : Path) (paths : List Path) → list_all (λ other. comes_before path other) paths ≡ true → (x : Path) → Member x paths → comes_before path x ≡ true
 test-all path [] all x m = elim m [ ]
 test-all path (y ∷ paths) all x (inl e) =
-    ap (λ (p : Path). comes_before path p) (sym e) ∙ first-of (comes_before path y) (list_all (λ other. comes_before path other) paths) all
-test-all path (y ∷ paths) all x (inr m) = test-all path paths (second-of (comes_before path y) (list_all (λ other. comes_before path other) paths) all) x m
+    ap (λ (p : Path). comes_before path p) (sym e) ∙ (and_parts (comes_before path y) (list_all (λ other. comes_before path other) paths) all).0
+test-all path (y ∷ paths) all x (inr m) = test-all path paths (and_parts (comes_before path y) (list_all (λ other. comes_before path other) paths) all).1 x m
 
 pub rising-once : (paths : List Path) → are_rising paths ≡ true → EachOnce paths
 rising-once [] up = tt
 rising-once (path ∷ paths) up = (
   λ m.
       let is : comes_before path path ≡ true =
-      test-all path paths (first-of (list_all (λ other. comes_before path other) paths) (are_rising paths) up) path m in
+      test-all path paths (and_parts (list_all (λ other. comes_before path other) paths) (are_rising paths) up).0 path m in
       let not_so : comes_before path path ≡ false = in_order.one_way path path is in absurd (cc),
-  rising-once paths (second-of (list_all (λ other. comes_before path other) paths) (are_rising paths) up),
+  rising-once paths (and_parts (list_all (λ other. comes_before path other) paths) (are_rising paths) up).1,
 )
 
 -- THE NODES

@@ -18,7 +18,7 @@ use Rattle.std.proofs.lemmas.Fn.{always_returns_same}
 use Rattle.base_types.specs.Members.{Member}
 use Rattle.tree_model.specs.Paths.{Text, Path, spelled, IsCanonical}
 use Rattle.tree_model.specs.Laws.{SpellingsAreApart}
-use Rattle.closure_fixpoint.proofs.MemberLaws.{Member-append, Member-append_left, Member-append_right}
+use Rattle.tree_model.proofs.MemberLemmas.{Member-append, Member-append_left, Member-append_right}
 use Rattle.closure_fixpoint.specs.Gathering.{comes_before, are_rising, is_repeated, kept, each_once}
 
 -- MEMBERS

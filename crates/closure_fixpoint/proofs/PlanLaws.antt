@@ -10,6 +10,7 @@ use Rattle.search_path.specs.declared.asking.Visit.{Visit}
 use Rattle.search_path.specs.declared.asking.Ask.{Ask}
 use Rattle.job_words.specs.JobOf.{JobData}
 use Rattle.sheet_build.specs.Sheet.{SheetData, ComputedAsk}
+use Rattle.tree_model.proofs.MemberLemmas.{Member-append_right}
 use Rattle.closure_fixpoint.specs.declared.job_analysis.Refusal.{Refusal}
 use Rattle.closure_fixpoint.specs.declared.job_analysis.Refusal.TheVariants.{Budget, Long, Presumed, Visits, Large, Request, NoSource}
 use Rattle.closure_fixpoint.specs.declared.wanting.Want.{Want}
@@ -21,7 +22,6 @@ use Rattle.closure_fixpoint.specs.parts.Wanting.{WantsOfAsk, WantsOfEach}
 use Rattle.closure_fixpoint.specs.Targets.{RefusesNames, WantsOr, IsNextWant, IsRefusedTarget, DoneWithSheets}
 use Rattle.closure_fixpoint.specs.Told.{RefusalMeans}
 use Rattle.closure_fixpoint.specs.parts.Plan.{IsReady, IsMissing}
-use Rattle.closure_fixpoint.proofs.MemberLaws.{Member-append_right}
 use Rattle.closure_fixpoint.proofs.ProgressLaws.{budget_refused, long_refused, presumed_refused}
 
 -- WHAT IS WANTED OF THE FIRST SEARCHES

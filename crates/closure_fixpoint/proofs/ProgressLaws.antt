@@ -10,6 +10,7 @@ use Rattle.macro_defs.specs.Defining.{Named}
 use Rattle.macro_expand.specs.Choice.{HasNoRepeat, IsDistinct, IsPart, MayName, HasManyRuns, HasLongRun, HasPresumedRun}
 use Rattle.symbolic_expand.specs.Laws.{MoreKeepHeaders, MoreKeepLongRuns, MoreKeepPresumedRuns, MoreKeepManyRuns}
 use Rattle.tree_model.specs.declared.walk.Located.{Located}
+use Rattle.tree_model.proofs.MemberLemmas.{Member-append, Member-append_left, Member-append_right, Member-map, Member-flat_map, Member-filter_map, list_any-true}
 use Rattle.search_path.specs.Search.{Hit}
 use Rattle.search_path.specs.declared.asking.Visit.{Visit}
 use Rattle.search_path.specs.declared.asking.Ask.{Ask}
@@ -20,7 +21,7 @@ use Rattle.closure_fixpoint.specs.Closure.{Answers, first_definitions, of_name, 
 use Rattle.closure_fixpoint.specs.declared.job_analysis.Refusal.{Refusal}
 use Rattle.closure_fixpoint.specs.declared.job_analysis.Refusal.TheVariants.{Budget, Long, Presumed, Visits, Large, Request, NoSource}
 use Rattle.closure_fixpoint.specs.Progress.{Heard, IsTrueOf, with_search, with_sheet, visits_told, definitions_told, sets_told, WasFound, WasSearched, IsTold, MayTold, IsDue, ByFirst, ByPlain, ByComputed, IsWanted, AtFirst, ForTarget, located_by_search, located_in_sheet, located_told, Keeps, IsMade, IsEnough, IsAccepted, DoneMeans, RefusedMeans, LargeMeans}
-use Rattle.closure_fixpoint.proofs.MemberLaws.{Member-append, Member-append_left, Member-append_right, Member-map, Member-flat_map, Member-filter_map, GivenBy, filter_map-Member, MappedBy, map-Member, MadeBy, flat_map-Member, Member-from_Contains, list_any-from}
+use Rattle.closure_fixpoint.proofs.MemberLaws.{GivenBy, filter_map-Member, MappedBy, map-Member, MadeBy, flat_map-Member, Member-from_Contains}
 use Rattle.closure_fixpoint.proofs.ClosedLaws.{few}
 use Rattle.closure_fixpoint.proofs.LeadsLaws.{sets_more}
 
@@ -34,7 +35,7 @@ added-once d ds once = go (list_any (is_same_definition d) ds) refl
     go false is = (
       λ there.
           let some : list_any (is_same_definition d) ds ≡ true =
-          list_any-from (is_same_definition d) d ds (Member-from_Contains d ds there) ((is_same_definition-Decides d d).1 refl) in
+          list_any-true (is_same_definition d) d ds (Member-from_Contains d ds there) ((is_same_definition-Decides d d).1 refl) in
           absurd (cc),
       once,
     )
@@ -312,7 +313,7 @@ module _ (keep : MoreKeepHeaders HeaderName) (long : MoreKeepLongRuns) (presumed
 
 -- STEPS
 
-EachOnce-last : {X : Type 0} (xs : List X) (x : X) → EachOnce xs → (Member x xs → ⊥) → EachOnce (xs ++ x ∷ [])
+pub EachOnce-last : {X : Type 0} (xs : List X) (x : X) → EachOnce xs → (Member x xs → ⊥) → EachOnce (xs ++ x ∷ [])
 EachOnce-last [] x once none = (λ m. m, tt)
 EachOnce-last (y ∷ xs) x once none = (
   λ m. elim (Member-append y xs (x ∷ []) m) [ inl n ↦ once.0 n | inr n ↦ elim n [ inl same ↦ none (inl (sym same)) | inr never ↦ never ] ],

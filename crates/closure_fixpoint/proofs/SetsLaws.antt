@@ -1,11 +1,12 @@
 -- Definition sets as they are kept, and as the closure has them: both have just the definitions of a list.
-use Rattle.std.proofs.Common.{◌≡◌, ◌⊎◌, ◌∷◌, ◌++◌, [], List, Option, Some, None, Bool, true, false, ◌&&◌, not, inl, inr, refl, sym, ap, subst, ◌∙◌, if◌then◌else◌, true≢false, append_assoc, append-nil, ◌<◌, ◌≤◌, ◌+◌, ℕ, length, take, take_all, get_or}
+use Rattle.std.proofs.Common.{◌≡◌, ◌⊎◌, ◌∷◌, ◌++◌, [], List, Option, Some, None, Bool, true, false, not, inl, inr, refl, sym, ap, subst, ◌∙◌, if◌then◌else◌, true≢false, append_assoc, append-nil, ◌<◌, ◌≤◌, ◌+◌, ℕ, length, take, take_all, get_or}
 use Rattle.std.specs.Prelude.{bytes_eq}
 use Rattle.std.specs.List.{list_any, filter_map, cons_option, Contains}
 use Rattle.std.proofs.lemmas.List.{take_more}
 use Rattle.std.specs.Option.{option_to_list}
 use Rattle.std.specs.Cmp.Lexicographic.{bytes_decides}
 use Rattle.std.proofs.lemmas.List.Elements.{Contains-append_right, Contains-append_cases, filter_map-append}
+use Rattle.std.proofs.lemmas.Bool.{and_parts}
 use Rattle.base_types.specs.Members.{Member}
 use Rattle.macro_defs.specs.MacroDefinition.{MacroDefinition}
 use Rattle.macro_defs.specs.Defining.{Named, are_distinct}
@@ -14,11 +15,12 @@ use Rattle.macro_expand.specs.Choice.{IsPart}
 use Rattle.symbolic_expand.specs.Defined.{Defined, Adds}
 use Rattle.symbolic_expand.specs.Defined as kept
 use Rattle.tree_model.specs.Paths.{Text}
+use Rattle.tree_model.proofs.MemberLemmas.{Member-append_left, Member-append_right, Member-append, Member-filter_map, Member-map, list_any-true}
 use Rattle.job_words.specs.declared.MacroWord.{MacroWord}
 use Rattle.job_words.specs.declared.MacroWord.TheVariants as words
 use Rattle.closure_fixpoint.specs.Closure.{initial_definition, word_definition, of_name, sets_of}
 use Rattle.closure_fixpoint.specs.Naming.{HasJust}
-use Rattle.closure_fixpoint.proofs.MemberLaws.{Member-append_left, Member-append_right, Member-append, Member-filter_map, Member-map, GivenBy, filter_map-Member, Contains-from_Member, Member-from_Contains, list_any-from}
+use Rattle.closure_fixpoint.proofs.MemberLaws.{GivenBy, filter_map-Member, Contains-from_Member, Member-from_Contains}
 use Rattle.closure_fixpoint.proofs.DistinctLaws.{distinct_there}
 use Rattle.closure_fixpoint.proofs.LeadsLaws.{in_distinct}
 
@@ -131,15 +133,7 @@ initial_gives (n, Some e) name d is =
     λ i. ((same i).name, Some ((same i).definition))
 
 not_later : (name : Text) (o : Option MacroDefinition) (es : Entries) → Member (name, o) es → list_any (bytes_eq name) (names_of es) ≡ true
-not_later name o es m = list_any-from (bytes_eq name) name (names_of es) (Member-map (λ (e : Text × Option MacroDefinition). e.0) (name, o) es m) ((bytes_decides name name).1 refl)
-
-both_first : (p q : Bool) → (p && q) ≡ true → p ≡ true
-both_first true q is = refl
-both_first false q is = is
-
-both_second : (p q : Bool) → (p && q) ≡ true → q ≡ true
-both_second true q is = is
-both_second false q is = absurd (true≢false (sym is))
+not_later name o es m = list_any-true (bytes_eq name) name (names_of es) (Member-map (λ (e : Text × Option MacroDefinition). e.0) (name, o) es m) ((bytes_decides name name).1 refl)
 
 -- each name stands once
 found_there : (es : Entries) (name : Text) (d : MacroDefinition) → are_distinct (names_of es) ≡ true → Member (name, Some d) es → lookup es name ≡ Some d
@@ -148,13 +142,13 @@ found_there [] name d once m = absurd m
 found_there (e ∷ es) name d once (inl same) =
     ap (λ b. if b then e.1 else lookup es name) ((bytes_decides name e.0).1 (sym (ap (λ (x : Text × Option MacroDefinition). x.0) same)))
     ∙ ap (λ (x : Text × Option MacroDefinition). x.1) same
-found_there (e ∷ es) name d once (inr m) = go (bytes_eq name e.0) refl ∙ found_there es name d (both_second (not (list_any (bytes_eq e.0) (names_of es))) (are_distinct (names_of es)) once) m
+found_there (e ∷ es) name d once (inr m) = go (bytes_eq name e.0) refl ∙ found_there es name d (and_parts (not (list_any (bytes_eq e.0) (names_of es))) (are_distinct (names_of es)) once).1 m
   where
     go : (b : Bool) → bytes_eq name e.0 ≡ b → (if b then e.1 else lookup es name) ≡ lookup es name
     go false is = refl
     go true is =
         let twice : list_any (bytes_eq e.0) (names_of es) ≡ true = subst (λ (n : Text). list_any (bytes_eq n) (names_of es) ≡ true) ((bytes_decides name e.0).0 is) (not_later name (Some d) es m) in
-        absurd (true≢false (sym (both_first (not (list_any (bytes_eq e.0) (names_of es))) (are_distinct (names_of es)) once) ∙ ap not twice))
+        absurd (true≢false (sym (and_parts (not (list_any (bytes_eq e.0) (names_of es))) (are_distinct (names_of es)) once).0 ∙ ap not twice))
 
 in_option : (o : Option MacroDefinition) (d : MacroDefinition) → Contains (option_to_list o) d → o ≡ Some d
 in_option None d c = absurd (Member-from_Contains d [] c)

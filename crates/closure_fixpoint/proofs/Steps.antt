@@ -1,22 +1,12 @@
 -- Going through a list by its places.
-use Rattle.std.proofs.Common.{◌≡◌, ◌<◌, ◌≤◌, ◌+◌, ℕ, zero, suc, List, [], ◌∷◌, ◌++◌, length, drop, refl, sym, ◌∙◌, ap, arith, add-one, get_or, drop-cons, append_assoc, append-nil, inl, inr}
+use Rattle.std.proofs.Common.{◌≡◌, ◌≤◌, ◌+◌, ℕ, zero, suc, List, [], ◌∷◌, ◌++◌, length, drop, refl, sym, ◌∙◌, ap, arith, append_assoc, append-nil}
 use Rattle.std.specs.Prelude.{Err, IsErrOf}
-use Rattle.base_types.specs.Members.{Member}
-
--- what stands from a place on
-pub next-at : {X : Type 0} (xs : List X) (i : ℕ) (x : X) → i < length xs → x ≡ get_or xs i x → drop i xs ≡ x ∷ drop (i + 1) xs
-next-at xs i x below is = rw (add-one i) (drop-cons xs i x below ∙ ap (λ y. y ∷ drop (suc i) xs) (sym is))
 
 pub none-at : {X : Type 0} (xs : List X) (i : ℕ) → length xs ≤ i → drop i xs ≡ []
 none-at [] zero past = refl
 none-at [] (suc i) past = refl
 none-at (x ∷ xs) zero past = absurd (omega arith)
 none-at (x ∷ xs) (suc i) past = none-at xs i (omega arith)
-
-pub member-at : {X : Type 0} (xs : List X) (i : ℕ) (x : X) → i < length xs → x ≡ get_or xs i x → Member x xs
-member-at [] i x below is = absurd (omega arith)
-member-at (y ∷ xs) zero x below is = inl (sym is)
-member-at (y ∷ xs) (suc i) x below is = inr (member-at xs i x (omega arith) is)
 
 -- what one element more adds to what is done
 pub goes-on : {X Y : Type 0} (f : List X → List Y) (one : List Y) (xs : List X) (i : ℕ) (done more whole : List Y) → f (drop i xs) ≡ one ++ f (drop (i + 1) xs)

@@ -1,11 +1,12 @@
 -- What is wanted of a computed target.
-use Rattle.std.proofs.Common.{◌≡◌, ◌∙◌, ◌∷◌, ◌++◌, [], ℕ, List, length, take_all, arith, Option, None, Some, Ok, Bool, true, false, not, inl, refl, sym, subst}
+use Rattle.std.proofs.Common.{◌≡◌, ◌∙◌, ◌∷◌, ◌++◌, [], ℕ, List, length, take_all, arith, Option, None, Some, Ok, Bool, not, inl, refl, sym, subst}
 use Rattle.base_types.specs.Members.{Member}
 use Rattle.directive_scan.specs.declared.HeaderName.{HeaderName}
 use Rattle.search_path.specs.Search.{Hit}
 use Rattle.search_path.specs.declared.asking.Visit.{Visit}
 use Rattle.search_path.specs.declared.asking.Ask.{Ask}
 use Rattle.job_words.specs.JobOf.{JobData}
+use Rattle.tree_model.proofs.MemberLemmas.{Member-append_right}
 use Rattle.closure_fixpoint.specs.declared.wanting.Want.{Want}
 use Rattle.closure_fixpoint.specs.declared.wanting.Want.TheVariants as want
 use Rattle.sheet_build.specs.Sheet.{SheetData, ComputedAsk}
@@ -16,14 +17,10 @@ use Rattle.closure_fixpoint.specs.parts.Wanting.{named_ask, WantsOfAsk, WantsOfH
 use Rattle.closure_fixpoint.specs.Targets.{heard_of, AreNames, NamesSeen, IsNextWant, IsDoneWith, WantsOr}
 use Rattle.std.specs.Prelude.{Vec}
 use Rattle.std.specs.declared.alloc.Global.{Global}
+use Rattle.std.proofs.lemmas.Bool.{not-true}
 use Rattle.closure_fixpoint.specs.Naming.{IsRest, IsLeft}
 use Rattle.closure_fixpoint.specs.declared.naming.Rest.{Rest}
 use Rattle.search_path.specs.declared.asking.Form.{Form}
-use Rattle.closure_fixpoint.proofs.MemberLaws.{Member-append_right}
-
-not_false : (b : Bool) → not b ≡ true → b ≡ false
-not_false true e = cc
-not_false false e = refl
 
 module _ (job : JobData) (budget : ℕ) (heard : Heard) (found : List Visit) (visit : Visit) (sheet : SheetData) (c : ComputedAsk) (told : IsTold heard visit sheet c) where
   -- what is wanted of a header that it may name is wanted next
@@ -33,12 +30,12 @@ module _ (job : JobData) (budget : ℕ) (heard : Heard) (found : List Visit) (vi
     subst (λ (a : Ask). HasNoAnswer heard.searches a) (sym same) none,
     ForTarget visit sheet c header told may (sym same),
     λ hit yes_include.
-        ByComputed visit sheet c header hit (record { told = told.told; stands = told.stands }) (not_false c.probe (sym more ∙ yes_include)) may
+        ByComputed visit sheet c header hit (record { told = told.told; stands = told.stands }) (not-true c.probe (sym more ∙ yes_include)) may
         (subst (λ (a : Ask). Member (a, Some hit) (heard.searches ++ (ask, Some hit) ∷ [])) same (Member-append_right (ask, Some hit) heard.searches ((ask, Some hit) ∷ []) (inl refl)))
         refl,
   )
   next_of_ask header may (want.Visit v) (got, m, new) = (
-    ByComputed visit sheet c header new.hit told (not_false c.probe new.is_include) may
+    ByComputed visit sheet c header new.hit told (not-true c.probe new.is_include) may
         (subst (λ (o : Option Hit). Member (computed_ask visit c header, o) heard.searches) new.is_got m) new.is_visit,
     new.new,
   )

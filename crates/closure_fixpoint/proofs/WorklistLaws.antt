@@ -9,9 +9,10 @@ use Rattle.search_path.specs.declared.asking.Visit.{Visit}
 use Rattle.search_path.specs.declared.asking.Ask.{Ask}
 use Rattle.job_words.specs.JobOf.{JobData}
 use Rattle.sheet_build.specs.Sheet.{SheetData}
+use Rattle.tree_model.proofs.MemberLemmas.{Member-append_right, list_any-true}
 use Rattle.closure_fixpoint.specs.Progress.{Heard, with_search, with_sheet, IsWanted, AtFirst, ForTarget, IsDue, ByPlain, Keeps}
 use Rattle.closure_fixpoint.specs.parts.Worklist.{same_visit, with_visit, with_visits, TellsSome, with_hit, TellsNoVisit}
-use Rattle.closure_fixpoint.proofs.MemberLaws.{Member-append_right, MappedBy, map-Member, list_any-from}
+use Rattle.closure_fixpoint.proofs.MemberLaws.{MappedBy, map-Member}
 use Rattle.closure_fixpoint.proofs.Bounds.{same_visit-Decides}
 use Rattle.closure_fixpoint.proofs.ProgressLaws.{keeps_search, keeps_sheet, keeps_found}
 
@@ -23,7 +24,7 @@ keeps_visit keep job heard found visit keeps due = go (list_any (same_visit visi
     go false is =
         keeps_found keep job heard found visit keeps due
         (λ m.
-        let some : list_any (same_visit visit) found ≡ true = list_any-from (same_visit visit) visit found m ((same_visit-Decides visit visit).1 refl) in
+        let some : list_any (same_visit visit) found ≡ true = list_any-true (same_visit visit) visit found m ((same_visit-Decides visit visit).1 refl) in
         absurd (cc))
 
 pub keeps_visits : MoreKeepHeaders HeaderName → (job : JobData) (heard : Heard) (visits found : List Visit) → Keeps job heard found → ((visit : Visit) → Member visit visits → IsDue job heard visit)

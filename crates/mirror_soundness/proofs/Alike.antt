@@ -23,6 +23,7 @@ use Rattle.tree_model.specs.Paths.{Text, Path}
 use Rattle.tree_model.specs.Trees.{body_limit}
 use Rattle.tree_model.specs.Shown.{presumed_name}
 use Rattle.tree_model.specs.declared.walk.Located.{Located}
+use Rattle.tree_model.proofs.MemberLemmas.{Member-append_left, Member-append_right, Member-map}
 use Rattle.search_path.specs.Search.{Hit}
 use Rattle.search_path.specs.Asks.{forced_ask, source_ask}
 use Rattle.search_path.specs.declared.asking.Visit.{Visit}
@@ -32,7 +33,6 @@ use Rattle.daemon_cpp.specs.Diagnostics.{WorkLimit, TooLarge}
 use Rattle.daemon_cpp.specs.Prep.{World, here_at, presumed_line, State, Step, Go, Stop, and_then, Reached, Gives, Ends, with_value, reach, complain, complain_of_job, limited, say, touch, Entering, header_reached, is_marked, answer_token, answered_condition, probed, probe_named, probe, answer_parts, parts_condition, condition, directive_test, piece_test, unless_marked, found_file, include_named, include, directive_step, piece_step, group_or, run_group, run_branches, malformed_step, run_outline, run_file, paid, opening_cost, open_file, back_in, enter_file, first_state, run_forced}
 use Rattle.sheet_build.specs.Sheet.{asking, SheetData, asked_for, sheet_from}
 use Rattle.closure_fixpoint.specs.Closure.{Answers, first_definitions, Known}
-use Rattle.closure_fixpoint.proofs.MemberLaws.{Member-append_left, Member-append_right, Member-map}
 use Rattle.mirror_soundness.proofs.TableLaws.{first_among}
 use Rattle.mirror_soundness.proofs.Kept as kept
 use Rattle.mirror_soundness.proofs.Kept.{Any}

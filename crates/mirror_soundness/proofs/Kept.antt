@@ -21,13 +21,13 @@ use Rattle.cpp_output.specs.Laid.{after_events}
 use Rattle.tree_model.specs.Paths.{Text}
 use Rattle.tree_model.specs.Shown.{presumed_name}
 use Rattle.tree_model.specs.declared.walk.Located.{Located}
+use Rattle.tree_model.proofs.MemberLemmas.{Member-append}
 use Rattle.search_path.specs.declared.asking.Visit.{Visit}
 use Rattle.job_words.specs.JobOf.{JobData}
 use Rattle.daemon_cpp.specs.declared.line.NewLine.{NewLine}
 use Rattle.daemon_cpp.specs.Diagnostics.{TextLimit, NoIdentifier}
 use Rattle.daemon_cpp.specs.Prep.{Here, visit_of, place_of, State, Step, Go, Stop, Reached, Gives, Ends, with_value, reach, complain_of_job, refuse, limited, say, touch, tokens_of, expanded_in, text_expanded, text_step, line_expanded, expand_line, define_step, undef_named, undef_step, new_line, renumbered, presumed_line, line_told, line_written, line_read, line_set, line_step, with_defined, zeroed, truth_of, probe_free, defined_answered, expanded_condition, answered_condition, is_defined, name_condition}
 use Rattle.closure_fixpoint.specs.Closure.{Answers, definitions, known_name, Known}
-use Rattle.closure_fixpoint.proofs.MemberLaws.{Member-append}
 use Rattle.mirror_soundness.proofs.TableLaws.{IsAmong, defined_among, undefined_among}
 
 -- of any value

@@ -1,6 +1,6 @@
 -- The entries of a job make a tree, which is a part of the whole tree.
-use Rattle.std.proofs.Common.{◌≡◌, ◌⊎◌, ◌∷◌, [], List, ℕ, Bool, true, false, ◌&&◌, nat_eq, eq-eqb, Option, Some, IsSome, IsTrue, inl, inr, refl, sym, ap, subst, ◌∙◌}
-use Rattle.std.specs.List.{list_all}
+use Rattle.std.proofs.Common.{◌≡◌, ◌⊎◌, ◌∷◌, [], Bool, true, nat_eq, Option, Some, IsSome, IsTrue, inl, inr, refl, sym, ap, subst, ◌∙◌}
+use Rattle.std.proofs.lemmas.Bool.{and_from}
 use lib.Pointwise.{pointwise}
 use Rattle.base_types.specs.Members.{Member}
 use Rattle.tree_model.specs.Paths.{Text, Path, spelled, is_canonical, IsAtOrAbove}
@@ -9,30 +9,17 @@ use Rattle.tree_model.specs.Trees.{FileTree, IsTree, Sub, tree_of, entry_at}
 use Rattle.tree_model.specs.Laws.{NodesAreEntries, TestsDecide, ParentsMakeTrees}
 use Rattle.tree_model.specs.declared.entry.Entry.{Entry}
 use Rattle.tree_model.specs.declared.entry.Entry.TheVariants.{Dir, File, Link}
+use Rattle.tree_model.proofs.MemberLemmas.{list_any-true}
+use Rattle.tree_model.proofs.PathLemmas.{text_itself}
 use Rattle.job_words.specs.declared.job.Job.{Job}
 use Rattle.closure_fixpoint.specs.Analysis.{AreEntriesOf, IsNodeOf}
-use Rattle.closure_fixpoint.proofs.MemberLaws.{list_any-from}
-
--- a test that each member passes
-all_of_members : {X : Type 0} (test : X → Bool) (xs : List X) → ((x : X) → Member x xs → test x ≡ true) → list_all test xs ≡ true
-all_of_members test [] each = refl
-all_of_members test (x ∷ xs) each = both (test x) (list_all test xs) (each x (inl refl)) (all_of_members test xs (λ y m. each y (inr m)))
-  where
-    both : (a b : Bool) → a ≡ true → b ≡ true → (a && b) ≡ true
-    both true b ea eb = eb
-    both false b ea eb = cc
+use Rattle.closure_fixpoint.proofs.GatherLaws.{all-test}
+use Rattle.closure_fixpoint.proofs.AnalysisLaws.{up-above}
 
 -- a path is at or above itself
 pub at_itself : (path : Path) → IsAtOrAbove path path
 at_itself [] = refl
 at_itself (name ∷ path) = inl refl
-
--- what is above a path at or above another is so too
-parent_above : (name : Text) (up met : Path) → IsAtOrAbove (name ∷ up) met → IsAtOrAbove up met
-parent_above name up [] above = cc
-parent_above name up (other ∷ below) (inl same) =
-    let tails : up ≡ below = cc in inr (subst (λ (p : Path). IsAtOrAbove up p) tails (at_itself up))
-parent_above name up (other ∷ below) (inr above) = inr (parent_above name up below above)
 
 -- the parent of a node that isn't below the root alone is a node
 parent_is_node : (tree : FileTree) (job : Job) (name outer : Text) (up : Path) → IsNodeOf tree job (name ∷ outer ∷ up) → IsNodeOf tree job (outer ∷ up)
@@ -43,24 +30,9 @@ parent_is_node tree job name outer up node = record {
   known = node.known;
   met = node.met;
   walked = node.walked;
-  above = parent_above name (outer ∷ up) node.met node.above;
+  above = up-above name (outer ∷ up) node.met node.above;
   below_root = λ e. cc;
 }
-
-same_byte : (b : ℕ) → nat_eq b b ≡ true
-same_byte b = eq-eqb b b refl
-
-same_text : (text : Text) → pointwise nat_eq text text ≡ true
-same_text [] = refl
-same_text (b ∷ text) = both (nat_eq b b) (pointwise nat_eq text text) (same_byte b) (same_text text)
-  where
-    both : (a c : Bool) → a ≡ true → c ≡ true → (a && c) ≡ true
-    both true c ea ec = ec
-    both false c ea ec = cc
-
-both_true : (a b : Bool) → a ≡ true → b ≡ true → (a && b) ≡ true
-both_true true b ea eb = eb
-both_true false b ea eb = cc
 
 true_is : (b : Bool) → IsTrue b → b ≡ true
 true_is b t = t
@@ -93,15 +65,15 @@ module _ (tests : TestsDecide) (tree : FileTree) (job : Job) (entries : Entries)
   parent_each [] entry m = absurd ((are.nodes [] entry m).below_root refl)
   parent_each (name ∷ []) entry m = refl
   parent_each (name ∷ outer ∷ up) entry m =
-      list_any-from (is_dir_at (spelled (outer ∷ up))) (outer ∷ up, Dir) entries (dir_entry name outer up entry m)
-      (both_true (pointwise nat_eq (spelled (outer ∷ up)) (spelled (outer ∷ up))) true (same_text (spelled (outer ∷ up))) refl)
+      list_any-true (is_dir_at (spelled (outer ∷ up))) (outer ∷ up, Dir) entries (dir_entry name outer up entry m)
+      (and_from (pointwise nat_eq (spelled (outer ∷ up)) (spelled (outer ∷ up))) true (text_itself (spelled (outer ∷ up))) refl)
 
   pub makes_tree_of : ParentsMakeTrees → IsTrue (makes_tree entries)
   makes_tree_of made =
       made entries are.increasing
-      (all_of_members (λ (e : Path × Entry). has_parent entries e.0) entries (λ e m. parent_each e.0 e.1 m))
-      (all_of_members (λ (e : Path × Entry). is_canonical e.0) entries canonical_each)
-      (all_of_members (λ (e : Path × Entry). entry_fits e.1) entries (λ e m. fits_each e.0 e.1 m))
+      (all-test (λ (e : Path × Entry). has_parent entries e.0) entries (λ e m. parent_each e.0 e.1 m))
+      (all-test (λ (e : Path × Entry). is_canonical e.0) entries canonical_each)
+      (all-test (λ (e : Path × Entry). entry_fits e.1) entries (λ e m. fits_each e.0 e.1 m))
 
   pub part_of_whole : NodesAreEntries → Sub (tree_of entries) tree
   part_of_whole nodes path entry e = by_case (nodes entries path entry e)

@@ -1,12 +1,12 @@
 -- The macros of a table are among a list of definitions, and so among its sets.
 use Rattle.std.proofs.Common.{◌≡◌, ◌∷◌, [], List, Option, Some, None, Bool, true, false, inl, inr, refl, sym, ap, subst, cond}
 use Rattle.std.specs.Prelude.{bytes_eq}
-use Rattle.std.specs.List.{list_any, filter_map}
+use Rattle.std.specs.List.{filter_map}
 use Rattle.std.proofs.lemmas.Slice.Eq.{bytes_eq-Decides}
 use Rattle.base_types.specs.Members.{Member}
 use Rattle.tree_model.specs.Paths.{Text}
+use Rattle.tree_model.proofs.MemberLemmas.{Member-append_left, Member-append_right, Member-filter_map}
 use Rattle.macro_defs.specs.MacroDefinition.{MacroDefinition}
-use Rattle.macro_defs.specs.Sameness.{is_same_definition, is_same_definition-Decides}
 use Rattle.macro_defs.specs.Defining.{Named}
 use Rattle.macro_defs.specs.Table.{Entries, lookup, initial_entries}
 use Rattle.macro_expand.specs.Expansion.{Table}
@@ -15,8 +15,9 @@ use Rattle.job_words.specs.JobOf.{JobData}
 use Rattle.job_words.specs.declared.MacroWord.{MacroWord}
 use Rattle.job_words.specs.declared.MacroWord.TheVariants as word
 use Rattle.daemon_cpp.specs.Prep.{with_macro, with_word, with_words, first_table}
-use Rattle.closure_fixpoint.specs.Closure.{initial_definition, word_definition, first_definitions, of_name, added, distinct, sets_of}
-use Rattle.closure_fixpoint.proofs.MemberLaws.{Member-append_left, Member-append_right, Member-filter_map, Contains-from_Member, list_any-by}
+use Rattle.closure_fixpoint.specs.Closure.{initial_definition, word_definition, first_definitions, of_name, sets_of}
+use Rattle.closure_fixpoint.proofs.MemberLaws.{Contains-from_Member}
+use Rattle.closure_fixpoint.proofs.DistinctLaws.{distinct_there}
 
 same_text : (a b : Text) → bytes_eq a b ≡ true → a ≡ b
 same_text a b e = (bytes_eq-Decides a b).0 e
@@ -87,28 +88,6 @@ first_among job =
     (Member-filter_map word_definition w x job.macros m is))
 
 -- SETS
-
-still_there : (d e : MacroDefinition) (ds : List MacroDefinition) → Member d ds → Member d (added e ds)
-still_there d e ds m = go (list_any (is_same_definition e) ds)
-  where
-    go : (b : Bool) → Member d (cond b ds (e ∷ ds))
-    go true = m
-    go false = inr m
-
-added_there : (d : MacroDefinition) (ds : List MacroDefinition) → Member d (added d ds)
-added_there d ds = go (list_any (is_same_definition d) ds) refl
-  where
-    go : (b : Bool) → list_any (is_same_definition d) ds ≡ b → Member d (cond b ds (d ∷ ds))
-    go true is =
-        let by = list_any-by (is_same_definition d) ds is in
-        subst (λ (x : MacroDefinition). Member x ds) (sym ((is_same_definition-Decides d by.by).0 by.passes)) by.member
-    go false is = inl refl
-
-distinct_there : (d : MacroDefinition) (ds : List MacroDefinition) → Member d ds → Member d (distinct ds)
-unfolding distinct
-distinct_there d [] m = elim m [ ]
-distinct_there d (e ∷ ds) (inl same) = subst (λ (x : MacroDefinition). Member d (added x (distinct ds))) (sym same) (added_there d (distinct ds))
-distinct_there d (e ∷ ds) (inr m) = still_there d e (distinct ds) (distinct_there d ds m)
 
 own_name : (name : Text) (d : MacroDefinition) → of_name name (record { name = name; definition = d }) ≡ Some d
 own_name name d = ap (λ (b : Bool). cond b (Some d) None) ((bytes_eq-Decides name name).1 refl)

@@ -23,6 +23,7 @@ use Rattle.macro_expand.specs.Expansion.{Expanded}
 use Rattle.macro_expand.specs.Laws.{ChoiceFactHolds}
 use Rattle.tree_model.specs.Paths.{Path}
 use Rattle.tree_model.specs.Trees.{body_limit}
+use Rattle.tree_model.proofs.MemberLemmas.{Member-append_left, Member-append_right, Member-map, Member-flat_map, Member-filter_map, list_any-true}
 use Rattle.search_path.specs.Asks.{form_of}
 use Rattle.search_path.specs.Search.{Hit}
 use Rattle.search_path.specs.declared.asking.Visit.{Visit}
@@ -32,7 +33,6 @@ use Rattle.job_words.specs.JobOf.{JobData}
 use Rattle.daemon_cpp.specs.Prep.{World, place_of, State, Gives, reach, tokens_of, expanded_in, line_expanded, header_reached}
 use Rattle.sheet_build.specs.Sheet.{Asking, asking, probes_for, includes_in, probes_in, accepted, definition_in, is_line, ComputedAsk, SheetData, quote_form, computed_of, asked_for, plain_hit, sheet_from}
 use Rattle.closure_fixpoint.specs.Closure.{Answers, first_definitions, with_angle, known_name, MayFind, ByName, ByTokens, first_asks, first_hits, IsClosedFor, Known, AtFirst, Included, Probed, ByMacros, HasLong, HasPresumed}
-use Rattle.closure_fixpoint.proofs.MemberLaws.{Member-append_left, Member-append_right, Member-map, Member-flat_map, Member-filter_map, list_any-from}
 use Rattle.mirror_soundness.proofs.ComputedLaws.{may_be_named}
 use Rattle.mirror_soundness.proofs.Kept.{Holds, KeepsWith, left_holds, knows}
 
@@ -124,7 +124,7 @@ module _ (world : World) (sheet : Visit → SheetData) (job : JobData) (visits :
 
   -- a file with a `#line` says so
   pub has_line : (visit : Visit) (ps : List Piece) (at : ℕ) (tokens : List Token) → IsRead visit ps → Member (Line at (named.Line tokens)) ps → (sheet visit).has_line ≡ true
-  has_line visit ps at tokens read there = ap (λ (s : SheetData). s.has_line) read.is_sheet ∙ list_any-from is_line (Line at (named.Line tokens)) ps there refl
+  has_line visit ps at tokens read there = ap (λ (s : SheetData). s.has_line) read.is_sheet ∙ list_any-true is_line (Line at (named.Line tokens)) ps there refl
 
   -- of a name that a target gives holds what holds of a plain one's, and of those that a computed one's tokens are expanded to
   header_keeps : (visit : Visit) (at : ℕ) (target : Target) (state : State) (F : HeaderName → Type 0) → Holds all job visits visit state

@@ -1,9 +1,10 @@
 use Rattle.std.proofs.Common.{◌≡◌, ◌∙◌, sym, ap, subst, inl, inr, None, Some, true}
 use Rattle.tree_model.specs.Paths.{Text}
+use Rattle.tree_model.proofs.MemberLemmas.{Member-map}
 use Rattle.search_path.specs.declared.asking.Ask.{Ask}
 use Rattle.search_path.specs.Asks.{forced_ask}
 use Rattle.closure_fixpoint.specs.Progress.{IsMade}
-use Rattle.closure_fixpoint.proofs.MemberLaws.{Member-map, MappedBy, map-Member}
+use Rattle.closure_fixpoint.proofs.MemberLaws.{MappedBy, map-Member}
 use Rattle.closure_fixpoint.proofs.LoopLaws.{item_there, so_far, all_so_far}
 use Rattle.closure_fixpoint.proofs.WantingLaws.{wanted_as}
 use Rattle.closure_fixpoint.proofs.wanting.of_forced.Goals as goal
