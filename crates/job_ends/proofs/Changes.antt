@@ -2,7 +2,7 @@
 use Rattle.std.proofs.Common.{◌≡◌, ℕ, ◌+◌, List, [], ◌∷◌, ◌++◌, Option, None, Some, Bool, true, false, cond, refl, sym, ap, ◌∙◌, inl, inr, arith, append-nil, append_assoc, take, drop, nat_eq, min, length}
 use Rattle.std.proofs.lemmas.Bool.Decides.{eqb_tells}
 use Rattle.std.proofs.lemmas.List.{take-append-drop}
-use Rattle.std.proofs.Math.Seq.{take-add}
+use Rattle.std.proofs.Math.Seq.{take-add, take-length}
 use Rattle.std.proofs.lemmas.Grind.{common_steps}
 use Rattle.base_types.specs.Told.{added, on_last}
 use Rattle.io_edges.specs.declared.wire.Exchange.{Exchange}
@@ -62,10 +62,6 @@ pub alike : (f g : Exchange → Exchange) → ((x : Exchange) → f x ≡ g x) �
 alike f g e None = refl
 alike f g e (Some xs) = ap Some (alike-last f g e xs)
 
-take-all : (xs : List ℕ) → take (length xs) xs ≡ xs
-take-all [] = refl
-take-all (x ∷ xs) = ap (λ l. x ∷ l) (take-all xs)
-
 -- what was taken by a call that didn't end
 pub took : (n : ℕ) (bytes : List ℕ) → (n ≡ 0 → ⊥) → (x : Exchange) → cond (nat_eq n 0) (ending x) (taking bytes x) ≡ taking bytes x
 took n bytes some x = elim (eqb_tells n 0) [
@@ -98,11 +94,11 @@ pub sent-partly : (s : List ℕ) (talk : Option (List Exchange)) → on_current 
 sent-partly s talk = alike (sending s) (partly s [] false) (λ e. ap (λ (r : List ℕ). record (sending s e) { received = r }) (sym (append-nil e.received))) talk
 
 pub sent-whole : (s : List ℕ) (talk : Option (List Exchange)) → on_current (sending s) talk ≡ on_current (partly (take (length s) s) [] false) talk
-sent-whole s talk = rw (take-all s) (sent-partly s talk)
+sent-whole s talk = rw (take-length s) (sent-partly s talk)
 
 pub taken-partly : (s r : List ℕ) (talk : Option (List Exchange)) → on_current (taking r) (on_current finishing (on_current (sending s) talk)) ≡ on_current (partly (take (length s) s) r true) talk
 taken-partly s r talk =
-    rw (take-all s) (ap (on_current (taking r)) (then finishing (sending s) (λ e. finishing (sending s e)) (λ _. refl) talk)
+    rw (take-length s) (ap (on_current (taking r)) (then finishing (sending s) (λ e. finishing (sending s e)) (λ _. refl) talk)
     ∙ then (taking r) (λ e. finishing (sending s e)) (partly s r true) (λ _. refl) talk)
 
 pub whole-talk : (s r : List ℕ) (b : Bool) (talk : Option (List Exchange)) → on_current (λ e. ended_if b (taking r e)) (on_current finishing (on_current (sending s) talk)) ≡ on_current (λ e. ended_if b (taking r (finishing (sending s e)))) talk

@@ -134,7 +134,7 @@ module _ (known : Known) (job : Job) (host : Host) (n client : ℕ) (from before
   local-concluded why result was does =
       concluded (Failed why) (λ o. ForSome known.named (λ tree. known.gives tree job ≡ o)) result was does (λ o h. h) (λ e. absurd (cc))
 
-did-nothing : (e : EndSeen) → Did [] [] e e
+pub did-nothing : (e : EndSeen) → Did [] [] e e
 did-nothing e = record { talk = added-nil e.talk; kept = added-nil e.kept; told = refl; tree = omega arith; wire = omega arith; outs = omega arith }
 
 -- a diagnostic ends a job with nothing put
