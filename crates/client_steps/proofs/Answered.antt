@@ -1,8 +1,9 @@
 -- What an answer does to a client's facts.
-use Rattle.std.proofs.Common.{arith, ◌≡◌, ℕ, ◌+◌, ◌≤◌, Bool, true, false, cond, List, [], ◌∷◌, ◌++◌, map, length, refl, sym, ap, ◌∙◌, subst, inl, inr, append-nil}
+use Rattle.std.proofs.Common.{arith, ◌≡◌, ℕ, ◌+◌, ◌≤◌, Bool, true, false, cond, List, [], ◌∷◌, ◌++◌, map, length, refl, sym, ap, ◌∙◌, subst, inl, append-nil}
 use Rattle.std.proofs.lemmas.Grind.{common_steps}
 use Rattle.std.specs.List.{AllByRecursion}
 use Rattle.base_types.specs.Members.{Member, EachOnce}
+use Rattle.base_types.proofs.Lists.{all_push}
 use Rattle.job_words.specs.declared.job.Job.{Job}
 use Rattle.io_edges.specs.declared.wire.Host.{Host}
 use Rattle.job_ends.specs.Outside.{EndSeen}
@@ -20,11 +21,11 @@ use Rattle.sheet_build.specs.Keys.{key_of, IsRightFor}
 use Rattle.closure_fixpoint.specs.Closure.{InClosure}
 use Rattle.closure_fixpoint.specs.Told.{Progress}
 use Rattle.closure_fixpoint.specs.Progress.{visits_told}
+use Rattle.closure_fixpoint.proofs.ProgressLaws.{EachOnce-last}
 use Rattle.sheet_build.specs.declared.keys.SheetKey.{SheetKey}
 use Rattle.job_ends.specs.Looks.{SheetCall, sheet_call, keys_where, looked, missed, published, LooksSo}
 use Rattle.client_steps.specs.Phases.{IsGoing, IsLooking, HasFound, HasMissed, IsPublishing, LookedFor, IsJudged}
-use Rattle.client_steps.proofs.Ends.{member-split, any-reads}
-use Rattle.client_steps.proofs.Ledgers.{all-snoc}
+use Rattle.client_steps.proofs.Ends.{any-reads}
 
 keys-snoc : (kind : What → Bool) (calls : List SheetCall) (c : SheetCall) → keys_where kind (calls ++ c ∷ []) ≡ keys_where kind calls ++ cond (kind c.what) (c.key ∷ []) []
 keys-snoc kind [] c = go (kind c.what) refl
@@ -37,16 +38,6 @@ keys-snoc kind (d ∷ calls) c = go (keys-snoc kind calls c) (kind d.what) refl
     go : keys_where kind (calls ++ c ∷ []) ≡ keys_where kind calls ++ cond (kind c.what) (c.key ∷ []) [] → (b : Bool) → kind d.what ≡ b → keys_where kind ((d ∷ calls) ++ c ∷ []) ≡ keys_where kind (d ∷ calls) ++ cond (kind c.what) (c.key ∷ []) []
     go ih true e = rw e (ap (λ l. d.key ∷ l) ih)
     go ih false e = rw e ih
-
-once-snoc : {X : Type 0} (xs : List X) (x : X) → EachOnce xs → (Member x xs → ⊥) → EachOnce (xs ++ x ∷ [])
-once-snoc [] x once fresh = (λ m. elim m [ ], tt)
-once-snoc (y ∷ xs) x once fresh = (
-  λ m. elim (member-split y xs (x ∷ []) m) [
-    | inl old ↦ once.0 old
-    | inr new ↦ elim new [ inl e ↦ fresh (inl (sym e)) | inr none ↦ elim none [ ] ]
-  ],
-  once-snoc xs x once.1 (λ m. fresh (inr m)),
-)
 
 looks-by : (known : Known) (job : Job) (calls more : List SheetCall) (left : List SheetKey) (keys : List SheetKey) → looked (calls ++ more) ≡ keys → EachOnce keys → AllByRecursion (λ (key : SheetKey). key.setup ≡ job.setup) keys
     → OfTree known (λ tree. AllByRecursion (λ (key : SheetKey). InClosure tree job key.visit) keys) → missed (calls ++ more) ≡ published (calls ++ more) ++ left → LooksSo known job (calls ++ more) left
@@ -61,8 +52,8 @@ module _ (known : Known) (job : Job) (a : Progress) (key : SheetKey) (calls : Li
   looked-more : (w : What) → is_look w ≡ true → IsLooking known job a key calls from now → (left : List SheetKey) → missed (calls ++ sheet_call key w ∷ []) ≡ published (calls ++ sheet_call key w ∷ []) ++ left → LooksSo known job (calls ++ sheet_call key w ∷ []) left
   looked-more w is was left matched =
       looks-by known job calls (sheet_call key w ∷ []) left (looked calls ++ key ∷ []) (keys-snoc is_look calls (sheet_call key w) ∙ ap (λ b. looked calls ++ cond b (key ∷ []) []) is)
-      (once-snoc (looked calls) key was.looks.once was.fresh) (all-snoc _ (looked calls) key was.looks.setups (ap (λ (k : SheetKey). k.setup) was.awaits.own))
-      (λ tree named. all-snoc _ (looked calls) key (was.looks.within tree named) (was.within tree named)) matched
+      (EachOnce-last (looked calls) key was.looks.once was.fresh) (all_push _ (looked calls) key was.looks.setups (ap (λ (k : SheetKey). k.setup) was.awaits.own))
+      (λ tree named. all_push _ (looked calls) key (was.looks.within tree named) (was.within tree named)) matched
 
   looked-for-more : (w : What) → is_look w ≡ true → IsLooking known job a key calls from now → LookedFor job a (key ∷ []) (calls ++ sheet_call key w ∷ [])
   looked-for-more w is was =

@@ -1,23 +1,13 @@
 -- A client's end while only its tree is used, and lists of calls.
-use Rattle.std.proofs.Common.{arith, ◌≡◌, ◌⊎◌, ℕ, ◌+◌, ◌-◌, ◌^◌, min, ◌<◌, ◌≤◌, List, [], ◌∷◌, ◌++◌, length, Option, None, Some, IfSome, refl, sym, ap, ◌∙◌, subst, inl, inr, append-nil, zero, suc, slice_get, slice_index_or}
+use Rattle.std.proofs.Common.{arith, ◌≡◌, ℕ, ◌+◌, ◌-◌, ◌^◌, min, ◌<◌, ◌≤◌, List, [], ◌∷◌, length, Option, Some, IfSome, refl, sym, ◌∙◌, subst, inl, inr, zero, suc, slice_get, slice_index_or}
 use Rattle.std.proofs.lemmas.Option.{slice_get_read}
 use Rattle.base_types.specs.Causes.{Rose}
-use Rattle.base_types.specs.Told.{added}
 use Rattle.base_types.specs.Members.{Member}
 use Rattle.job_words.specs.declared.job.Job.{Job}
 use Rattle.io_edges.specs.declared.wire.Host.{Host}
 use Rattle.tree_model.specs.Trees.{FileTree}
 use Rattle.job_ends.specs.Outside.{EndSeen}
 use Rattle.job_ends.specs.Record.{Did}
-
-pub added-nil : {A : Type 0} (told : Option (List A)) → told ≡ added [] told
-added-nil None = refl
-added-nil (Some xs) = ap Some (sym (append-nil xs))
-
-pub member-split : {X : Type 0} (x : X) (xs ys : List X) → Member x (xs ++ ys) → Member x xs ⊎ Member x ys
-member-split x [] ys m = inr m
-member-split x (y ∷ xs) ys (inl e) = inl (inl e)
-member-split x (y ∷ xs) ys (inr m) = elim (member-split x xs ys m) [ inl a ↦ inl (inr a) | inr b ↦ inr b ]
 
 pub member-get : {X : Type 0} (xs : List X) (i : ℕ) (x : X) → slice_get xs i ≡ Some x → Member x xs
 member-get [] i x e = absurd (cc)
@@ -57,9 +47,6 @@ unused e = record { talk = refl; kept = refl; told = refl; tree = omega arith; w
 pub used-by : (before : EndSeen) (told : Option FileTree) (tree_faults reads : ℕ) → told ≡ before.told → before.tree_faults ≤ tree_faults
     → TreeUsed before (record before { told = told; reads = reads; tree_faults = tree_faults })
 used-by before told tree_faults reads t f = record { talk = refl; kept = refl; told = t; tree = f; wire = refl; outs = refl }
-
-pub did-nothing : (e : EndSeen) → Did [] [] e e
-did-nothing e = record { talk = added-nil e.talk; kept = added-nil e.kept; told = refl; tree = omega arith; wire = omega arith; outs = omega arith }
 
 pub at-most : (a b c : ℕ) → a ≤ b → b ≤ c → a ≤ c
 at-most a b c f g = omega (arith, f, g)

@@ -1,10 +1,13 @@
 -- How a job's facts go on from phase to phase, up to its request or the end of its analysis.
-use Rattle.std.proofs.Common.{arith, ◌≡◌, ◌⊎◌, ℕ, ◌+◌, ◌*◌, ◌<◌, ◌≤◌, List, [], ◌∷◌, ◌++◌, map, length, Bool, true, false, Option, None, Some, refl, sym, ap, ◌∙◌, subst, inl, inr, append-nil, ltb-false, slice_get, slice_index_or}
-use Rattle.std.specs.Prelude.{IsTrue, nat_lt}
+use Rattle.std.proofs.Common.{arith, ◌≡◌, ◌⊎◌, ℕ, ◌+◌, ◌*◌, ◌<◌, ◌≤◌, List, [], ◌∷◌, ◌++◌, map, length, Bool, true, false, Option, None, Some, refl, sym, ap, ◌∙◌, subst, inl, inr, append-nil, slice_get, slice_index_or}
+use Rattle.std.specs.Prelude.{IsTrue}
+use Rattle.std.proofs.lemmas.Bool.{lt-ltb}
+use Rattle.std.proofs.lemmas.List.{map-append}
 use Rattle.base_types.specs.Causes.{Rose}
 use Rattle.base_types.specs.Members.{Member}
 use Rattle.tree_model.specs.Paths.{Path}
 use Rattle.tree_model.specs.Trees.{FileTree, IsTree, body_limit}
+use Rattle.tree_model.proofs.MemberLemmas.{Member-append}
 use Rattle.job_words.specs.declared.job.Job.{Job}
 use Rattle.io_edges.specs.declared.wire.Host.{Host}
 use Rattle.search_path.specs.Search.{Hit, search}
@@ -35,11 +38,12 @@ use Rattle.job_ends.specs.declared.record.Cause.TheVariants as cause
 use Rattle.job_ends.specs.declared.record.JobOutcome.TheVariants as end
 use Rattle.job_ends.specs.declared.asking.Replied.TheVariants.{Failed}
 use Rattle.job_ends.specs.Looks.{SheetCall, LooksSo, LooksFor, looked, missed}
+use Rattle.job_ends.proofs.Deeds.{did-nothing}
 use Rattle.client_steps.specs.declared.phase.Phase.TheVariants.{Goes, Concludes}
 use Rattle.client_steps.specs.declared.phase.Advanced.{Advanced}
 use Rattle.client_steps.specs.declared.phase.Advanced.TheVariants as adv
 use Rattle.client_steps.specs.Phases.{IsSound, LookedFor, IsGoing, Awaits, IsLooking, HasFound, HasMissed, IsPublishing, IsReady, IsJudged, Finished, StepHolds, HasAnswered, Advances, AdvancesBelow}
-use Rattle.client_steps.proofs.Ends.{member-split, of-index, TreeUsed, unused, did-nothing, did-tree, rose-from, reads-same, reads-one, reads-files, reads-none, any-reads}
+use Rattle.client_steps.proofs.Ends.{of-index, TreeUsed, unused, did-tree, rose-from, reads-same, reads-one, reads-files, reads-none, any-reads}
 
 -- what a step leaves, by an equation of its result
 by-result : (known : Known) (jobs : List Job) (hosts : List Host) (client : ℕ) (calls : List SheetCall) (from now : EndSeen) (r s : Advanced) → r ≡ s → StepHolds known jobs hosts client calls from now s → StepHolds known jobs hosts client calls from now r
@@ -116,19 +120,8 @@ goes-below jobs hosts n bound left a (adv.Goes new) le (works, (less, (same, non
 goes-below jobs hosts n bound left a (adv.Records done) le same = (omega arith, (ap Some (sym same), refl))
 goes-below jobs hosts n bound left a (adv.Waits new wanted) le (waits, (less, (same, none))) = (waits, (inl (omega (arith, le, less)), (same, sym none)))
 
-below-true : (a b : ℕ) → a < b → nat_lt a b ≡ true
-below-true a b below = by_test (nat_lt a b) refl
-  where
-    by_test : (t : Bool) → nat_lt a b ≡ t → nat_lt a b ≡ true
-    by_test true e = e
-    by_test false e = let above : b ≤ a = ltb-false a b e in absurd (omega (arith, below, above))
-
 none-some : {X : Type 0} (o : Option X) (x : X) → o ≡ None → o ≡ Some x → ⊥
 none-some o x none is = absurd (let e : None ≡ Some x = sym none ∙ is in cc)
-
-map-append : {X Y : Type 0} (f : X → Y) (xs ys : List X) → map f (xs ++ ys) ≡ map f xs ++ map f ys
-map-append f [] ys = refl
-map-append f (x ∷ xs) ys = ap (λ r. f x ∷ r) (map-append f xs ys)
 
 -- a sheet that was built for a key is right for it
 pub built-right : (tree : FileTree) (key : SheetKey) (sheet : SheetData) → sheet ≡ sheet_of tree key.setup key.visit → IsRightFor tree key sheet
@@ -231,7 +224,7 @@ module _ (known : Known) (of : Job) where
 
   search-true : (tree : FileTree) (h : Heard) (ask : Ask) (got : Option Hit) → IsTrueIn tree of h → search tree of.setup ask ≡ got → IsTrueIn tree of (with_search h ask got)
   search-true tree h ask got was right = record {
-    searches = λ x y m. elim (member-split (x, y) h.searches ((ask, got) ∷ []) m) [
+    searches = λ x y m. elim (Member-append (x, y) h.searches ((ask, got) ∷ []) m) [
       | inl old ↦ was.searches x y old
       | inr new ↦ elim new [
         | inl e ↦ subst (λ (p : Ask × Option Hit). search tree of.setup p.0 ≡ p.1) e right
@@ -245,7 +238,7 @@ module _ (known : Known) (of : Job) where
   sheet-true : (tree : FileTree) (h : Heard) (visit : Visit) (sheet : SheetData) → IsTrueIn tree of h → sheet_of tree of.setup visit ≡ sheet → IsTrueIn tree of (with_sheet h visit sheet)
   sheet-true tree h visit sheet was right = record {
     searches = was.searches;
-    sheets = λ v s m. elim (member-split (v, s) h.sheets ((visit, sheet) ∷ []) m) [
+    sheets = λ v s m. elim (Member-append (v, s) h.sheets ((visit, sheet) ∷ []) m) [
       | inl old ↦ was.sheets v s old
       | inr new ↦ elim new [
         | inl e ↦ subst (λ (p : Visit × SheetData). sheet_of tree of.setup p.0 ≡ p.1) e right
@@ -259,7 +252,7 @@ module _ (known : Known) (of : Job) where
   large-true tree h visit was large = record {
     searches = was.searches;
     sheets = was.sheets;
-    large = λ v e. let same : visit ≡ v = cc in subst (λ (x : Visit). is_large_in tree x ≡ true) same (below-true body_limit (length (body_of_place tree visit.place)) large);
+    large = λ v e. let same : visit ≡ v = cc in subst (λ (x : Visit). is_large_in tree x ≡ true) same (lt-ltb body_limit (length (body_of_place tree visit.place)) large);
   }
 
   -- an analysis of the same job, which was told the same, or something more that is true

@@ -16,8 +16,9 @@ use Rattle.job_ends.specs.declared.asking.Replied.TheVariants.{Text, Diag, Faile
 use Rattle.base_types.specs.Told.{added}
 use Rattle.closure_fixpoint.specs.Gathering.{files_among}
 use Rattle.job_ends.specs.Looks.{SheetCall, LooksFor, missed}
+use Rattle.job_ends.proofs.Deeds.{added-nil}
 use Rattle.client_steps.specs.Phases.{IsReady, IsJudged, Finished}
-use Rattle.client_steps.proofs.Ends.{added-nil, member-get, at-most, rose-from, reads-same, any-reads}
+use Rattle.client_steps.proofs.Ends.{member-get, at-most, rose-from, reads-same, any-reads}
 
 did-more : (exchanges : List Exchange) (from before now : EndSeen) → Did [] [] from before → Did exchanges [] before now → Did exchanges [] from now
 did-more exchanges from before now a b = record {

@@ -1,7 +1,7 @@
 -- One job more in a client's ledger.
-use Rattle.std.proofs.Common.{arith, ◌≡◌, ◌⊎◌, ℕ, ◌+◌, ◌-◌, ◌^◌, min, ◌<◌, ◌≤◌, Bool, true, false, cond, nat_le, List, [], ◌∷◌, ◌++◌, Option, None, Some, refl, sym, ap, ◌∙◌, subst, inl, inr, append-nil, append_assoc}
+use Rattle.std.proofs.Common.{arith, ◌≡◌, ◌⊎◌, ℕ, ◌+◌, ◌-◌, ◌^◌, min, ◌<◌, ◌≤◌, Bool, true, false, cond, nat_le, List, [], ◌∷◌, ◌++◌, Option, refl, sym, ap, ◌∙◌, subst, inl, inr, append-nil, append_assoc}
 use Rattle.std.proofs.lemmas.Bool.Decides.{leb_tells}
-use Rattle.std.proofs.lemmas.List.Sums.{sum_by-append}
+use Rattle.std.proofs.lemmas.List.Sums.{sum_by_push}
 use Rattle.std.proofs.lemmas.Grind.{common_steps}
 use Rattle.std.specs.List.{flat_map, count_by, sum_by, AllByRecursion}
 use Rattle.base_types.specs.Causes.{Rose}
@@ -19,6 +19,7 @@ use Rattle.job_ends.specs.declared.record.JobOutcome.{JobOutcome}
 use Rattle.job_ends.specs.declared.record.JobOutcome.TheVariants as end
 use Rattle.job_ends.specs.Looks.{LooksFor}
 use Rattle.job_ends.specs.Works.{Work, NotBelow, Chain, AtMost, EndHolds, is_link, is_tree_fault, is_out_fault}
+use Rattle.job_ends.proofs.Deeds.{added-more}
 use Rattle.client_steps.specs.Phases.{IsWork}
 use Rattle.client_steps.specs.Ledger.{WorkHolds}
 
@@ -26,18 +27,11 @@ pub flat-snoc : {X Y : Type 0} (f : X → List Y) (xs : List X) (x : X) → flat
 flat-snoc f [] x = append-nil (f x)
 flat-snoc f (y ∷ xs) x = ap (λ l. f y ++ l) (flat-snoc f xs x) ∙ sym (append_assoc (f y) (flat_map f xs) (f x))
 
-added-more : {A : Type 0} (xs ys : List A) (told : Option (List A)) → added ys (added xs told) ≡ added (xs ++ ys) told
-added-more xs ys None = refl
-added-more xs ys (Some zs) = ap Some (append_assoc zs xs ys)
-
 added-snoc : {X A : Type 0} (f : X → List A) (xs : List X) (x : X) (first from now : Option (List A)) → from ≡ added (flat_map f xs) first → now ≡ added (f x) from → now ≡ added (flat_map f (xs ++ x ∷ [])) first
 added-snoc f xs x first from now was is = is ∙ ap (added (f x)) was ∙ added-more (flat_map f xs) (f x) first ∙ ap (λ l. added l first) (sym (flat-snoc f xs x))
 
 plus-assoc : (a b c : ℕ) → a + (b + c) ≡ a + b + c
 plus-assoc a b c = omega arith
-
-sum-snoc : {X : Type 0} (f : X → ℕ) (xs : List X) (x : X) → sum_by f (xs ++ x ∷ []) ≡ sum_by f xs + f x
-sum-snoc f xs x = sum_by-append f xs (x ∷ []) ∙ omega arith
 
 pub count-snoc : {X : Type 0} (p : X → Bool) (xs : List X) (x : X) → count_by p (xs ++ x ∷ []) ≡ count_by p xs + cond (p x) 1 0
 count-snoc p xs x = grind (arith, common_steps)
@@ -99,7 +93,7 @@ one-more-by known job works w exchanges put first from now are was did recorded 
       (at-most-more (count_by (λ (v : Work). is_out_fault v.done.outcome) works) first.outs_faults from.outs_faults now.outs_faults (is_out_fault w.done.outcome) was.outs_bound did.outs (outs-rose known job (deeds_of exchanges put from now) w.done.way w.done.outcome recorded.outcome));
   chain = chain-snoc (counts_of first) works w (counts_of now) (subst (λ (c : Counts). Chain (counts_of first) works c) (sym (ap (λ (d : Deeds). d.before) are)) was.chain)
       (subst (λ (d : Deeds). NotBelow d.before d.after) (sym are) (record { tree = did.tree; wire = did.wire; outs = did.outs })) (ap (λ (d : Deeds). d.after) are);
-  reads = subst (λ n. now.reads ≤ first.reads + n) (sym (sum-snoc (λ (v : Work). v.reads) works w)) (reads-more (sum_by (λ (v : Work). v.reads) works) w.reads first.reads from.reads now.reads was.reads read);
+  reads = subst (λ n. now.reads ≤ first.reads + n) (sym (sum_by_push (λ (v : Work). v.reads) works w)) (reads-more (sum_by (λ (v : Work). v.reads) works) w.reads first.reads from.reads now.reads was.reads read);
 }
 
 pub one-more : (known : Known) (jobs : List Job) (hosts : List Host) (works : List Work) (w : Work) (first from now : EndSeen) → EndHolds works first from → IsWork known jobs hosts w from now → EndHolds (works ++ w ∷ []) first now
@@ -120,7 +114,3 @@ work-holds known jobs hosts w from now is =
       looks = subst (λ (l : List Exchange). LooksFor known is.job w.calls w.reads l w.done.way) (sym exchanges) is.looks;
       to_hosts = subst (λ (l : List Exchange). AllByRecursion (λ (e : Exchange). Member e.host hosts) l) (sym exchanges) (each-host is.host hosts is.did.exchanges is.of_hosts is.did.host_is);
     }
-
-pub all-snoc : {X : Type 0} (P : X → Type 0) (xs : List X) (x : X) → AllByRecursion P xs → P x → AllByRecursion P (xs ++ x ∷ [])
-all-snoc P [] x all at = (at, tt)
-all-snoc P (y ∷ xs) x all at = (all.0, all-snoc P xs x all.1 at)

@@ -4,4 +4,4 @@ mod Judged
 mod Ledgers
 mod Answered
 mod Worked
-mod Puts
+pub mod Puts

@@ -1,5 +1,5 @@
 -- What an answer does to a client: its room, the numbers of its works, and the facts of its phase.
-use Rattle.std.proofs.Common.{arith, ◌≡◌, ℕ, zero, suc, ◌+◌, ◌<◌, ◌≤◌, List, [], ◌∷◌, ◌++◌, length, None, Some, refl, sym, ◌∙◌, subst, append-nil, slice_get}
+use Rattle.std.proofs.Common.{arith, ◌≡◌, ℕ, suc, ◌+◌, ◌<◌, ◌≤◌, List, [], ◌∷◌, ◌++◌, length, None, Some, sym, ◌∙◌, subst, append-nil}
 use Rattle.std.specs.Vec.{vec_len}
 use Rattle.job_words.specs.declared.job.Job.{Job}
 use Rattle.io_edges.specs.declared.wire.Host.{Host}
@@ -7,6 +7,7 @@ use Rattle.job_ends.specs.Outside.{EndSeen}
 use Rattle.job_ends.specs.Record.{Known}
 use Rattle.job_ends.specs.Looks.{SheetCall}
 use Rattle.job_ends.specs.Works.{Work}
+use Rattle.closure_memo.proofs.Memos.{get_within}
 use Rattle.client_steps.specs.declared.client.Client.{Client}
 use Rattle.client_steps.specs.declared.phase.Phase.{Phase}
 use Rattle.client_steps.specs.declared.phase.Phase.TheVariants.{Draws, Looks, Publishes, Wants, Takes, Calls, Gives, Concludes}
@@ -36,7 +37,7 @@ put-room count least n (Takes k bytes hosts) (Leased (Some lease)) fits above in
 put-room count least n (Gives k host replied) Given fits above in_room below = (in_room, below)
 put-room count least n _ _ fits above in_room below = elim fits [ ]
 
-go-further : (least : ℕ) (works : List Work) (bound more : ℕ) → bound ≤ more → GoUp least works bound → GoUp least works more
+pub go-further : (least : ℕ) (works : List Work) (bound more : ℕ) → bound ≤ more → GoUp least works bound → GoUp least works more
 go-further least [] bound more le up = omega (arith, le, up)
 go-further least (w ∷ works) bound more le up = (up.0, go-further (suc w.done.job) works bound more le up.1)
 
@@ -86,11 +87,6 @@ put-has-room c r least p least_is phase_is fits above was =
 
 -- ---- the facts of the phase ----
 
-get-below : {X : Type 0} (xs : List X) (n : ℕ) → n < length xs → (x : X) × (slice_get xs n ≡ Some x)
-get-below [] n lt = absurd (omega (arith, lt))
-get-below (x ∷ xs) zero lt = (x, refl)
-get-below (x ∷ xs) (suc n) lt = get-below xs n (omega (arith, lt))
-
 module _ (known : Known) (jobs : List Job) (hosts : List Host) where
   -- an answer that makes no call on the memo
   no-call : (p : Phase) (calls : List SheetCall) (from now : EndSeen) → Current known jobs hosts p calls from now → Current known jobs hosts p (calls ++ []) from now
@@ -99,7 +95,7 @@ module _ (known : Known) (jobs : List Job) (hosts : List Host) where
   pub put-current : (count : ℕ) (p : Phase) (r : Reply) (calls : List SheetCall) (from now : EndSeen) → Fits count p r → count ≤ length jobs → IsRightReply known p r → 0 < length hosts
       → Current known jobs hosts p calls from now → Current known jobs hosts (answered p r) (calls ++ call_by p r) from now
   put-current count Draws (Drawn None) calls from now fits many right some h = (h.0, append-nil calls ∙ h.1)
-  put-current count Draws (Drawn (Some k)) calls from now fits many right some h = let job = get-below jobs k (omega (arith, fits, many)) in (job.0, job.1, (h.0, append-nil calls ∙ h.1))
+  put-current count Draws (Drawn (Some k)) calls from now fits many right some h = let job = get_within jobs k (omega (arith, fits, many)) in (job.0, job.1, (h.0, append-nil calls ∙ h.1))
   put-current count (Looks k left a key) (Looked None) calls from now fits many right some h = (h.0, h.1, looked-miss known h.0 a key calls from now h.2)
   put-current count (Looks k left a key) (Looked (Some sheet)) calls from now fits many right some h = (h.0, h.1, looked-hit known h.0 a key calls from now sheet h.2 right)
   put-current count (Looks k left a key) Refused calls from now fits many right some h =

@@ -1,6 +1,8 @@
 -- What private steps do to a client: its ledger, and the numbers that it drew.
-use Rattle.std.proofs.Common.{arith, ◌≡◌, ◌⊎◌, ℕ, suc, ◌+◌, ◌<◌, ◌≤◌, cond, nat_eq, List, [], ◌∷◌, ◌++◌, map, Option, None, Some, refl, sym, ap, ◌∙◌, subst, inl, inr, append-nil, append_assoc}
+use Rattle.std.proofs.Common.{arith, ◌≡◌, ◌⊎◌, ℕ, suc, ◌+◌, ◌<◌, ◌≤◌, cond, nat_eq, List, [], ◌∷◌, ◌++◌, Option, None, Some, refl, sym, ap, ◌∙◌, subst, inl, inr, append-nil, append_assoc}
 use Rattle.std.specs.List.{flat_map, count_by, AllByRecursion}
+use Rattle.std.proofs.lemmas.List.{map_push}
+use Rattle.std.proofs.Math.Nat.{lt_trans}
 use Rattle.job_words.specs.declared.job.Job.{Job}
 use Rattle.io_edges.specs.declared.wire.Host.{Host}
 use Rattle.job_ends.specs.Outside.{EndSeen}
@@ -9,6 +11,7 @@ use Rattle.job_ends.specs.Record.{Known, known as known_of}
 use Rattle.job_ends.specs.declared.record.Done.{Done}
 use Rattle.job_ends.specs.Looks.{SheetCall}
 use Rattle.job_ends.specs.Works.{Work}
+use Rattle.base_types.proofs.Lists.{all_push}
 use Rattle.client_steps.specs.declared.client.Client.{Client}
 use Rattle.client_steps.specs.declared.phase.Phase.{Phase}
 use Rattle.client_steps.specs.declared.phase.Phase.TheVariants.{Rests, Wants}
@@ -16,7 +19,7 @@ use Rattle.client_steps.specs.declared.phase.Advanced.{Advanced}
 use Rattle.client_steps.specs.declared.phase.Advanced.TheVariants as adv
 use Rattle.client_steps.specs.Phases.{Current, Finished, WantsThenTakes, StepKeeps, job_of, rank}
 use Rattle.client_steps.specs.Ledger.{GoUp, below_works, Ledger, all_calls, ClientHolds, NextKeeps, WorkHolds, one_if_some, one_if_job, DrewTheSame}
-use Rattle.client_steps.proofs.Ledgers.{flat-snoc, count-snoc, all-snoc, one-more, work-holds}
+use Rattle.client_steps.proofs.Ledgers.{flat-snoc, count-snoc, one-more, work-holds}
 
 -- the facts of a phase, by an equation of the phase
 pub current-by : (known : Known) (jobs : List Job) (hosts : List Host) (p q : Phase) (calls : List SheetCall) (from now : EndSeen) → p ≡ q → Current known jobs hosts p calls from now → Current known jobs hosts q calls from now
@@ -74,10 +77,6 @@ next-begins known jobs hosts old d start stays same = λ first was h. record {
 
 -- ---- a record ----
 
-map-snoc : {X Y : Type 0} (f : X → Y) (xs : List X) (x : X) → map f (xs ++ x ∷ []) ≡ map f xs ++ f x ∷ []
-map-snoc f [] x = refl
-map-snoc f (y ∷ xs) x = ap (λ l. f y ∷ l) (map-snoc f xs x)
-
 go-up-snoc : (least : ℕ) (works : List Work) (w : Work) (bound more : ℕ) → GoUp least works bound → bound ≡ w.done.job → suc w.done.job ≤ more → GoUp least (works ++ w ∷ []) more
 go-up-snoc least [] w bound more up at lt = (omega (arith, up, at), lt)
 go-up-snoc least (v ∷ works) w bound more up at lt = (up.0, go-up-snoc (suc v.done.job) works w bound more up.1 at lt)
@@ -104,10 +103,10 @@ module _ (known : Known) (jobs : List Job) (hosts : List Host) where
       let w = ended.work in
       let job_is : w.done.job ≡ done.job = ap (λ (x : Done). x.job) ended.done_is in
       record {
-        records_are = map-snoc (λ (v : Work). v.done) ledger.works w ∙ ap (λ (l : List Done). l ++ w.done ∷ []) was.records_are ∙ ap (λ (x : Done). c.records.items ++ x ∷ []) ended.done_is ∙ sym adds.records;
-        by_client = all-snoc (λ (v : Work). v.done.client ≡ d.number) ledger.works w (subst (λ (n : ℕ). AllByRecursion (λ (v : Work). v.done.client ≡ n) ledger.works) (sym adds.number) was.by_client)
+        records_are = map_push (λ (v : Work). v.done) ledger.works w ∙ ap (λ (l : List Done). l ++ w.done ∷ []) was.records_are ∙ ap (λ (x : Done). c.records.items ++ x ∷ []) ended.done_is ∙ sym adds.records;
+        by_client = all_push (λ (v : Work). v.done.client ≡ d.number) ledger.works w (subst (λ (n : ℕ). AllByRecursion (λ (v : Work). v.done.client ≡ n) ledger.works) (sym adds.number) was.by_client)
             (ap (λ (x : Done). x.client) ended.done_is ∙ ended.client_is ∙ sym adds.number);
-        each = all-snoc (WorkHolds known jobs hosts) ledger.works w was.each (work-holds known jobs hosts w ledger.from now ended.works);
+        each = all_push (WorkHolds known jobs hosts) ledger.works w was.each (work-holds known jobs hosts w ledger.from now ended.works);
         rising = subst (λ (o : Option ℕ). GoUp 0 (ledger.works ++ w ∷ []) (below_works o d.least)) (sym (no-job d adds.rests))
             (go-up-snoc 0 ledger.works w done.job d.least (subst (λ (o : Option ℕ). GoUp 0 ledger.works (below_works o c.least)) adds.in_work was.rising) (sym job_is)
             (at-least w.done.job done.job d.least c.least job_is (was.in_work done.job adds.in_work) adds.least));
@@ -162,12 +161,9 @@ IsNearer new old = (new ≡ old) ⊎ ((rank new < rank old) × ((n : ℕ) (bytes
 abbrev WantsNone : Phase → Type 0
 WantsNone p = (n : ℕ) (bytes : List ℕ) → p ≡ Wants n bytes → ⊥
 
-below-both : (a b c : ℕ) → a < b → b < c → a < c
-below-both a b c lt less = omega (arith, lt, less)
-
 nearer-by : (old p q : Phase) → rank q < rank p → WantsNone p → IsNearer p old → IsNearer q old
 nearer-by old p q lt none (inl same) = inr (subst (λ (x : Phase). rank q < rank x) same lt, subst WantsNone same none)
-nearer-by old p q lt none (inr h) = inr (below-both (rank q) (rank p) (rank old) lt h.0, h.1)
+nearer-by old p q lt none (inr h) = inr (lt_trans {n = rank q} {m = rank p} {k = rank old} lt h.0, h.1)
 
 pub nearer-goes : (hosts : ℕ) (old p q : Phase) → rank q < rank p → WantsThenTakes hosts p (adv.Goes q) → IsNearer p old → IsNearer q old
 nearer-goes hosts old p q lt wants so_far = nearer-by old p q lt (λ n bytes e. let no = wants n bytes e in absurd (cc)) so_far
