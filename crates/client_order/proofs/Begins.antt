@@ -1,11 +1,10 @@
 -- The beginning of a run: clients that did nothing, free slots, and an empty memo.
-use Rattle.std.proofs.Common.{arith, ◌≡◌, ℕ, zero, suc, ◌+◌, ◌<◌, ◌≤◌, cond, nat_lt, nat_eq, ◌==◌, List, [], ◌∷◌, ◌++◌, map, length, replicate, Option, None, Some, IfSome, refl, sym, ap, ◌∙◌, subst, inl, slice_index, append-nil, add-zero}
+use Rattle.std.proofs.Common.{arith, ◌≡◌, ℕ, zero, suc, ◌+◌, ◌<◌, ◌≤◌, cond, nat_lt, nat_eq, ◌==◌, List, [], ◌∷◌, ◌++◌, map, length, replicate, Option, None, Some, refl, sym, ap, ◌∙◌, subst, slice_index, add-zero}
 use Rattle.std.specs.List.{filter_map, filter, count_by, sum_by, All, AllByRecursion}
 use Rattle.std.proofs.lemmas.List.{length-map}
 use Rattle.std.proofs.lemmas.List.Elements.{All-nil, All-cons, All-head, All-tail}
 use Rattle.std.proofs.lemmas.List.Sums.{sum_by-cons}
 use Rattle.std.proofs.lemmas.Bool.Decides.{nat_tests}
-use Rattle.base_types.specs.Told.{added}
 use Rattle.job_words.specs.declared.job.Job.{Job}
 use Rattle.io_edges.specs.declared.wire.Host.{Host}
 use Rattle.io_edges.specs.declared.wire.Exchange.{Exchange}
@@ -19,7 +18,8 @@ use Rattle.closure_memo.specs.declared.step.MemoCall.{MemoCall}
 use Rattle.job_ends.specs.declared.record.Done.{Done}
 use Rattle.job_ends.specs.Outside.{EndSeen}
 use Rattle.job_ends.specs.Record.{Known, known as known_of}
-use Rattle.job_ends.specs.Works.{EndHolds, IsFresh}
+use Rattle.job_ends.specs.Works.{IsFresh}
+use Rattle.job_ends.proofs.Unused.{still-end, quiet}
 use Rattle.client_steps.specs.declared.client.Client.{Client}
 use Rattle.client_steps.specs.declared.phase.Phase.{Phase}
 use Rattle.client_steps.specs.declared.phase.Phase.TheVariants.{Rests, Ended}
@@ -28,22 +28,6 @@ use Rattle.client_steps.specs.Ledger.{Ledger, ClientHolds, IsNew, HasRoom, times
 use Rattle.client_order.specs.Ran.{MemoSeen, calls_of, call_at}
 use Rattle.client_order.specs.parts.World.{ClientFits, EachDid, AreNumberedFrom, WorldHolds, held, one_if_same}
 use Rattle.client_order.specs.parts.Merged.{AreNew}
-
-added-nil : {A : Type 0} (told : Option (List A)) → told ≡ added [] told
-added-nil None = refl
-added-nil (Some xs) = ap Some (sym (append-nil xs))
-
-still-end : (e : EndSeen) → EndHolds [] e e
-still-end e = record {
-  outs = added-nil e.kept;
-  talk = added-nil e.talk;
-  tree = refl;
-  link_bound = inl (omega arith);
-  tree_bound = inl (omega arith);
-  outs_bound = inl (omega arith);
-  chain = record { tree = omega arith; wire = omega arith; outs = omega arith };
-  reads = omega arith;
-}
 
 -- ---- clients ----
 
@@ -157,11 +141,6 @@ nothing-done named budget jobs hosts memo count k (c ∷ clients) (e ∷ ends) e
 )
 
 -- ---- the ends ----
-
-quiet : (peer : List ℕ → List ℕ → Type 0) (talk : Option (List Exchange)) → IfSome talk (λ talk. talk ≡ []) → EachAnswered peer talk
-quiet peer None is = tt
-quiet peer (Some []) is = tt
-quiet peer (Some (e ∷ talk)) is = absurd (cc)
 
 -- ends that weren't used are closed, and all that was answered on them was answered so
 pub fresh-links : {E W : Type 0} (seen : E → EndSeen) (wire : E → W) (state : W → LinkState) (talk : W → Option (List Exchange)) (peer : List ℕ → List ℕ → Type 0)

@@ -1,13 +1,15 @@
 -- A memo's history with one call more, as each client sees it.
-use Rattle.std.proofs.Common.{arith, ◌≡◌, ℕ, zero, suc, ◌+◌, ◌<◌, ◌≤◌, Bool, true, false, not, cond, nat_lt, ◌==◌, List, [], ◌∷◌, ◌++◌, length, slice_get, Some, refl, sym, ap, ◌∙◌, subst, inl, inr, ◌⊎◌}
+use Rattle.std.proofs.Common.{arith, ◌≡◌, ℕ, zero, suc, ◌+◌, ◌<◌, ◌≤◌, Bool, true, false, cond, nat_lt, ◌==◌, List, [], ◌∷◌, ◌++◌, length, slice_get, Some, refl, sym, ap, ◌∙◌, subst, inl, inr, ◌⊎◌}
 use Rattle.std.proofs.lemmas.Bool.Decides.{eqb_tells, nat_tests}
 use Rattle.std.proofs.lemmas.Grind.{common_steps}
 use Rattle.std.proofs.lemmas.List.{append-nil}
 use Rattle.std.proofs.lemmas.List.Elements.{filter_map-append, filter-append}
-use Rattle.std.specs.List.{filter, filter_map, position_or_len}
+use Rattle.std.specs.List.{filter, filter_map}
 use Rattle.closure_memo.specs.declared.step.MemoCall.{MemoCall}
 use Rattle.closure_memo.specs.declared.step.What.{What}
 use Rattle.closure_memo.specs.Memo.{memo_call, number_of, with_key}
+use Rattle.closure_memo.proofs.Keys.{first_here, first_behind}
+use Rattle.closure_memo.proofs.Memos.{get_within}
 use Rattle.sheet_build.specs.Keys.{is_same_key, exact_keys}
 use Rattle.sheet_build.specs.declared.keys.SheetKey.{SheetKey}
 use Rattle.job_ends.specs.Looks.{SheetCall, sheet_call}
@@ -25,25 +27,13 @@ get-last : {A : Type 0} (xs : List A) (x : A) → slice_get (xs ++ x ∷ []) (le
 get-last [] x = refl
 get-last (z ∷ xs) x = get-last xs x
 
-get-within : {A : Type 0} (xs : List A) (i : ℕ) → i < length xs → (x : A) × (slice_get xs i ≡ Some x)
-get-within [] i less = absurd (omega arith)
-get-within (x ∷ xs) zero less = (x, refl)
-get-within (x ∷ xs) (suc i) less = get-within xs i (omega arith)
-
--- the number of the first element that passes, in a list with one more in front
-first-here : {A : Type 0} (test : A → Bool) (x : A) (xs : List A) → test x ≡ true → position_or_len test (x ∷ xs) ≡ 0
-first-here test x xs e = ap (λ b. cond (not b) (1 + position_or_len test xs) 0) e
-
-first-behind : {A : Type 0} (test : A → Bool) (x : A) (xs : List A) → test x ≡ false → position_or_len test (x ∷ xs) ≡ suc (position_or_len test xs)
-first-behind test x xs e = ap (λ b. cond (not b) (1 + position_or_len test xs) 0) e ∙ omega arith
-
 number-within : (key : SheetKey) (keys : List SheetKey) → number_of is_same_key key keys ≤ length keys
 number-within key [] = omega arith
 number-within key (k ∷ keys) = go (number-within key keys) (is_same_key key k) refl
   where
     go : number_of is_same_key key keys ≤ length keys → (b : Bool) → is_same_key key k ≡ b → number_of is_same_key key (k ∷ keys) ≤ length (k ∷ keys)
-    go ih true e = omega (arith, first-here (is_same_key key) k keys e)
-    go ih false e = omega (arith, first-behind (is_same_key key) k keys e, ih)
+    go ih true e = omega (arith, first_here (is_same_key key) k keys e)
+    go ih false e = omega (arith, first_behind (is_same_key key) k keys e, ih)
 
 -- the key that stands at a key's own number is that key
 key-there : (key : SheetKey) (keys : List SheetKey) (k : SheetKey) → slice_get keys (number_of is_same_key key keys) ≡ Some k → k ≡ key
@@ -51,8 +41,8 @@ key-there key [] k at = absurd (grind (arith, at))
 key-there key (j ∷ keys) k at = go (key-there key keys k) (is_same_key key j) refl
   where
     go : (slice_get keys (number_of is_same_key key keys) ≡ Some k → k ≡ key) → (b : Bool) → is_same_key key j ≡ b → k ≡ key
-    go ih true e = let here : slice_get (j ∷ keys) 0 ≡ Some k = subst (λ n. slice_get (j ∷ keys) n ≡ Some k) (first-here (is_same_key key) j keys e) at in sym (grind (arith, here)) ∙ sym (exact_keys key j e)
-    go ih false e = ih (subst (λ n. slice_get (j ∷ keys) n ≡ Some k) (first-behind (is_same_key key) j keys e) at)
+    go ih true e = let here : slice_get (j ∷ keys) 0 ≡ Some k = subst (λ n. slice_get (j ∷ keys) n ≡ Some k) (first_here (is_same_key key) j keys e) at in sym (grind (arith, here)) ∙ sym (exact_keys key j e)
+    go ih false e = ih (subst (λ n. slice_get (j ∷ keys) n ≡ Some k) (first_behind (is_same_key key) j keys e) at)
 
 -- the keys once this one was seen: a key stands at its own number, and those before stand where they stood
 pub record Seen (key : SheetKey) (keys now : List SheetKey) : Type 0 where
@@ -67,7 +57,7 @@ seen-key key keys = go (nat_lt (number_of is_same_key key keys) (length keys)) r
     go true e =
         let old : with_key is_same_key key keys ≡ keys = ap (λ b. cond b keys (keys ++ key ∷ [])) e in
         let less : number_of is_same_key key keys < length keys = grind (arith, common_steps, e) in
-        let at = get-within keys (number_of is_same_key key keys) less in
+        let at = get_within keys (number_of is_same_key key keys) less in
         record {
           at_number = ap (λ l. slice_get l (number_of is_same_key key keys)) old ∙ at.1 ∙ ap Some (key-there key keys at.0 at.1);
           behind = [];

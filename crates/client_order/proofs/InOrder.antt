@@ -5,6 +5,7 @@ use Rattle.std.specs.Option.{option_to_list}
 use Rattle.std.proofs.lemmas.List.{length-replicate, map-append}
 use Rattle.std.proofs.lemmas.List.Elements.{filter-append, All-from_recursion, recursion_from_All}
 use Rattle.job_ends.specs.declared.record.Done.{Done}
+use Rattle.base_types.proofs.Lists.{all_append}
 use Rattle.client_order.specs.parts.Merged.{with_number, in_order, job_number, placed, in_places, AtMostOnce, EachBelow}
 
 -- ---- filters ----
@@ -42,10 +43,6 @@ all-cond P false x ys at all = all
 pub all-filter : {X : Type 0} (P : X → Type 0) (p : X → Bool) (xs : List X) → AllByRecursion P xs → AllByRecursion P (filter p xs)
 all-filter P p [] all = tt
 all-filter P p (x ∷ xs) all = all-cond P (p x) x (filter p xs) all.0 (all-filter P p xs all.1)
-
-pub all-append : {X : Type 0} (P : X → Type 0) (xs ys : List X) → AllByRecursion P xs → AllByRecursion P ys → AllByRecursion P (xs ++ ys)
-all-append P [] ys all more_all = more_all
-all-append P (x ∷ xs) ys all more_all = (all.0, all-append P xs ys all.1 more_all)
 
 pub all-weaker : {X : Type 0} (P Q : X → Type 0) → ((x : X) → P x → Q x) → (xs : List X) → AllByRecursion P xs → AllByRecursion Q xs
 all-weaker P Q f [] all = tt
@@ -97,7 +94,7 @@ module _ {X : Type 0} (number : X → ℕ) where
   pub all-in-order : (P : X → Type 0) (from count : ℕ) (xs : List X) → AllByRecursion P xs → AllByRecursion P (in_order number from count xs)
   all-in-order P from zero xs all = tt
   all-in-order P from (suc count) xs all =
-      all-append P (with_number number from xs) (in_order number (suc from) count xs) (all-filter P (λ x. number x == from) xs all) (all-in-order P (suc from) count xs all)
+      all_append P (with_number number from xs) (in_order number (suc from) count xs) (all-filter P (λ x. number x == from) xs all) (all-in-order P (suc from) count xs all)
 
   -- the first is below all numbers that are asked for
   pub in-order-below : (from count : ℕ) (x : X) (xs : List X) → number x < from → in_order number from count (x ∷ xs) ≡ in_order number from count xs

@@ -1,5 +1,5 @@
 -- How often the jobs of a run look into the memo.
-use Rattle.std.proofs.Common.{arith, ◌≡◌, ◌⊎◌, ℕ, suc, ◌≤◌, Bool, true, cond, List, [], ◌∷◌, map, length, Some, refl, sym, ap, ◌∙◌, subst, inl, inr}
+use Rattle.std.proofs.Common.{arith, ◌≡◌, ◌⊎◌, ℕ, suc, ◌≤◌, Bool, true, cond, List, [], ◌∷◌, map, length, Some, sym, ◌∙◌, subst, inl, inr}
 use Rattle.std.proofs.lemmas.List.{length-map}
 use Rattle.std.proofs.lemmas.List.Sums.{length-filter}
 use Rattle.std.specs.List.{filter, AllByRecursion}
@@ -15,6 +15,7 @@ use Rattle.closure_fixpoint.specs.Closure.{IsClosureOf, InClosure}
 use Rattle.closure_fixpoint.specs.Laws.{ClosuresAreOne}
 use Rattle.closure_fixpoint.specs.declared.job_analysis.Refusal.{Refusal}
 use Rattle.closure_fixpoint.specs.declared.job_analysis.Refusal.TheVariants as refusal
+use Rattle.closure_fixpoint.proofs.ClosedLaws.{few as few_of}
 use Rattle.job_ends.specs.Record.{Known, Deeds, WayHolds, IsRecord}
 use Rattle.job_ends.specs.declared.record.Way.{Way}
 use Rattle.job_ends.specs.declared.record.Way.TheVariants.{Remote, Local, Broken}
@@ -22,36 +23,6 @@ use Rattle.job_ends.specs.declared.record.Cause.TheVariants as cause
 use Rattle.job_ends.specs.Looks.{SheetCall, keys_where, looked, LooksSo, LooksAll, LooksFor}
 use Rattle.job_ends.specs.Works.{Work, EachRecord, EachLooks}
 use Rattle.client_order.specs.Ran.{count_calls, may_leave, is_analysed, IsAnalysed, LooksSize, EachLooksSize}
-
--- ---- lists of different elements ----
-
--- a list without one of its elements
-abbrev without : {X : Type 0} (x : X) (ys : List X) → Member x ys → List X
-without x [] m = []
-without x (y ∷ ys) (inl same) = ys
-without x (y ∷ ys) (inr m) = y ∷ without x ys m
-
-without-length : {X : Type 0} (x : X) (ys : List X) (m : Member x ys) → length ys ≡ suc (length (without x ys m))
-without-length x [] m = elim m [ ]
-without-length x (y ∷ ys) (inl same) = refl
-without-length x (y ∷ ys) (inr m) = ap suc (without-length x ys m)
-
-without-member : {X : Type 0} (x z : X) (ys : List X) (m : Member x ys) → (z ≡ x → ⊥) → Member z ys → Member z (without x ys m)
-without-member x z [] m other n = elim n [ ]
-without-member x z (y ∷ ys) (inl same) other (inl is) = absurd (other (sym is ∙ same))
-without-member x z (y ∷ ys) (inl same) other (inr n) = n
-without-member x z (y ∷ ys) (inr m) other (inl is) = inl is
-without-member x z (y ∷ ys) (inr m) other (inr n) = inr (without-member x z ys m other n)
-
--- different elements of a list are no more than it has
-few-within : {X : Type 0} (xs ys : List X) → EachOnce xs → Within xs ys → length xs ≤ length ys
-few-within [] ys once within = omega arith
-few-within {X = X} (x ∷ xs) ys once within =
-    let m : Member x ys = within x (inl refl) in
-    let rest : length xs ≤ length (without x ys m) =
-    few-within xs (without x ys m) once.1 (λ z n. without-member x z ys m (λ same. once.0 (subst (λ (w : X). Member w xs) same n)) (within z (inr n))) in
-    let size : length ys ≡ suc (length (without x ys m)) = without-length x ys m in
-    omega (arith, rest, size)
 
 -- ---- the visits looked for ----
 
@@ -147,7 +118,7 @@ module _ (one : ClosuresAreOne) (known : Known) (tree : FileTree) (named : known
   looks-few : (job : Job) (calls : List SheetCall) (left : List SheetKey) → LooksSo known job calls left → (visits : List Visit) → IsClosureOf tree job visits → count_calls is_look calls ≤ length visits
   looks-few job calls left so visits closure =
       let few : length (visits_of (looked calls)) ≤ length visits =
-      few-within (visits_of (looked calls)) visits (visits-once job (looked calls) so.setups so.once) (visits-within one tree job visits (looked calls) closure (so.within tree named)) in
+      few_of (visits_of (looked calls)) visits (visits-once job (looked calls) so.setups so.once) (visits-within one tree job visits (looked calls) closure (so.within tree named)) in
       let counted : count_calls is_look calls ≡ length (visits_of (looked calls)) = looks-visits calls in
       omega (arith, few, counted)
 

@@ -17,10 +17,12 @@ use Rattle.client_steps.specs.declared.phase.Phase.{Phase}
 use Rattle.client_steps.specs.declared.phase.Phase.TheVariants.{Ended}
 use Rattle.client_steps.specs.Phases.{Current, job_of}
 use Rattle.client_steps.specs.Ledger.{WorkHolds, GoUp, below_works, times_drawn, one_if_job}
+use Rattle.client_steps.proofs.Puts.{go-further}
+use Rattle.base_types.proofs.Lists.{all_append}
 use Rattle.client_order.specs.Ran.{MemoSeen, calls_of}
 use Rattle.client_order.specs.parts.World.{ClientDid, EachDid, AllEnded, EachDrawnOnce, ClientFits}
 use Rattle.client_order.specs.parts.Merged.{with_number, in_order, records_of, job_number, AtMostOnce, EachBelow}
-use Rattle.client_order.proofs.InOrder.{all-append, all-weaker, filter-none, filter-all, in-order-filter, in-order-nil, in-order-below}
+use Rattle.client_order.proofs.InOrder.{all-weaker, filter-none, filter-all, in-order-filter, in-order-nil, in-order-below}
 
 pub record Part : Type 0 where
   pub works : List Work
@@ -58,10 +60,6 @@ pub record PartsOf (known : Known) (jobs : List Job) (hosts : List Host) (memo :
 
 -- ---- from clients that have ended ----
 
-go-up-later : (least : ℕ) (works : List Work) (bound later : ℕ) → bound ≤ later → GoUp least works bound → GoUp least works later
-go-up-later least [] bound later le up = omega (arith, le, up)
-go-up-later least (w ∷ works) bound later le up = (up.0, go-up-later (suc w.done.job) works bound later le up.1)
-
 below-ended : (phase : Phase) (least : ℕ) → phase ≡ Ended → below_works (job_of phase) least ≡ least
 below-ended phase least e = ap (λ (p : Phase). below_works (job_of p) least) e
 
@@ -76,7 +74,7 @@ module _ (known : Known) (jobs : List Job) (hosts : List Host) (memo : MemoSeen)
       record {
         by_client = subst (λ n. AllByRecursion (λ (w : Work). w.done.client ≡ n) did.ledger.works) number did.holds.by_client;
         each = did.holds.each;
-        rising = go-up-later 0 did.ledger.works c.least drawn fits.least (subst (GoUp 0 did.ledger.works) (below-ended c.phase c.least ended) did.holds.rising);
+        rising = go-further 0 did.ledger.works c.least drawn fits.least (subst (GoUp 0 did.ledger.works) (below-ended c.phase c.least ended) did.holds.rising);
         ends = subst (EndHolds did.ledger.works first) (sym still.0) did.holds.ends;
         own = ap (λ n. calls_of n memo) (sym number) ∙ (did.own ∙ (ap (λ (l : List SheetCall). flat_map (λ (w : Work). w.calls) did.ledger.works ++ l) still.1 ∙ append-nil (flat_map (λ (w : Work). w.calls) did.ledger.works)));
       }
@@ -192,7 +190,7 @@ module _ (known : Known) (jobs : List Job) (hosts : List Host) (memo : MemoSeen)
         ∙ append-nil p.works)))),
     subst (Splits (suc k) parts) (append_assoc front p.works (all_works parts))
         (splits-from (suc k) parts (front ++ p.works)
-        (all-append (λ (w : Work). w.done.client < suc k) front p.works
+        (all_append (λ (w : Work). w.done.client < suc k) front p.works
         (all-weaker (λ (w : Work). w.done.client < k) (λ (w : Work). w.done.client < suc k) (λ w lt. omega (arith, lt)) front below)
         (all-weaker (λ (w : Work). w.done.client ≡ k) (λ (w : Work). w.done.client < suc k) (λ w e. omega (arith, e)) p.works hold.0.by_client))
         hold.1),
@@ -219,11 +217,11 @@ module _ (known : Known) (jobs : List Job) (hosts : List Host) (memo : MemoSeen)
 
   pub each-work : (k : ℕ) (parts : List Part) → EachPart known jobs hosts memo bound k parts → AllByRecursion (WorkHolds known jobs hosts) (all_works parts)
   each-work k [] hold = tt
-  each-work k (p ∷ parts) hold = all-append (WorkHolds known jobs hosts) p.works (all_works parts) hold.0.each (each-work (suc k) parts hold.1)
+  each-work k (p ∷ parts) hold = all_append (WorkHolds known jobs hosts) p.works (all_works parts) hold.0.each (each-work (suc k) parts hold.1)
 
   pub each-client : (k clients : ℕ) (parts : List Part) → k + length parts ≤ clients → EachPart known jobs hosts memo bound k parts → AllByRecursion (λ (w : Work). w.done.client < clients) (all_works parts)
   each-client k clients [] le hold = tt
-  each-client k clients (p ∷ parts) le hold = all-append (λ (w : Work). w.done.client < clients) p.works (all_works parts)
+  each-client k clients (p ∷ parts) le hold = all_append (λ (w : Work). w.done.client < clients) p.works (all_works parts)
       (all-weaker (λ (w : Work). w.done.client ≡ k) (λ (w : Work). w.done.client < clients) (λ w e. omega (arith, e, le)) p.works hold.0.by_client)
       (each-client (suc k) clients parts (omega (arith, le)) hold.1)
 

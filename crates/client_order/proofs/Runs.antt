@@ -5,6 +5,7 @@ use Rattle.std.specs.Option.{ForSome}
 use Rattle.std.proofs.lemmas.List.{length-map}
 use Rattle.base_types.specs.Members.{Member}
 use Rattle.base_types.specs.Told.{added}
+use Rattle.base_types.proofs.Lists.{all_append}
 use Rattle.tree_model.specs.Trees.{FileTree, IsTree}
 use Rattle.job_words.specs.declared.job.Job.{Job}
 use Rattle.job_words.specs.Words.{IsJob}
@@ -27,7 +28,7 @@ use Rattle.client_steps.specs.Ledger.{WorkHolds}
 use Rattle.client_order.specs.Ran.{MemoSeen, IsLegalMemo, calls_of, counted, Tallies, ClientsRan}
 use Rattle.client_order.specs.parts.World.{EachDid, AllEnded, WorldHolds}
 use Rattle.client_order.specs.parts.Merged.{with_number, in_order, records_of, job_number}
-use Rattle.client_order.proofs.InOrder.{all-filter, all-passes, all-in-order, all-weaker, all-first, all-second, all-append, in-order-map, map-filter}
+use Rattle.client_order.proofs.InOrder.{all-filter, all-passes, all-in-order, all-weaker, all-first, all-second, in-order-map, map-filter}
 use Rattle.client_order.proofs.Counts.{IsListed, each-listed, steps-of-run, counts-agree}
 use Rattle.client_order.proofs.Parts.{Part, EachPart, PartsOf, Splits, all_works, work_number, parts-of, number-counts, splits, each-end, each-work, each-client, own-calls}
 
@@ -110,7 +111,7 @@ end-served works before now ends served = each-served works (still-served before
 module _ (known : Known) (jobs : List Job) (hosts : List Host) (memo : MemoSeen) (bound : ℕ) where
   all-served : (k : ℕ) (parts : List Part) → EachPart known jobs hosts memo bound k parts → EachServed (map (λ (p : Part). p.now) parts) → AllByRecursion (λ (w : Work). AreServed w.deeds.exchanges) (all_works parts)
   all-served k [] hold served = tt
-  all-served k (p ∷ parts) hold served = all-append (λ (w : Work). AreServed w.deeds.exchanges) p.works (all_works parts) (end-served p.works p.first p.now hold.0.ends served.0) (all-served (suc k) parts hold.1 served.1)
+  all-served k (p ∷ parts) hold served = all_append (λ (w : Work). AreServed w.deeds.exchanges) p.works (all_works parts) (end-served p.works p.first p.now hold.0.ends served.0) (all-served (suc k) parts hold.1 served.1)
 
 -- each work agrees with preprocessing over the named tree
 each-agrees : (agree : RecordsAgree) (no_peers : NoPeers) (calm : RecordsAreCalm) (named : Option FileTree) (budget : ℕ) (hosts : List Host) (tree : FileTree) → named ≡ Some tree → IsTree tree

@@ -7,6 +7,7 @@ use Rattle.std.proofs.lemmas.List.Elements.{All-cons, All-set}
 use Rattle.std.proofs.lemmas.Bool.Decides.{leb_tells}
 use Rattle.std.proofs.lemmas.Option.{slice_get-map, slice_get_read}
 use Rattle.std.proofs.Math.Seq.{map-set_same}
+use Rattle.std.proofs.Math.Nat.{lt_trans}
 use Rattle.host_slots.specs.Slots.{Leased, AllLeased}
 use Rattle.client_steps.specs.declared.client.Client.{Client}
 use Rattle.client_steps.specs.declared.phase.Phase.{Phase}
@@ -114,12 +115,9 @@ one-more k xs s p below at stuck j q lt got = elim (lt-split j k lt) [
   | inr same ↦ let e : Some q ≡ Some p = sym got ∙ ap (slice_get (phases xs)) same ∙ at in let f : q ≡ p = cc in subst (λ (r : Phase). IsStuck r s) (sym f) stuck
 ]
 
-less-than : (a b c : ℕ) → a < b → b < c → a < c
-less-than a b c one two = omega arith
-
 pub so-far-more : (jobs drawn : ℕ) (s : Leased) (xs : List Client) (k after : ℕ) (then : Leased) (ys : List Client) (last : ℕ) (end : Leased) (zs : List Client)
     → SoFar jobs drawn s xs k after then ys → RunMoves jobs after then ys k last end zs → SoFar jobs drawn s xs (k + 1) last end zs
-so-far-more jobs drawn s xs k after then ys last end zs (inl less) (inl more) = inl (less-than (distance (jobs - last) zs) (distance (jobs - after) ys) (distance (jobs - drawn) xs) more less)
+so-far-more jobs drawn s xs k after then ys last end zs (inl less) (inl more) = inl (lt_trans {n = distance (jobs - last) zs} {m = distance (jobs - after) ys} {k = distance (jobs - drawn) xs} more less)
 so-far-more jobs drawn s xs k after then ys last end zs (inl less) (inr (d, (e, (f, g)))) =
     inl (let same : distance (jobs - last) zs ≡ distance (jobs - after) ys = ap (λ (n : ℕ). distance (jobs - n) zs) d ∙ distance-by (jobs - after) ys zs f in subst (λ (n : ℕ). n < distance (jobs - drawn) xs) (sym same) less)
 so-far-more jobs drawn s xs k after then ys last end zs (inr (d, (e, (f, below)))) (inl more) =
