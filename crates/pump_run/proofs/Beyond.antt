@@ -5,7 +5,7 @@ use Rattle.std.specs.List.{AllByRecursion}
 use Rattle.std.proofs.lemmas.Bool.Decides.{nat_tests}
 use Rattle.job_ends.specs.Outside.{EndSeen}
 use Rattle.job_ends.specs.Works.{Work, EachEnd, EndHolds, works_of}
-use Rattle.pump_run.proofs.Still.{still-end}
+use Rattle.job_ends.proofs.Unused.{still-end}
 
 -- each work is of a client below n
 abbrev pub OfClients : ℕ → List Work → Type 0

@@ -1,15 +1,16 @@
 -- A run in which no count of an end rose: no count of a job rose.
-use Rattle.std.proofs.Common.{◌≡◌, ℕ, zero, suc, ◌+◌, ◌<◌, ◌≤◌, ◌⊎◌, inl, inr, List, [], ◌∷◌, length, take, Bool, true, false, cond, subst, arith}
+use Rattle.std.proofs.Common.{◌≡◌, ℕ, zero, suc, ◌+◌, ◌<◌, ◌≤◌, ◌⊎◌, inl, inr, List, [], ◌∷◌, length, take, Bool, true, false, cond, subst, arith, refl}
 use Rattle.std.specs.Prelude.{◌==◌}
-use Rattle.std.proofs.lemmas.Bool.Decides.{leb_tells, nat_tests}
+use Rattle.std.proofs.lemmas.Bool.Decides.{leb_tells}
 use Rattle.std.specs.List.{AllByRecursion}
-use Rattle.base_types.specs.Causes.{Rose}
+use Rattle.std.proofs.lemmas.Bool.{eq-eqb}
 use Rattle.tree_model.specs.Trees.{FileTree}
 use Rattle.job_words.specs.declared.job.Job.{Job}
 use Rattle.job_ends.specs.Agree.{AreStill, IsCalm}
 use Rattle.job_ends.specs.Outside.{EndSeen}
 use Rattle.job_ends.specs.Record.{Counts, Known, counts_of}
 use Rattle.job_ends.specs.Works.{Work, EachEnd, EachRecord, EachAgrees, EachCalm, Chain, NotBelow, EachServed, works_of}
+use Rattle.job_ends.proofs.Deeds.{rose-on}
 use Rattle.pump_run.proofs.Beyond.{OfClients}
 
 -- no count of the job's end rose in it
@@ -17,9 +18,6 @@ abbrev pub IsStill : Work → Type 0
 IsStill w = AreStill w.deeds.before w.deeds.after
 
 -- ---- counts that go up or stay ----
-
-rose-between : (from before after now : ℕ) → from ≤ before → after ≤ now → Rose before after → Rose from now
-rose-between from before after now early late rose = omega (arith, early, late, rose)
 
 chain-late : (from now : Counts) (works : List Work) → Chain from works now → NotBelow from now
 chain-late from now [] chain = chain
@@ -39,20 +37,20 @@ still-in-chain from now (w ∷ works) chain still =
     let own = chain.1.0 in
     let late = chain-late w.deeds.after now works chain.1.1 in (
       record {
-        tree = λ rose. still.tree (rose-between from.tree w.deeds.before.tree w.deeds.after.tree now.tree first.tree late.tree rose);
-        wire = λ rose. still.wire (rose-between from.wire w.deeds.before.wire w.deeds.after.wire now.wire first.wire late.wire rose);
-        outs = λ rose. still.outs (rose-between from.outs w.deeds.before.outs w.deeds.after.outs now.outs first.outs late.outs rose);
+        tree = λ rose. still.tree (rose-on from.tree w.deeds.before.tree w.deeds.after.tree now.tree first.tree late.tree rose);
+        wire = λ rose. still.wire (rose-on from.wire w.deeds.before.wire w.deeds.after.wire now.wire first.wire late.wire rose);
+        outs = λ rose. still.outs (rose-on from.outs w.deeds.before.outs w.deeds.after.outs now.outs first.outs late.outs rose);
       },
       still-in-chain w.deeds.after now works chain.1.1 (record {
-        tree = λ rose. still.tree (rose-between from.tree w.deeds.after.tree now.tree now.tree (omega (arith, first.tree, own.tree)) (omega arith) rose);
-        wire = λ rose. still.wire (rose-between from.wire w.deeds.after.wire now.wire now.wire (omega (arith, first.wire, own.wire)) (omega arith) rose);
-        outs = λ rose. still.outs (rose-between from.outs w.deeds.after.outs now.outs now.outs (omega (arith, first.outs, own.outs)) (omega arith) rose);
+        tree = λ rose. still.tree (rose-on from.tree w.deeds.after.tree now.tree now.tree (omega (arith, first.tree, own.tree)) (omega arith) rose);
+        wire = λ rose. still.wire (rose-on from.wire w.deeds.after.wire now.wire now.wire (omega (arith, first.wire, own.wire)) (omega arith) rose);
+        outs = λ rose. still.outs (rose-on from.outs w.deeds.after.outs now.outs now.outs (omega (arith, first.outs, own.outs)) (omega arith) rose);
       }),
     )
 
 -- ---- the works of each client ----
 
-this-or-above : (k client : ℕ) → k ≤ client → (k ≡ client) ⊎ (suc k ≤ client)
+pub this-or-above : (k client : ℕ) → k ≤ client → (k ≡ client) ⊎ (suc k ≤ client)
 this-or-above k client least = elim (leb_tells (suc k) client) [
   | inl above ↦ inr above.1
   | inr below ↦ inl (omega (arith, least, below.1))
@@ -69,11 +67,8 @@ still-client k works (old ∷ before) (now ∷ after) each calm client least bel
   | inr above ↦ still-client (suc k) works before after each.1 calm.1.1.1 client above (omega (arith, below))
 ]
 
-same-client : (n : ℕ) → (n == n) ≡ true
-same-client n = grind (arith, nat_tests)
-
 first-of : (P : Work → Type 0) (w : Work) (works : List Work) → AllByRecursion P (works_of w.done.client (w ∷ works)) → P w
-first-of P w works own = (rw (same-client w.done.client) at own).0
+first-of P w works own = (rw (eq-eqb w.done.client w.done.client refl) at own).0
 
 rest-by : (P : Work → Type 0) (w : Work) (works : List Work) (own : Bool) → AllByRecursion P (cond own (w ∷ works) works) → AllByRecursion P works
 rest-by P w works true all = all.1

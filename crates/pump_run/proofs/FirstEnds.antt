@@ -2,6 +2,7 @@
 use Rattle.std.proofs.Common.{◌≡◌, ◌≤◌, ℕ, zero, suc, arith, List, [], ◌∷◌, ◌++◌, length, map, take, drop, false, Option, refl, sym, ap, ◌∙◌, subst}
 use Rattle.std.specs.List.{All, AllByRecursion}
 use Rattle.std.proofs.lemmas.List.Elements.{recursion_from_All}
+use Rattle.std.proofs.lemmas.List.{take-map, drop-map, length-take-le}
 use Rattle.tree_model.specs.Trees.{FileTree}
 use Rattle.job_words.specs.declared.job.Job.{Job}
 use Rattle.io_edges.specs.declared.wire.Host.{Host}
@@ -16,11 +17,6 @@ use Rattle.pump_run.specs.Run.{EachAnsweredBy}
 use Rattle.pump_run.specs.parts.Steps.{ClientsDid}
 use Rattle.pump_run.proofs.Still.{fresh-answered}
 
-take-mapped : {X Y : Type 0} (f : X → Y) (n : ℕ) (xs : List X) → take n (map f xs) ≡ map f (take n xs)
-take-mapped f zero xs = refl
-take-mapped f (suc n) [] = refl
-take-mapped f (suc n) (x ∷ xs) = ap (λ ys. f x ∷ ys) (take-mapped f n xs)
-
 take-front : {X Y : Type 0} (f : X → Y) (xs ys : List X) → take (length xs) (map f (xs ++ ys)) ≡ map f xs
 take-front f [] ys = refl
 take-front f (x ∷ xs) ys = ap (λ zs. f x ∷ zs) (take-front f xs ys)
@@ -28,11 +24,6 @@ take-front f (x ∷ xs) ys = ap (λ zs. f x ∷ zs) (take-front f xs ys)
 drop-front : {X Y : Type 0} (f : X → Y) (xs ys : List X) → drop (length xs) (map f (xs ++ ys)) ≡ map f ys
 drop-front f [] ys = refl
 drop-front f (x ∷ xs) ys = drop-front f xs ys
-
-drop-mapped : {X Y : Type 0} (f : X → Y) (n : ℕ) (xs : List X) → drop n (map f xs) ≡ map f (drop n xs)
-drop-mapped f zero xs = refl
-drop-mapped f (suc n) [] = refl
-drop-mapped f (suc n) (x ∷ xs) = drop-mapped f n xs
 
 mapped-parts : {X Y : Type 0} (f : X → Y) (n : ℕ) (xs : List X) → map f (take n xs ++ drop n xs) ≡ map f xs
 mapped-parts f zero xs = refl
@@ -66,21 +57,16 @@ module _ {E : Type 0} (seen : E → EndSeen) (n : ℕ) (olds firsts : List E) wh
       → ClientsRan (known named budget) jobs hosts n false (map seen (take n olds)) (map seen firsts) records totals
       → ClientsDid named peer budget n jobs hosts records totals (map seen olds) (map seen now)
   clients-did named peer budget jobs hosts records totals number fresh answered ran = record {
-    ran = subst (λ (before : List EndSeen). ClientsRan (known named budget) jobs hosts n false before (take n (map seen now)) records totals) (sym (take-mapped seen n olds))
+    ran = subst (λ (before : List EndSeen). ClientsRan (known named budget) jobs hosts n false before (take n (map seen now)) records totals) (sym (take-map seen n olds))
         (subst (λ (after : List EndSeen). ClientsRan (known named budget) jobs hosts n false (map seen (take n olds)) after records totals)
         (sym (ap (λ m. take m (map seen now)) (sym number) ∙ take-front seen firsts (drop n olds))) ran);
-    rest = ap (λ m. drop m (map seen now)) (sym number) ∙ drop-front seen firsts (drop n olds) ∙ sym (drop-mapped seen n olds);
+    rest = ap (λ m. drop m (map seen now)) (sym number) ∙ drop-front seen firsts (drop n olds) ∙ sym (drop-map seen n olds);
     answered = answered-parts peer firsts (drop n olds) (recursion_from_All (λ (e : E). EachAnswered peer (seen e).talk) firsts answered) (fresh-answered peer (map seen (drop n olds)) (fresh-behind n olds fresh));
   }
 
   -- where the first ones are seen as before, so are all
   pub all-stayed : map seen firsts ≡ map seen (take n olds) → map seen now ≡ map seen olds
   all-stayed same = mapped-front seen firsts (take n olds) (drop n olds) same ∙ mapped-parts seen n olds
-
-taken-length : {X : Type 0} (n : ℕ) (xs : List X) → n ≤ length xs → length (take n xs) ≡ n
-taken-length zero xs few = refl
-taken-length (suc n) [] few = absurd (omega (arith, few))
-taken-length (suc n) (x ∷ xs) few = ap (λ m. suc m) (taken-length n xs (omega (arith, few)))
 
 -- other ones in front leave as many
 pub as-many : {X : Type 0} (n : ℕ) (xs front : List X) → n ≤ length xs → length front ≡ length (take n xs) → length (front ++ drop n xs) ≡ length xs
@@ -106,10 +92,10 @@ module _ {E : Type 0} (seen : E → EndSeen) (n : ℕ) (olds firsts : List E) (f
       → ClientsDid named peer budget n jobs named_hosts records totals (map seen olds) (map seen (firsts ++ drop n olds))
   did-first named peer budget jobs hosts named_hosts records totals hosts_are fresh answered ran =
       let of_n : ClientsRan (known named budget) jobs hosts n false (map seen (take n olds)) (map seen firsts) records totals =
-      subst (λ (m : ℕ). ClientsRan (known named budget) jobs hosts m false (map seen (take n olds)) (map seen firsts) records totals) (taken-length n olds few) ran in
+      subst (λ (m : ℕ). ClientsRan (known named budget) jobs hosts m false (map seen (take n olds)) (map seen firsts) records totals) (length-take-le n olds few) ran in
       let of_hosts : ClientsRan (known named budget) jobs named_hosts n false (map seen (take n olds)) (map seen firsts) records totals =
       subst (λ (hs : List Host). ClientsRan (known named budget) jobs hs n false (map seen (take n olds)) (map seen firsts) records totals) hosts_are of_n in
-      clients-did seen n olds firsts named peer budget jobs named_hosts records totals (number ∙ taken-length n olds few) fresh answered of_hosts
+      clients-did seen n olds firsts named peer budget jobs named_hosts records totals (number ∙ length-take-le n olds few) fresh answered of_hosts
 
 -- the first of fresh ends are fresh
 pub fresh-first : {E : Type 0} (seen : E → EndSeen) (n : ℕ) (ends : List E) → AllByRecursion IsFresh (map seen ends) → AllByRecursion IsFresh (map seen (take n ends))

@@ -1,22 +1,16 @@
 -- Lines and texts that are put on the report.
-use Rattle.std.proofs.Common.{◌≡◌, ℕ, ◌≤◌, List, [], ◌∷◌, length, Option, None, Some, refl, sym, ap, arith, take, append-nil}
+use Rattle.std.proofs.Common.{◌≡◌, ℕ, ◌≤◌, List, length, Option, refl, arith, take}
+use Rattle.std.proofs.Math.Seq.{take-length}
 use Rattle.base_types.specs.Causes.{Rose}
 use Rattle.base_types.specs.Told.{added}
+use Rattle.job_ends.proofs.Deeds.{added-nil}
 use Rattle.pump_run.specs.Run.{IsPut}
-
-take-all : (xs : List ℕ) → take (length xs) xs ≡ xs
-take-all [] = refl
-take-all (x ∷ xs) = ap (λ l. x ∷ l) (take-all xs)
-
-pub added-nil : {A : Type 0} (told : Option (List A)) → told ≡ added [] told
-added-nil None = refl
-added-nil (Some xs) = ap Some (sym (append-nil xs))
 
 module _ (text : List ℕ) (before now : Option (List ℕ)) (from to : ℕ) where
   -- the whole text was put
   pub put-whole : (status : ℕ) → now ≡ added text before → IsPut text status before now from to
   put-whole status put = record {
-    front = (length text, rw (take-all text) put);
+    front = (length text, rw (take-length text) put);
     whole = λ _ _. put;
     whole_by_status = λ _. put;
   }

@@ -2,8 +2,8 @@
 use Rattle.std.specs.Prelude.{◌≡◌, ◌≤◌, ℕ, List, [], ◌∷◌, Bool, true, false, ◌&&◌, nat_le, nat_lt, bytes_eq, codes, if◌then◌else◌, Option, None, Some}
 use Rattle.std.specs.List.{list_all}
 use Rattle.std.specs.Option.{option_and_then, unwrap_or}
-use Rattle.std.proofs.Common.{refl, ap, subst, arith}
-use Rattle.std.proofs.lemmas.Bool.Decides.{nat_tests}
+use Rattle.std.proofs.Common.{refl, ap, subst}
+use Rattle.std.proofs.lemmas.Bool.{leb-true}
 use Rattle.tree_model.specs.Paths.{Text}
 use Rattle.io_edges.specs.declared.wire.Host.{Host}
 use Rattle.run_words.specs.Asked.{Settings, settings_of, settings_by, settings_with, Given, nothing_given, with_flags, order_in}
@@ -17,14 +17,11 @@ same_clients : (r s : Settings) → Some r ≡ Some s → r.clients ≡ s.client
 unfolding clients_or
 same_clients r s is = ap (clients_or 0) is
 
-within : (n ends : ℕ) → nat_le n ends ≡ true → n ≤ ends
-within n ends is = grind (arith, nat_tests)
-
 few_with : (ends : ℕ) (order : List ℕ) (hosts : List Host) (clients budget : ℕ) (s : Settings) → settings_with ends order hosts clients budget ≡ Some s → s.clients ≤ ends
 few_with ends order hosts clients budget s is = go (nat_le clients ends) (list_all (λ client. nat_lt client clients) order) refl is
   where
     go : (few all : Bool) → nat_le clients ends ≡ few → (if few && all then Some (record { order = order; hosts = hosts; clients = clients; budget = budget }) else None) ≡ Some s → s.clients ≤ ends
-    go true true e is = subst (λ n. n ≤ ends) (same_clients (record { order = order; hosts = hosts; clients = clients; budget = budget }) s is) (within clients ends e)
+    go true true e is = subst (λ n. n ≤ ends) (same_clients (record { order = order; hosts = hosts; clients = clients; budget = budget }) s is) (leb-true clients ends e)
     go true false e is = absurd (cc)
     go false all e is = absurd (cc)
 

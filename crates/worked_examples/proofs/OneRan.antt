@@ -1,5 +1,5 @@
 -- What a run of one job at one end over a named tree says, where its status is 0 or 1.
-use Rattle.std.specs.Prelude.{◌≡◌, ◌⊎◌, ℕ, zero, suc, ◌<◌, ◌≤◌, List, [], ◌∷◌, ◌++◌, length, map, take, false, cond, if◌then◌else◌, Option, Some, IsSome, Ok, Err, Result}
+use Rattle.std.specs.Prelude.{◌≡◌, ◌⊎◌, ℕ, ◌<◌, ◌≤◌, List, [], ◌∷◌, ◌++◌, length, map, false, cond, if◌then◌else◌, Option, Some, IsSome, Ok, Err, Result}
 use Rattle.std.specs.List.{list_any, AllByRecursion}
 use Rattle.std.proofs.Common.{refl, sym, ap, subst, ◌∙◌, inl, inr, arith, append-nil}
 use Rattle.std.proofs.lemmas.List.{length-map}
@@ -18,6 +18,7 @@ use Rattle.job_ends.specs.Works.{Work, EachEnd, EndHolds, EachRecord, EachServed
 use Rattle.compile_list.specs.Listed.{jobs_of}
 use Rattle.pump_run.specs.Report.{Ending, Usage, ListRefused, ListFault, SpawnFault, NoMemory, Ran, report_text, run_text}
 use Rattle.pump_run.specs.Run.{Outside, IsRun, JobsRan, StatusIs, HasEnding, Reports, OutsideRose, ServedByDaemon, IsDaemon, EachTells, ran, given}
+use Rattle.pump_run.proofs.Calm.{first-served}
 use Rattle.client_order.specs.declared.totals.Totals.{Totals}
 use Rattle.worked_examples.proofs.FewClients.{few_clients}
 
@@ -57,12 +58,6 @@ one_after works e [] each = absurd each
 one_after works e (now ∷ []) each = refl
 one_after works e (now ∷ other ∷ more) (holds, rest) = absurd rest
 
--- the first of served ends are served
-pub first_served : (n : ℕ) (ends : List EndSeen) → EachServed ends → EachServed (take n ends)
-first_served zero ends served = tt
-first_served (suc n) [] served = tt
-first_served (suc n) (e ∷ ends) served = (served.0, first_served n ends served.1)
-
 -- ---- the one job ----
 
 module _ (tree : FileTree) (peer : List ℕ → List ℕ → Type 0) (words : List (List ℕ)) (before after : Outside) (status : ℕ) (e now : EndSeen) (bytes : List ℕ) (job : Job)
@@ -89,7 +84,7 @@ module _ (tree : FileTree) (peer : List ℕ → List ℕ → Type 0) (words : Li
       let jobs_are : j.jobs ≡ job ∷ [] = jobs_are_those j.jobs (job ∷ []) bytes (j.listed bytes told) listed in
       let recorded : EachRecord the_known 0 j.jobs works = subst (λ (ws : List Work). EachRecord the_known 0 j.jobs ws) j.works_are j.ran.each in
       let clients : AllByRecursion (λ (w : Work). w.done.client < j.settings.clients) works = subst (λ (ws : List Work). AllByRecursion (λ (w : Work). w.done.client < j.settings.clients) ws) j.works_are j.ran.by_clients in
-      let agreed : EachAgrees tree j.jobs works = subst (λ (ws : List Work). EachAgrees tree j.jobs ws) j.works_are (j.ran.agrees (first_served j.settings.clients after.ends served) tree refl) in
+      let agreed : EachAgrees tree j.jobs works = subst (λ (ws : List Work). EachAgrees tree j.jobs ws) j.works_are (j.ran.agrees (first-served j.settings.clients after.ends served) tree refl) in
       let one = one_work the_known job works (subst (λ (js : List Job). EachRecord the_known 0 js works) jobs_are recorded) in
       let agrees : EachAgrees tree (job ∷ []) works = subst (λ (js : List Job). EachAgrees tree js works) jobs_are agreed in
       let own = subst (λ (ws : List Work). AllByRecursion (λ (w : Work). w.done.client < j.settings.clients) ws) one.1 clients in

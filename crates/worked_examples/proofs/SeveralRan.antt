@@ -1,11 +1,12 @@
 -- What a run of several jobs at several ends over a named tree says where its status is 0.
-use Rattle.std.specs.Prelude.{◌≡◌, ◌⊎◌, ℕ, zero, suc, ◌+◌, ◌<◌, ◌≤◌, ◌==◌, ◌||◌, List, [], ◌∷◌, ◌++◌, length, map, take, Bool, true, false, cond, if◌then◌else◌, Option, None, Some, IsSome, Ok, Err, Result}
-use Rattle.std.specs.List.{list_any, flat_map, AllByRecursion}
+use Rattle.std.specs.Prelude.{◌≡◌, ◌⊎◌, ℕ, suc, ◌+◌, ◌<◌, ◌≤◌, ◌==◌, List, [], ◌∷◌, length, map, Bool, true, false, cond, if◌then◌else◌, Option, Some, IsSome, Ok}
+use Rattle.std.specs.List.{flat_map, AllByRecursion}
 use Rattle.std.proofs.Common.{refl, sym, ap, subst, ◌∙◌, inl, inr, arith}
-use Rattle.std.proofs.lemmas.Bool.Decides.{leb_tells, nat_tests}
+use Rattle.std.proofs.lemmas.Bool.{or_parts, eq-eqb}
 use Rattle.base_types.specs.Members.{Member}
 use Rattle.base_types.specs.Told.{added}
 use Rattle.tree_model.specs.Trees.{FileTree}
+use Rattle.tree_model.proofs.MemberLemmas.{Member-append_left, Member-append_right}
 use Rattle.job_words.specs.declared.job.Job.{Job}
 use Rattle.daemon_cpp.specs.Prep.{outcome_over}
 use Rattle.job_ends.specs.declared.record.JobOutcome.{JobOutcome}
@@ -18,9 +19,10 @@ use Rattle.compile_list.specs.Listed.{jobs_of}
 use Rattle.client_order.specs.declared.totals.Totals.{Totals}
 use Rattle.pump_run.specs.Report.{Ending, Usage, ListRefused, ListFault, SpawnFault, NoMemory, Ran}
 use Rattle.pump_run.specs.Run.{Outside, IsRun, JobsRan, StatusIs, HasEnding, OutsideRose, ServedByDaemon, IsDaemon, EachTells, ran, given, some_outcome}
+use Rattle.pump_run.proofs.Calm.{first-served, this-or-above}
 use Rattle.worked_examples.specs.Several.{IsPutOnOne, EachIsPut}
 use Rattle.worked_examples.proofs.FewClients.{few_clients}
-use Rattle.worked_examples.proofs.OneRan.{first_served, jobs_are_those}
+use Rattle.worked_examples.proofs.OneRan.{jobs_are_those}
 
 abbrev pub Put : Type 0
 Put = List ℕ × List ℕ
@@ -36,10 +38,6 @@ puts_of w = w.deeds.put
 abbrev pub IsText : Work → Type 0
 IsText w = (n : ℕ) × (w.done.outcome ≡ end.Text n)
 
-neither : (a b : Bool) → (a || b) ≡ false → (a ≡ false) × (b ≡ false)
-neither true b is = absurd (cc)
-neither false b is = (refl, is)
-
 a_text : (o : JobOutcome) → is_memory o ≡ false → is_out_fault o ≡ false → is_tree_fault o ≡ false → is_diag o ≡ false → (n : ℕ) × (o ≡ end.Text n)
 a_text (end.Text n) memory out tree diag = (n, refl)
 a_text (end.Diag words) memory out tree diag = absurd (cc)
@@ -50,10 +48,10 @@ a_text end.Memory memory out tree diag = absurd (cc)
 all_texts : (works : List Work) → some_outcome is_memory works ≡ false → some_outcome is_out_fault works ≡ false → some_outcome is_tree_fault works ≡ false → some_outcome is_diag works ≡ false → AllByRecursion IsText works
 all_texts [] memory out tree diag = tt
 all_texts (w ∷ works) memory out tree diag =
-    let m = neither (is_memory w.done.outcome) (some_outcome is_memory works) memory in
-    let o = neither (is_out_fault w.done.outcome) (some_outcome is_out_fault works) out in
-    let t = neither (is_tree_fault w.done.outcome) (some_outcome is_tree_fault works) tree in
-    let d = neither (is_diag w.done.outcome) (some_outcome is_diag works) diag in
+    let m = or_parts (is_memory w.done.outcome) (some_outcome is_memory works) memory in
+    let o = or_parts (is_out_fault w.done.outcome) (some_outcome is_out_fault works) out in
+    let t = or_parts (is_tree_fault w.done.outcome) (some_outcome is_tree_fault works) tree in
+    let d = or_parts (is_diag w.done.outcome) (some_outcome is_diag works) diag in
     (a_text w.done.outcome m.0 o.0 t.0 d.0, all_texts works m.1 o.1 t.1 d.1)
 
 nothing_failed : (R : Type 0) (status : ℕ) (out lost diag : Bool) → status ≡ 0 → cond out (status ≡ 4) (((status ≡ 4) × R) ⊎ (status ≡ (if lost then 6 else if diag then 1 else 0)))
@@ -66,22 +64,10 @@ nothing_failed R status false false false zero_is (inr none) = (refl, (refl, ref
 
 -- ---- what the ends kept ----
 
-in_front : {X : Type 0} (x : X) (xs ys : List X) → Member x xs → Member x (xs ++ ys)
-in_front x [] ys m = absurd m
-in_front x (y ∷ xs) ys (inl is) = inl is
-in_front x (y ∷ xs) ys (inr m) = inr (in_front x xs ys m)
-
-behind : {X : Type 0} (x : X) (xs ys : List X) → Member x ys → Member x (xs ++ ys)
-behind x [] ys m = m
-behind x (y ∷ xs) ys m = inr (behind x xs ys m)
-
 put_among : (x : Put) (w : Work) (works : List Work) → Member w works → Member x (puts_of w) → Member x (flat_map puts_of works)
 put_among x w [] m put = absurd m
-put_among x w (v ∷ works) (inl is) put = in_front x (puts_of v) (flat_map puts_of works) (subst (λ (u : Work). Member x (puts_of u)) (sym is) put)
-put_among x w (v ∷ works) (inr m) put = behind x (puts_of v) (flat_map puts_of works) (put_among x w works m put)
-
-same_client : (n : ℕ) → (n == n) ≡ true
-same_client n = grind (arith, nat_tests)
+put_among x w (v ∷ works) (inl is) put = Member-append_left x (puts_of v) (flat_map puts_of works) (subst (λ (u : Work). Member x (puts_of u)) (sym is) put)
+put_among x w (v ∷ works) (inr m) put = Member-append_right x (puts_of v) (flat_map puts_of works) (put_among x w works m put)
 
 passed_over : (w : Work) (v : Work) (works : List Work) (test : Bool) → Member w works → Member w (cond test (v ∷ works) works)
 passed_over w v works true m = inr m
@@ -91,15 +77,9 @@ passed_over w v works false m = m
 own_work : (w : Work) (works : List Work) → Member w works → Member w (works_of w.done.client works)
 own_work w [] m = absurd m
 own_work w (v ∷ works) (inl is) =
-    let first : Member v (works_of v.done.client (v ∷ works)) = rw (same_client v.done.client) (inl refl) in
+    let first : Member v (works_of v.done.client (v ∷ works)) = rw (eq-eqb v.done.client v.done.client refl) (inl refl) in
     subst (λ (u : Work). Member u (works_of u.done.client (v ∷ works))) is first
 own_work w (v ∷ works) (inr m) = passed_over w v (works_of w.done.client works) (v.done.client == w.done.client) (own_work w works m)
-
-this_or_above : (k client : ℕ) → k ≤ client → (k ≡ client) ⊎ (suc k ≤ client)
-this_or_above k client least = elim (leb_tells (suc k) client) [
-  | inl above ↦ inr above.1
-  | inr below ↦ inl (omega (arith, least, below.1))
-]
 
 abbrev pub KeptNothing : EndSeen → Type 0
 KeptNothing e = e.kept ≡ Some []
@@ -109,7 +89,7 @@ kept_at : (k : ℕ) (works : List Work) (before after : List EndSeen) → EachEn
     → (client : ℕ) → k ≤ client → client < k + length before → Member (Some (flat_map puts_of (works_of client works))) (map kept_of after)
 kept_at k works [] after each nothing client least below = absurd (omega (arith, least, below))
 kept_at k works (old ∷ before) [] each nothing client least below = absurd each
-kept_at k works (old ∷ before) (now ∷ after) each nothing client least below = elim (this_or_above k client least) [
+kept_at k works (old ∷ before) (now ∷ after) each nothing client least below = elim (this-or-above k client least) [
   | inl is ↦ subst (λ (n : ℕ). Member (Some (flat_map puts_of (works_of n works))) (map kept_of (now ∷ after))) is
       (inl (each.0.outs ∙ ap (λ (told : Option (List Put)). added (flat_map puts_of (works_of k works)) told) nothing.0))
   | inr above ↦ inr (kept_at (suc k) works before after each.1 nothing.1 client above (omega (arith, below)))
@@ -150,7 +130,7 @@ module _ (tree : FileTree) (peer : List ℕ → List ℕ → Type 0) (words : Li
       let same : j.jobs ≡ jobs = jobs_are_those j.jobs jobs bytes (j.listed bytes told) listed in
       let recorded : EachRecord the_known 0 j.jobs works = subst (λ (ws : List Work). EachRecord the_known 0 j.jobs ws) j.works_are j.ran.each in
       let clients : AllByRecursion (λ (w : Work). w.done.client < j.settings.clients) works = subst (λ (ws : List Work). AllByRecursion (λ (w : Work). w.done.client < j.settings.clients) ws) j.works_are j.ran.by_clients in
-      let agreed : EachAgrees tree j.jobs works = subst (λ (ws : List Work). EachAgrees tree j.jobs ws) j.works_are (j.ran.agrees (first_served j.settings.clients after.ends served) tree refl) in
+      let agreed : EachAgrees tree j.jobs works = subst (λ (ws : List Work). EachAgrees tree j.jobs ws) j.works_are (j.ran.agrees (first-served j.settings.clients after.ends served) tree refl) in
       let none = nothing_failed (OutsideRose before after) status (some_outcome is_out_fault works) (some_outcome is_tree_fault works) (some_outcome is_diag works) zero_is status_is.1 in
       subst (λ (js : List Job). EachIsPut tree (map kept_of after.ends) js) same
       (all_put tree works j.settings.clients before.ends after.ends (few_clients (length before.ends) words j.settings j.asked) each nothing the_known 0 j.jobs works (λ w m. m) clients

@@ -1,7 +1,7 @@
-use Rattle.std.proofs.Common.{refl, List}
+use Rattle.std.proofs.Common.{refl}
 use Rattle.std.proofs.lemmas.List.Elements.{recursion_from_All}
 use Rattle.tree_model.specs.Trees.{tree_of}
-use Rattle.worked_examples.proofs.Ends.{all-seen}
+use Rattle.job_ends.proofs.Unused.{all-seen}
 use Rattle.worked_examples.proofs.SeveralRan.{texts_put}
 use Rattle.worked_examples.proofs.several_ends.run_at_ends.Goals as goal
 

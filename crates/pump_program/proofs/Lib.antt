@@ -1,3 +1,0 @@
--- Lemmas.
---     Ends     ends that weren't used
-pub mod Ends
