@@ -18,6 +18,10 @@ from measure import Job, Row, Table, answer, measure
 GCC = ["gcc", "-E", "-undef", "-nostdinc", "-w"]
 TCC = ["tcc", "-E", "-nostdinc", "-w"]
 ORDER = ["order", "-", "--hosts", "localhost", "-j", "1"]
+COUNT = ["bench_program", "lex", "count"]
+EXPAND = ["bench_program", "expand"]
+# The words of a program that its row shows.
+SHOWN = ["-E", "-fpreprocessed", "lex", "count", "tree", "search", "words", "share", "memo", "slots", "list", "expand", "text"]
 STARTS = 50
 
 
@@ -47,7 +51,7 @@ class Bench:
         if program is None:
             return absent(input_, name, "not here")
         jobs = [Job([program, *rest, *files]) for files in given or [[]]]
-        shown = [word for word in rest if word in ("-E", "-fpreprocessed", "count", "text")]
+        shown = [word for word in rest if word in SHOWN]
         return Row(input_, " ".join([name, *shown]), jobs, **more)
 
     def rows(self, input_, commands, given, **more):
@@ -72,7 +76,7 @@ class Bench:
         return [sum(map(int, numbers)) for numbers in zip(*lines)] or [0, 0, 0]
 
     def tokens(self, paths):
-        return self.numbers(["lex_program", "count"], paths)[-1]
+        return self.numbers(COUNT, paths)[-1]
 
     def job(self, input_, folder, times=1, words=(), options="", **more):
         """A row of `pump_program` on a folder's a.c, with more words and with compile words. What it says is how the job ended, and
@@ -97,7 +101,7 @@ def plain_text(bench):
         body = bodies.fill(text, size)
         path = bench.write(f"text{size}/a.c", body)
         count, label = bench.tokens([path]), f"text, {len(body) / 1e6:.1f} MB"
-        commands = [GCC, TCC, ["lex_program", "count"], ["expand_program", "text"]]
+        commands = [GCC, TCC, COUNT, [*EXPAND, "text"]]
         rows += bench.rows(label, commands, [[path]], size=len(body), count=count)
         rows.append(bench.job(label, os.path.dirname(path), size=len(body), count=count, beside=rows[-4]))
         bench.goal(f"{label}, to gcc -E", rows[-1], Row.ratio, 0.45, "")
@@ -147,11 +151,11 @@ def lexing(bench):
         # Without the lines that diagnostics are about: to show one, gcc reads the file from its start.
         gcc = ["gcc", "-E", "-fpreprocessed", "-w", "-fno-diagnostics-show-caret"]
         label, counts = f"headers, {len(part) / 1e6:.1f} MB", {"size": len(part), "count": bench.tokens([path])}
-        rows += bench.rows(label, [gcc, ["lex_program", "count"]], [[path]], **counts)
+        rows += bench.rows(label, [gcc, COUNT], [[path]], **counts)
     tenfold = bodies.front(text, 500_000) * 10
     path = bench.write("tenfold.c", tenfold)
     counts = {"size": len(tenfold), "count": bench.tokens([path])}
-    rows.append(bench.row("0.5 MB of them, ten times", ["lex_program", "count"], [[path]], **counts))
+    rows.append(bench.row("0.5 MB of them, ten times", COUNT, [[path]], **counts))
     rows[-1].beside = rows[1]
     bench.goal("headers", rows[-2], per_byte, 10, "ns/byte")
     bench.goal("ten times the bytes, of the time", rows[-1], Row.ratio, 11.5, "")
@@ -172,7 +176,7 @@ def hostile(bench):
     for number, (label, body) in enumerate(bodies.hostile_bodies()):
         path = bench.write(f"hostile{number}.c", body)
         counts = {"size": len(body), "count": bench.tokens([path])}
-        rows.append(bench.row(label, ["lex_program", "count"], [[path]], **counts))
+        rows.append(bench.row(label, COUNT, [[path]], **counts))
     bench.goal("the slowest hostile body", rows[0], lambda _: max(map(per_byte, rows)), 20, "ns/byte")
     return Table("Lexing what is hostile, 16 MiB.", "token", rows)
 
@@ -183,10 +187,10 @@ def real_code(bench):
     for name in sorted(os.listdir(bench.real)) if os.path.isdir(bench.real) else []:
         folder = os.path.join(bench.real, name)
         paths = sorted(os.path.join(folder, file) for file in os.listdir(folder))
-        read, made, units = bench.numbers(["expand_program"], paths)
+        read, made, units = bench.numbers(EXPAND, paths)
         label = f"{name}, {len(paths)} units, {units:,} of work"
         counts = {"size": sum(map(os.path.getsize, paths)), "count": read + made}
-        commands = [GCC, TCC, ["expand_program"], ["expand_program", "text"]]
+        commands = [GCC, TCC, EXPAND, [*EXPAND, "text"]]
         rows += bench.rows(label, commands, [[path] for path in paths], **counts)
         bench.goal(f"{name}, to gcc -E", rows[-1], Row.ratio, 0.30, "")
     if not rows:
@@ -199,11 +203,11 @@ def expansion(bench):
     rows = []
     for label, text in made_texts():
         path = bench.write(f"expansion{len(rows)}.c", text.encode())
-        _, _, units = bench.numbers(["expand_program"], [path])
-        rows += bench.rows(label, [GCC, TCC, ["expand_program"]], [[path]], count=units)
+        _, _, units = bench.numbers(EXPAND, [path])
+        rows += bench.rows(label, [GCC, TCC, EXPAND], [[path]], count=units)
     path = bench.write("doubling.c", bodies.doubling("A21 A20").encode())
-    _, _, units = bench.numbers(["expand_program"], [path])
-    rows.append(bench.row("doubling, nearly the most", ["expand_program"], [[path]], count=units))
+    _, _, units = bench.numbers(EXPAND, [path])
+    rows.append(bench.row("doubling, nearly the most", EXPAND, [[path]], count=units))
     bench.goal("20,000,000 units of work", rows[-1], lambda row: per_one(row) / 50, 10, "s")
     return Table("Macro expansion of made texts. The ratio is to gcc -E.", "unit", rows)
 
@@ -218,7 +222,7 @@ def made_texts():
 def start(bench):
     """Jobs of 7 bytes."""
     path = bench.write("start/a.c", b"int x;\n")
-    commands = [GCC, TCC, ["true"], ["lex_program", "count"]]
+    commands = [GCC, TCC, ["true"], COUNT]
     rows = bench.rows("a file of 7 bytes", commands, [[path]] * STARTS, same=True)
     rows.append(bench.job("a file of 7 bytes", os.path.dirname(path), times=STARTS, beside=rows[0]))
     bench.goal("start", rows[-1], lambda row: row.least() * 1e3, 1, "ms")
@@ -250,9 +254,9 @@ def searches(bench):
     """Searches for a header that only the last of the directories has, and readings of 1,000 words."""
     rows = []
     for directories, times in [(10, 20_000), (100, 2_000), (900, 200)]:
-        words = ["tree_program", "search", str(directories), str(times)]
+        words = ["bench_program", "tree", "search", str(directories), str(times)]
         rows.append(bench.row(f"a search in {directories} directories", words, count=times))
-    rows.append(bench.row("read_words, 1,000 words", ["tree_program", "words", "999", "500"], count=500))
+    rows.append(bench.row("read_words, 1,000 words", ["bench_program", "tree", "words", "999", "500"], count=500))
     bench.goal("a search in 100 directories", rows[1], lambda row: per_one(row) / 1e3, 100, "us")
     bench.goal("read_words, 1,000 words", rows[3], lambda row: per_one(row) / 1e3, 1_000, "us")
     return Table("Searches and words, over a tree in memory.", "time", rows)
@@ -298,7 +302,7 @@ def memos(bench):
     """So many looks and publications in a memo that clients share, whatever the number of its keys."""
     rows = []
     for keys, rounds in [(10, 100_000), (1_000, 1_000), (100_000, 10), (1_000_000, 1)]:
-        words = ["share_program", "memo", str(keys), str(rounds)]
+        words = ["bench_program", "share", "memo", str(keys), str(rounds)]
         rows.append(bench.row(f"{keys:,} keys", words, count=2 * keys * rounds, tells=one_line))
         rows[-1].beside = rows[0]
     return Table("Looks and publications in a memo that clients share. The ratio is to 10 keys.", "call", rows)
@@ -308,7 +312,7 @@ def slots(bench):
     """Slots that one thread and four threads take and give back."""
     rows = []
     for label, threads in [("one thread", 1), ("four threads", 4)]:
-        words = ["share_program", "slots", str(threads), str(2_000_000 // threads)]
+        words = ["bench_program", "share", "slots", str(threads), str(2_000_000 // threads)]
         rows.append(bench.row(label, words, count=4_000_000, tells=one_line))
         rows[-1].beside = rows[0]
     return Table("Takes and gives on three slots. The ratio is to one thread.", "call", rows)
@@ -320,7 +324,7 @@ def lists(bench):
     for label, size in [("10 kB", 10_000), ("1 MB", 1_000_000), ("16 MB", 16_777_216)]:
         body, jobs = bodies.compile_list(size)
         path = bench.write(f"list{size}", body)
-        rows.append(bench.row(label, ["share_program", "list"], [[path]], size=len(body), count=jobs, tells=one_line))
+        rows.append(bench.row(label, ["bench_program", "share", "list"], [[path]], size=len(body), count=jobs, tells=one_line))
     return Table("Lists that are read.", "job", rows)
 
 

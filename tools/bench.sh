@@ -15,7 +15,7 @@ build() {
     done
 }
 
-programs=$(build lex_program expand_program choice_examples tree_program pump_program pumpd share_program tree_examples)
+programs=$(build bench_program choice_examples pump_program pumpd tree_examples)
 counter=out/bench/count_malloc.so
 if ! gcc -O2 -shared -fPIC tools/count_malloc.c -o "$counter" 2> out/bench/count_malloc.log; then
     echo "allocations aren't counted: see out/bench/count_malloc.log" >&2

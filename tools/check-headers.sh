@@ -9,11 +9,11 @@ if ! [ -s $list ]; then
     echo "no headers below /usr/include: nothing to lex"
     exit 0
 fi
-if ! (cd crates/lex_program && rt run -- --version) > out/lex_program.log 2>&1; then
-    cat out/lex_program.log
+if ! (cd crates/bench_program && rt run -- --version) > out/bench_program.log 2>&1; then
+    cat out/bench_program.log
     exit 1
 fi
-tr '\n' '\0' < $list | xargs -0 crates/lex_program/out/lex_program again > out/headers.log 2>&1
+tr '\n' '\0' < $list | xargs -0 crates/bench_program/out/bench_program lex again > out/headers.log 2>&1
 status=$?
 grep -v ' same$' out/headers.log
 echo "$(grep -c ' same$' out/headers.log) of $(wc -l < $list) headers have the same tokens again"

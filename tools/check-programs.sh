@@ -19,13 +19,14 @@ build() {
 }
 
 examples='token_examples expansion_examples choice_examples condition_examples frame_examples job_texts tree_examples run_examples'
-for program in pump_program pumpd lex_program tree_program expand_program share_program $examples; do
+for program in pump_program pumpd bench_program $examples; do
     build $program
 done
 cd "$work" || exit 1
 program() { echo "$top/crates/$1/out/$1"; }
 pump=$(program pump_program)
 daemon=$(program pumpd)
+bench=$(program bench_program)
 odd=$(printf 'a\377b')
 : > empty
 
@@ -100,16 +101,16 @@ try 2 '' "pumpd: $wrong pumpd --help" empty "$daemon"
 try 2 '' "pumpd: $wrong pumpd --help" empty "$daemon" --port 3632
 try 2 '' "pumpd: $wrong pumpd --help" empty "$daemon" "$odd"
 try 3 '' '' . "$daemon" --inetd
-for name in lex_program tree_program expand_program share_program; do
-    try 2 '' 'usage: *' empty "$(program $name)"
-    try 2 '' "$name: $wrong $name --help" empty "$(program $name)" count "$odd"
+for words in '' lex 'lex count' tree 'tree locate' 'tree search 2' share 'share slots 2' 'share list' expand; do
+    try 2 '' 'usage: *' empty "$bench" $words
 done
+try 2 '' "bench_program: $wrong bench_program --help" empty "$bench" lex count "$odd"
 for numbers in '1x 2' '+1 2' '01 2' '-1 2' '4294967296 2'; do
-    try 2 '' 'usage: *' empty "$(program tree_program)" search $numbers
-    try 2 '' 'usage: *' empty "$(program share_program)" memo $numbers
+    try 2 '' 'usage: *' empty "$bench" tree search $numbers
+    try 2 '' 'usage: *' empty "$bench" share memo $numbers
 done
 for threads in 0 65; do
-    try 2 '' 'usage: *' empty "$(program share_program)" slots $threads 1
+    try 2 '' 'usage: *' empty "$bench" share slots $threads 1
 done
 printf 'no such case\n' > odd-case
 printf '1 + \377\n' > odd-text
@@ -118,17 +119,29 @@ for name in $examples; do
     case $name in condition_examples) input=odd-text ;; *) input=odd-case ;; esac
     try 2 '*' "$name: line *" $input "$(program $name)"
 done
-try 0 '2 found' '' empty "$(program tree_program)" search 3 2
-try 0 'taken 4000' '' empty "$(program share_program)" slots 4 1000
+
+# What the parts of the measuring program print; its stored run is of expansion.
+cp "$top"/crates/bench_program/data/* .
+try 0 'comments.c same
+odd.h same' '' empty "$bench" lex again comments.c odd.h
+try 0 '/w/a.c
+-
+/w/d/h
+/w/d/h
+-
+-' '' empty "$bench" tree locate tree
+try 0 '2 found' '' empty "$bench" tree search 3 2
+try 0 'new 3 already 9 full 0 hits 12 misses 0' '' empty "$bench" share memo 3 4
+try 0 'taken 4000' '' empty "$bench" share slots 4 1000
 
 # What is no file, or isn't there.
 mkfifo fifo
 for node in fifo /dev/null src; do
-    try 1 '' "$node: not a file" empty "$(program lex_program)" count $node
-    try 1 '' "$node: not a file" empty "$(program tree_program)" locate $node
-    try 1 '' "$node: not a file" empty "$(program expand_program)" $node
+    try 1 '' "$node: not a file" empty "$bench" lex count $node
+    try 1 '' "$node: not a file" empty "$bench" tree locate $node
+    try 1 '' "$node: not a file" empty "$bench" expand $node
 done
-try 1 '' 'gone.c: No such file or directory*' empty "$(program lex_program)" count gone.c
+try 1 '' 'gone.c: No such file or directory*' empty "$bench" lex count gone.c
 
 # Lists that have no job, and such that are refused.
 list 0 "$none" '' ''
@@ -182,7 +195,7 @@ if [ -c /dev/full ]; then
     printf '%s\n' "$work/src a.c" > list
     full 4 "pump_program: standard output: $space" list "$pump" order - --hosts localhost -j 1
     full 4 '' "$top/crates/pumpd/stdin" "$daemon" --inetd
-    for name in pump_program pumpd lex_program tree_program expand_program share_program $examples; do
+    for name in pump_program pumpd bench_program $examples; do
         full 4 "$name: $space" empty "$(program $name)" --help
     done
 else

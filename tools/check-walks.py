@@ -1,9 +1,9 @@
 #!/usr/bin/env python3
-"""Compares walks with the host's own: check-walks.py TREE_PROGRAM.
+"""Compares walks with the host's own: check-walks.py BENCH_PROGRAM.
 
 Each round makes a tree of directories, files and links below a new folder, and asks for the files that random texts
-reach from its directories, once by opening them and once by `tree_program locate`. The folder's own path is part of the
-tree, so that links from the root and `..` above the folder go the same way.
+reach from its directories, once by opening them and once by `bench_program tree locate`. The folder's own path is part of
+the tree, so that links from the root and `..` above the folder go the same way.
 """
 import os
 import random
@@ -96,7 +96,7 @@ def compare(program, folder, lines, questions):
     with tempfile.NamedTemporaryFile("w", suffix=".tree") as file:
         file.write("\n".join(described) + "\n")
         file.flush()
-        printed = subprocess.run([program, "locate", file.name], stdout=subprocess.PIPE, check=True).stdout
+        printed = subprocess.run([program, "tree", "locate", file.name], stdout=subprocess.PIPE, check=True).stdout
     answers = printed.decode().splitlines()
     assert len(answers) == len(asked), f"{len(asked)} questions, {len(answers)} answers"
     wrong = 0

@@ -1,6 +1,0 @@
-use Rattle.std.proofs.Common.{◌+◌}
-use Rattle.macro_expand.specs.Stream.{at_hand}
-use Rattle.expand_program.proofs.lay_out.Given as goal
-
-abbrev pub decreases-loop-stream : goal.decreases-loop-stream
-decreases-loop-stream l = at_hand l.stream + l.work.left

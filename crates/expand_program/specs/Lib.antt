@@ -1,3 +1,0 @@
--- What the program counts.
---     Counting    the counts of a run of text
-pub mod Counting
