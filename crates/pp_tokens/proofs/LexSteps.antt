@@ -11,11 +11,11 @@ use Rattle.pp_tokens.specs.declared.lexer.Place.{Place}
 use Rattle.pp_tokens.specs.declared.lexer.Gathering.{Gathering}
 use Rattle.pp_tokens.specs.Phases.{Cell, cell, bytes}
 use Rattle.pp_tokens.specs.Lined.{lined, spliced_up_to}
-use Rattle.pp_tokens.specs.Lines.{Part, newline, white, comment, open_comment, token, Element, header_due, words_after, line_of, unended_line, first_part, elements, file_of, or_else, Stands}
+use Rattle.pp_tokens.specs.Lines.{Part, newline, white, comment, open_comment, token, Element, header_due, words_after, line_of, unended_line, first_part, elements, file_of, or_else, Stands, LexedFile}
 use Rattle.pp_tokens.specs.parts.Seen.{seen_lines, seen_file, last_end, Ascends, EachWithin}
 use Rattle.pp_tokens.specs.Grammar.{is_white}
 use Rattle.pp_tokens.specs.parts.Text.{after_word, is_due, opens_header}
-use Rattle.pp_tokens.specs.parts.Gathered.{newlines, joined, present_tokens, file_with, before_with, IsGathered, IsPart, GathersNothing, EndsLine, EndsLastLine, AddsToken, AddsGap, Gathers}
+use Rattle.pp_tokens.specs.parts.Gathered.{newlines, joined, present_tokens, file_with, lines_with, present_with, before_with, IsGathered, IsPart, GathersNothing, EndsLine, EndsLastLine, AddsToken, AddsGap, Gathers}
 use Rattle.pp_tokens.proofs.Reading.{cut_off, next_element, drop_one_more, first_stands, some_length}
 use Rattle.pp_tokens.proofs.LinedRests.{lined_bytes, lined_past, cut_bytes, cut_line}
 use Rattle.pp_tokens.proofs.TextLemmas.{white_byte, white_first, no_delimiter}
@@ -49,7 +49,7 @@ first_is_part due (b ∷ bs) p n some found =
     by_stand due part t after (inr (none, is, longest)) = inl is
 
 -- the first element of what is left, and the elements behind it
-part_first : (words : List (List ℕ)) (due : Bool) (splices : List ℕ) (at line n : ℕ) (p : Part) (xs : List ℕ) → 0 < length xs → header_due words ≡ due
+pub part_first : (words : List (List ℕ)) (due : Bool) (splices : List ℕ) (at line n : ℕ) (p : Part) (xs : List ℕ) → 0 < length xs → header_due words ≡ due
     → first_part due xs ≡ (p, n) → 0 < n
     → elements zero words (lined splices at line xs)
     ≡ cut_off (p, n) (lined splices at line xs) ∷ elements zero (words_after words (cut_off (p, n) (lined splices at line xs))) (drop n (lined splices at line xs))
@@ -79,6 +79,8 @@ line_gathered text spelling line old new g e =
       gathered = record { ascends = rw (e.places, e.ends) (ascends_line 0 ends (length places) g.ascends); within = rw e.places g.within };
       few = rw e.places (omega arith);
       before = e.before;
+      lines = rw (e.places, e.ends) (line_more text places 0 ends g.ascends);
+      present = rw (e.places, e.ends) (rw (last_of_more 0 ends (length places), all_dropped places) refl);
       file = λ cells es same is.
           (let none : drop (last_end 0 ended) places ≡ [] = rw (last_of_more 0 ends (length places)) (all_dropped places) in
           rw (e.places, e.ends, e.unended, e.begun, e.space, line_more text places 0 ends g.ascends, none)
@@ -102,6 +104,9 @@ token_gathered text place old new g fits spaced e =
       };
       few = rw e.places (omega (arith, length-append places (place ∷ [])));
       before = e.before;
+      lines = rw (e.places, e.ends) (same_lines text places place 0 ends g.ascends);
+      present = rw (e.places, e.ends) (token_more text places place (last_end 0 ends) last.1)
+          ∙ ap (λ (t : Bool). present_tokens text old ++ (record { kind = place.kind; text = take place.length (drop place.start text); line = place.line; space = t } ∷ [])) spaced;
       file = λ cells es same is.
           rw (e.places, e.ends, e.unended, e.begun, e.space, same_lines text places place 0 ends g.ascends, token_more text places place (last_end 0 ends) last.1)
           (λ i. record {
@@ -146,12 +151,28 @@ gap_before white unended line before spelling gap = refl
 gap_before comment unended line before spelling gap = refl
 gap_before open_comment unended line before spelling gap = refl
 
+gap_lines : (part : Part) (unended : Option ℕ) (line : ℕ) (ls : List (List Token)) (ts : List Token) → IsGap part unended line → ls ≡ lines_with part ls ts
+gap_lines newline unended line ls ts gap = absurd gap
+gap_lines (token k) unended line ls ts gap = absurd gap
+gap_lines white unended line ls ts gap = refl
+gap_lines comment unended line ls ts gap = refl
+gap_lines open_comment unended line ls ts gap = refl
+
+gap_present : (part : Part) (unended : Option ℕ) (line : ℕ) (ts : List Token) (spelling : List ℕ) (space : Bool) → IsGap part unended line → ts ≡ present_with part ts spelling line space
+gap_present newline unended line ts spelling space gap = absurd gap
+gap_present (token k) unended line ts spelling space gap = absurd gap
+gap_present white unended line ts spelling space gap = refl
+gap_present comment unended line ts spelling space gap = refl
+gap_present open_comment unended line ts spelling space gap = refl
+
 gap_gathered : (text spelling : List ℕ) (part : Part) (unended : Option ℕ) (line : ℕ) (old new : Gathering) → IsGap part unended line → IsGathered text old → AddsGap old new unended
     → Gathers text old new part spelling line
 gap_gathered text spelling part unended line old new gap g e = record {
   gathered = record { ascends = rw (e.places, e.ends) g.ascends; within = rw e.places g.within };
   few = rw e.places (omega arith);
   before = e.before ∙ gap_before part unended line old.before spelling gap;
+  lines = rw (e.places, e.ends) (gap_lines part unended line (seen_lines text old.places.items 0 old.ends.items) (present_tokens text old) gap);
+  present = rw (e.places, e.ends) (gap_present part unended line (present_tokens text old) spelling old.space gap);
   file = λ cells es same is. gap_file text part unended line old new gap e cells es is;
 }
 
@@ -166,25 +187,26 @@ open_gathered text spelling line old new g e = gap_gathered text spelling open_c
 
 -- THE WHOLE TEXT
 
--- at a place, where base is its line without the splices: what is gathered with what is left is the file
-pub record LexState (text splices : List ℕ) (g : Gathering) (at base : ℕ) : Type 0 where
+-- at a place, where base is its line without the splices: what is gathered with what is left is the file, as far as is looked
+-- at it
+pub record LexState (view : LexedFile → LexedFile) (text splices : List ℕ) (g : Gathering) (at base : ℕ) : Type 0 where
   pub words : List (List ℕ)
   pub seen : after_words Nothing words ≡ g.before
-  pub file : file_of (elements zero [] (lined splices 0 1 text)) ≡ file_with text g (elements zero words (lined splices at base (drop at text)))
+  pub file : view (file_of (elements zero [] (lined splices 0 1 text))) ≡ view (file_with text g (elements zero words (lined splices at base (drop at text))))
 
 pub nothing_gathered : (text : List ℕ) (g : Gathering) → GathersNothing g → IsGathered text g
 unfolding Ascends EachWithin
 nothing_gathered text g n = record { ascends = rw (n.places, n.ends) (omega arith); within = rw n.places tt }
 
-pub lex_start : (text splices : List ℕ) (g : Gathering) → GathersNothing g → LexState text splices g 0 1
+pub lex_start : (view : LexedFile → LexedFile) (text splices : List ℕ) (g : Gathering) → GathersNothing g → LexState view text splices g 0 1
 unfolding after_words file_of seen_lines last_end
-lex_start text splices g n =
+lex_start view text splices g n =
     let es = elements zero [] (lined splices 0 1 text) in
     record {
       words = [];
       seen = sym n.before;
       file = rw (n.places, n.ends, n.unended, n.begun, n.space)
-          (ap (λ (ls : List (List Token)). record { lines = ls; unended = unended_line es }) (lines_joined es));
+          (ap (λ (ls : List (List Token)). view (record { lines = ls; unended = unended_line es })) (lines_joined es));
     }
 
 -- the words behind one part more, and what stands on the line
@@ -211,11 +233,11 @@ before_is comment words spelling before h = h
 before_is open_comment words spelling before h = h
 before_is (token k) words spelling before h = one_word_more Nothing words spelling ∙ ap (λ b. after_word b spelling) h
 
-pub lex_step : (text splices : List ℕ) (old new : Gathering) (at base n : ℕ) (part : Part) → LexState text splices old at base → at < length text
+pub lex_step : (view : LexedFile → LexedFile) (text splices : List ℕ) (old new : Gathering) (at base n : ℕ) (part : Part) → LexState view text splices old at base → at < length text
     → ◌≡◌ {A = Part × ℕ} (part, n) (first_part (is_due old.before) (drop at text))
     → Gathers text old new part (take n (drop at text)) (base + spliced_up_to splices at)
-    → LexState text splices new (at + n) (base + newlines (take n (drop at text)))
-lex_step text splices old new at base n part state below is step =
+    → LexState view text splices new (at + n) (base + newlines (take n (drop at text)))
+lex_step view text splices old new at base n part state below is step =
     let xs = drop at text in
     let some : 0 < length xs = omega (arith, length-drop at text) in
     let moves : 0 < n = (first_within (is_due old.before) xs part n some is).0 in
@@ -231,9 +253,9 @@ lex_step text splices old new at base n part state below is step =
     record {
       words = words_with part state.words (take n xs);
       seen = before_is part state.words (take n xs) old.before state.seen ∙ sym step.before;
-      file = state.file ∙ ap (file_with text old) first
-          ∙ sym (step.file cells (elements zero (words_after state.words (element part cells)) (drop n all)) spelling (cut_line n splices at base xs moves some))
-          ∙ (λ i. file_with text new (elements zero (words i) (behind i)));
+      file = state.file ∙ ap (λ es. view (file_with text old es)) first
+          ∙ ap view (sym (step.file cells (elements zero (words_after state.words (element part cells)) (drop n all)) spelling (cut_line n splices at base xs moves some)))
+          ∙ (λ i. view (file_with text new (elements zero (words i) (behind i))));
     }
 
 -- at the end the file is what was gathered
@@ -241,11 +263,11 @@ or_none : (o : Option ℕ) → or_else o None ≡ o
 or_none None = refl
 or_none (Some x) = refl
 
-pub lex_end : (text splices : List ℕ) (old new : Gathering) (at base : ℕ) → length text ≤ at → IsGathered text old → LexState text splices old at base → EndsLastLine old new
-    → (seen_file text new.places.items new.ends.items new.unended ≡ file_of (elements zero [] (lined splices 0 1 text))) × IsGathered text new
+pub lex_end : (view : LexedFile → LexedFile) (text splices : List ℕ) (old new : Gathering) (at base : ℕ) → length text ≤ at → IsGathered text old → LexState view text splices old at base → EndsLastLine old new
+    → (view (seen_file text new.places.items new.ends.items new.unended) ≡ view (file_of (elements zero [] (lined splices 0 1 text)))) × IsGathered text new
 unfolding joined unended_line elements lined
-lex_end text splices old new at base past g state e =
-    (sym (state.file ∙ gathered ∙ sym seen), record { ascends = rw (e.places, e.ends) (ascends old.begun); within = rw e.places g.within })
+lex_end view text splices old new at base past g state e =
+    (sym (state.file ∙ ap view (gathered ∙ sym seen)), record { ascends = rw (e.places, e.ends) (ascends old.begun); within = rw e.places g.within })
   where
     places : List Place
     places = old.places.items
@@ -289,16 +311,16 @@ white_is text at due below blank =
     by_due false alone = alone
     by_due true alone = no_delimiter text at below (no_opening (get_or text at 0) blank) ∙ alone
 
-one_white : (text splices : List ℕ) (old new : Gathering) (at base : ℕ) → IsGathered text old → LexState text splices old at base → at < length text
-    → is_white (get_or text at 0) ≡ true → AddsGap old new None → LexState text splices new (at + 1) base
-one_white text splices old new at base g state below blank e =
+one_white : (view : LexedFile → LexedFile) (text splices : List ℕ) (old new : Gathering) (at base : ℕ) → IsGathered text old → LexState view text splices old at base → at < length text
+    → is_white (get_or text at 0) ≡ true → AddsGap old new None → LexState view text splices new (at + 1) base
+one_white view text splices old new at base g state below blank e =
     let xs = drop at text in
     let is : ◌≡◌ {A = Part × ℕ} (white, 1) (first_part (is_due old.before) xs) = sym (white_is text at (is_due old.before) below blank) in
     let some : 0 < length xs = omega (arith, length-drop at text) in
     let none : newlines (take 1 xs) ≡ 0 = short_newlines white (take 1 xs) refl (first_is_part (is_due old.before) xs white 1 some is) in
     let same : base + newlines (take 1 xs) ≡ base = omega (arith, none) in
     let step = white_gathered text (take 1 xs) (base + spliced_up_to splices at) old new g e in
-    subst (LexState text splices new (at + 1)) same (lex_step text splices old new at base 1 white state below is step)
+    subst (LexState view text splices new (at + 1)) same (lex_step view text splices old new at base 1 white state below is step)
 
 -- each byte from a place on, up to so many, is white space
 abbrev pub AreWhite : List ℕ → ℕ → ℕ → Type 0
@@ -331,30 +353,30 @@ later_white text at n blank k less =
     let here = blank (suc k) (omega (arith, less)) in
     (omega (arith, here.0), ap (λ i. is_white (get_or text i 0)) (sym next) ∙ here.1)
 
-first_white : (text splices : List ℕ) (old new : Gathering) (at base n : ℕ) → IsGathered text old → LexState text splices old at base → AddsGap old new None → AreWhite text at (suc n)
-    → LexState text splices new (at + 1) base
-first_white text splices old new at base n g state e blank =
+first_white : (view : LexedFile → LexedFile) (text splices : List ℕ) (old new : Gathering) (at base n : ℕ) → IsGathered text old → LexState view text splices old at base → AddsGap old new None → AreWhite text at (suc n)
+    → LexState view text splices new (at + 1) base
+first_white view text splices old new at base n g state e blank =
     let here = blank 0 (omega arith) in
     let still : at + 0 ≡ at = omega arith in
-    one_white text splices old new at base g state (omega (arith, here.0)) (ap (λ i. is_white (get_or text i 0)) (sym still) ∙ here.1) e
+    one_white view text splices old new at base g state (omega (arith, here.0)) (ap (λ i. is_white (get_or text i 0)) (sym still) ∙ here.1) e
 
 -- more white space behind a gap adds nothing
-more_white : (text splices : List ℕ) (g : Gathering) (at base n : ℕ) → IsGathered text g → LexState text splices g at base → AddsGap g g None → AreWhite text at n → LexState text splices g (at + n) base
-more_white text splices g at base zero is state e blank = (let same : at ≡ at + 0 = omega arith in subst (λ i. LexState text splices g i base) same state)
-more_white text splices g at base (suc n) is state e blank =
+more_white : (view : LexedFile → LexedFile) (text splices : List ℕ) (g : Gathering) (at base n : ℕ) → IsGathered text g → LexState view text splices g at base → AddsGap g g None → AreWhite text at n → LexState view text splices g (at + n) base
+more_white view text splices g at base zero is state e blank = (let same : at ≡ at + 0 = omega arith in subst (λ i. LexState view text splices g i base) same state)
+more_white view text splices g at base (suc n) is state e blank =
     let same : at + 1 + n ≡ at + suc n = omega arith in
-    subst (λ i. LexState text splices g i base) same
-    (more_white text splices g (at + 1) base n is (first_white text splices g g at base n is state e blank) e (later_white text at n blank))
+    subst (λ i. LexState view text splices g i base) same
+    (more_white view text splices g (at + 1) base n is (first_white view text splices g g at base n is state e blank) e (later_white text at n blank))
 
 -- a run of white space is one gap
-pub white_run : (text splices : List ℕ) (old new : Gathering) (at base n : ℕ) → IsGathered text old → LexState text splices old at base → AddsGap old new None → 0 < n → AreWhite text at n
-    → (LexState text splices new (at + n) base) × IsGathered text new
-white_run text splices old new at base zero g state e some blank = absurd (omega (arith, some))
-white_run text splices old new at base (suc n) g state e some blank =
+pub white_run : (view : LexedFile → LexedFile) (text splices : List ℕ) (old new : Gathering) (at base n : ℕ) → IsGathered text old → LexState view text splices old at base → AddsGap old new None → 0 < n → AreWhite text at n
+    → (LexState view text splices new (at + n) base) × IsGathered text new
+white_run view text splices old new at base zero g state e some blank = absurd (omega (arith, some))
+white_run view text splices old new at base (suc n) g state e some blank =
     let same : at + 1 + n ≡ at + suc n = omega arith in
     let gathered = (gap_gathered text [] white None 0 old new refl g e).gathered in (
-      subst (λ i. LexState text splices new i base) same
-          (more_white text splices new (at + 1) base n gathered (first_white text splices old new at base n g state e blank) again (later_white text at n blank)),
+      subst (λ i. LexState view text splices new i base) same
+          (more_white view text splices new (at + 1) base n gathered (first_white view text splices old new at base n g state e blank) again (later_white text at n blank)),
       gathered,
     )
   where

@@ -33,4 +33,7 @@ mod FrontPieces
 mod SourceSteps
 mod NewlineLengths
 mod Runs
+mod OrdinaryParts
+mod TextLeft
+mod DirectiveSteps
 mod WholeTokens

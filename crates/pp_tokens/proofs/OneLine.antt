@@ -21,7 +21,7 @@ one_more b bs e h = rw e h
 passes_first : (p : ℕ → Bool) (b : ℕ) (bs : List ℕ) → p 10 ≡ false → p b ≡ true → no_newline bs ≡ true → no_newline (b ∷ bs) ≡ true
 passes_first p b bs fails passes h = one_more b bs (apart p b 10 passes fails) h
 
-all_pass : (p : ℕ → Bool) (bs : List ℕ) → p 10 ≡ false → list_all p bs ≡ true → no_newline bs ≡ true
+pub all_pass : (p : ℕ → Bool) (bs : List ℕ) → p 10 ≡ false → list_all p bs ≡ true → no_newline bs ≡ true
 all_pass p [] fails h = refl
 all_pass p (b ∷ bs) fails h = passes_first p b bs fails (both_hold (p b) (list_all p bs) h).0 (all_pass p bs fails (both_hold (p b) (list_all p bs) h).1)
 
@@ -189,7 +189,7 @@ part_line t p short h =
 
 -- HOW MANY NEWLINES
 
-none_counted : (t : List ℕ) → no_newline t ≡ true → newlines t ≡ 0
+pub none_counted : (t : List ℕ) → no_newline t ≡ true → newlines t ≡ 0
 none_counted [] h = refl
 none_counted (b ∷ bs) h =
     let both = both_hold (not (b == 10)) (no_newline bs) h in

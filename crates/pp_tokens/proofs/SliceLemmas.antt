@@ -199,7 +199,7 @@ none_behind t after None slash star found is =
     no_bytes after (omega (arith, length-append t after, same))
 
 -- a comment that never ends, rightly read, with what is behind it
-comment_at : (due : Bool) (t after : List ℕ) → t ≢ [] → Stands due open_comment t after → (is_open_comment t ≡ true) × (after ≡ [])
+pub comment_at : (due : Bool) (t after : List ℕ) → t ≢ [] → Stands due open_comment t after → (is_open_comment t ≡ true) × (after ≡ [])
 comment_at due t after some (inl (d, is, header)) = absurd (let e : open_comment ≡ token Header = is in cc)
 comment_at due t after some (inr (d, is, longest)) =
     let never = open_is t is in

@@ -3,6 +3,7 @@
 --     Phases      translation phases 1 and 2: the characters of a file, each with its physical line
 --     Lined       a text as the lexer has it after phases 1 and 2, with the places of its splices
 --     Lines       translation phase 3: the logical lines of tokens
+--     DirectiveLines  the directives of a file alone
 --     Slices      where the tokens of a file stand in its text
 --     Tokens      owned and borrowed tokens
 --     Marks       the tests of tokens that directives and macros are read by
@@ -12,6 +13,7 @@ pub mod Grammar
 pub mod Phases
 pub mod Lined
 pub mod Lines
+pub mod DirectiveLines
 pub mod Slices
 pub mod Tokens
 pub mod Marks

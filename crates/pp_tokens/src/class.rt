@@ -2,6 +2,7 @@
 ghost use Rattle.std.specs.Prelude.{◌≡◌};
 ghost use Rattle.pp_tokens.specs.Grammar.{is_digit, is_identifier_byte, is_identifier_start, is_white};
 ghost use Rattle.pp_tokens.specs.parts.Text.{is_second, is_single};
+ghost use Rattle.pp_tokens.specs.parts.TextLines.{is_ordinary};
 
 // The flags of a class.
 const START: u8 = 1;
@@ -14,16 +15,18 @@ const SECOND: u8 = 8;
 
 const SINGLE: u8 = 16;
 
+const ORDINARY: u8 = 32;
+
 // For each byte `@` and the flags above.
 static CLASS: [u8; 256] = *b"\
-    @@@@@@@@@D@DDD@@@@@@@@@@@@@@@@@@\
-    DP@XCXX@PPPXPXXPBBBBBBBBBBXPXXXP\
-    @CCCCCCCCCCCCCCCCCCCCCCCCCCP@PPC\
-    @CCCCCCCCCCCCCCCCCCCCCCCCCCPXPP@\
-    CCCCCCCCCCCCCCCCCCCCCCCCCCCCCCCC\
-    CCCCCCCCCCCCCCCCCCCCCCCCCCCCCCCC\
-    CCCCCCCCCCCCCCCCCCCCCCCCCCCCCCCC\
-    CCCCCCCCCCCCCCCCCCCCCCCCCCCCCCCC";
+    `````````d@ddd``````````````````\
+    dp@xcxx@pppxpxxPbbbbbbbbbbxpxxxp\
+    `ccccccccccccccccccccccccccp`ppc\
+    `ccccccccccccccccccccccccccpxpp`\
+    cccccccccccccccccccccccccccccccc\
+    cccccccccccccccccccccccccccccccc\
+    cccccccccccccccccccccccccccccccc\
+    cccccccccccccccccccccccccccccccc";
 
 /// Whether a byte begins an identifier.
 pub fn is_identifier_start(b: u8) -> bool
@@ -58,6 +61,13 @@ pub fn is_single(b: u8) -> bool
     ensures { result ≡ is_single b }
 {
     CLASS[b as usize] & SINGLE != 0
+}
+
+/// Whether a byte neither ends a line nor begins or ends a comment or a literal.
+pub fn is_ordinary(b: u8) -> bool
+    ensures { result ≡ is_ordinary b }
+{
+    CLASS[b as usize] & ORDINARY != 0
 }
 
 pub fn is_digit(b: u8) -> bool

@@ -8,10 +8,11 @@
 ghost use Rattle.std.specs.Prelude.{◌≡◌, ◌≤◌, ◌+◌, ◌∷◌, [], None, zero, length, take, drop, get_or, IfOk, slice_get, option_map, option_and_then, take_while};
 ghost use Rattle.std.specs.List.{flat_map};
 ghost use Rattle.std.specs.Option.{option_map_or};
-ghost use Rattle.pp_tokens.specs.parts.Gathered.{newlines, GathersNothing, EndsLine, AddsToken, AddsGap, EndsLastLine, IsGathered, IsPart, Gathers};
+ghost use Rattle.pp_tokens.specs.parts.Gathered.{newlines, GathersNothing, EndsLine, AddsToken, AddsGap, EndsLastLine, EndsTextLine, IsGathered, IsPart, Gathers};
 ghost use Rattle.pp_tokens.specs.Grammar.{is_white};
 ghost use Rattle.pp_tokens.specs.Lined.{lined, spliced_up_to, Rising};
 ghost use Rattle.pp_tokens.specs.Lines.{all_tokens, elements, file_of, lexed};
+ghost use Rattle.pp_tokens.specs.DirectiveLines.{directives_alone};
 ghost use Rattle.pp_tokens.specs.parts.Seen.{seen_file, token_at};
 ghost use Rattle.pp_tokens.specs.parts.Text.{part_told};
 ghost use Rattle.pp_tokens.specs.Tokens.{token_seen};
@@ -19,6 +20,7 @@ ghost use Rattle.pp_tokens.specs.Tokens.{token_seen};
 use crate::due::{Before, after_word, is_due};
 use crate::part::{What, next_part, white_length};
 use crate::source::{SourceText, read_source};
+use crate::text_line::{begins_text, line_end};
 use crate::token::{Kind, TokenRef};
 use crate::unpaired::Unpaired;
 use memchr::memchr_iter;
@@ -57,8 +59,8 @@ impl Model for Lexed {
     ghost invariant = { λ l. Ascends 0 l.ends.items (length l.places.items) × EachWithin l.text.items l.places.items };
 }
 
-// `size` bytes of a text, from a place on.
-fn stretch(text: &[u8], at: usize, size: usize) -> &[u8]
+/// `size` bytes of a text, from a place on.
+pub fn stretch(text: &[u8], at: usize, size: usize) -> &[u8]
     requires { at + size ≤ length text.now }
     ensures { result.now ≡ take size (drop at text.now) }
 {
@@ -165,6 +167,15 @@ impl Gathering {
         }
     }
 
+    // A line of text is finished, with the line of a comment on it that never ends.
+    fn end_text(&mut self, comment: Option<u32>) -> Result<(), AllocError>
+        requires { length self.old.places.items ≤ 16777217 }
+        ensures { IfOk result (λ u. EndsTextLine self.old self.new comment) }
+    {
+        self.add_gap(comment);
+        self.end_line()
+    }
+
     // The last line needs no newline.
     fn end_last_line(&mut self) -> Result<(), AllocError>
         requires { length self.old.places.items ≤ 16777217 }
@@ -174,8 +185,8 @@ impl Gathering {
     }
 }
 
-// How many splices stand at a place or before it, where at least `passed` are known to.
-fn splices_passed(splices: &[u32], passed: usize, at: usize) -> usize
+/// How many splices stand at a place or before it, where at least `passed` are known to.
+pub fn splices_passed(splices: &[u32], passed: usize, at: usize) -> usize
     requires rising { Rising 0 splices.now }
     requires passed { passed ≤ spliced_up_to splices.now at }
     ensures { result ≡ spliced_up_to splices.now at }
@@ -197,8 +208,8 @@ fn white_at(text: &[u8], at: usize) -> usize
     white_length(rest)
 }
 
-// How many newlines a part has: a newline is one, and of the others only a comment may have any.
-fn newlines(what: What, part: &[u8]) -> usize
+/// How many newlines a part has: a newline is one, and of the others only a comment may have any.
+pub fn newlines(what: What, part: &[u8]) -> usize
     requires part { IsPart (part_told what) part.now }
     ensures { result ≡ newlines part.now }
 {
@@ -252,6 +263,65 @@ pub fn lex(alloc: Global, body: &[u8], trigraphs: bool) -> Result<Lexed, AllocEr
         unended,
         ..
     } = gather(alloc, &text, &splices)?;
+    Ok(Lexed {
+        text,
+        places,
+        ends,
+        unended,
+    })
+}
+
+// What is gathered of a whole text's directives alone.
+fn gather_directives(alloc: Global, text: &[u8], splices: &[u32]) -> Result<Gathering, AllocError>
+    requires small { length text.now + length splices.now ≤ 16777217 }
+    requires rising { Rising 0 splices.now }
+    ensures file { IfOk result (λ g. seen_file text.now g.places.items g.ends.items g.unended ≡ directives_alone (file_of (elements zero [] (lined splices.now 0 1 text.now)))) }
+    ensures gathered { IfOk result (λ g. IsGathered text.now g) }
+{
+    let mut gathering = Gathering::with_room(alloc, text.len() / 8)?;
+    let mut unpaired = Unpaired::new();
+    // As in `gather`.
+    let mut base = 1usize;
+    let mut passed = 0usize;
+    let mut at = 0usize;
+    while at < text.len() {
+        let blank = white_at(text, at);
+        if blank > 0 {
+            gathering.add_gap(None);
+            at += blank;
+        } else {
+            passed = splices_passed(splices, passed, at);
+            let (what, size) = next_part(text, at, is_due(gathering.before), &mut unpaired);
+            let word = stretch(text, at, size);
+            if begins_text(gathering.before, what, word) {
+                let end = line_end(text, splices, at + size, base, passed, &mut unpaired);
+                gathering.end_text(end.comment)?;
+                base = end.base;
+                at = end.at;
+            } else {
+                gathering.add(text, what, at, size, (base + passed) as u32)?;
+                base += newlines(what, word);
+                at += size;
+            }
+        }
+    }
+    gathering.end_last_line()?;
+    Ok(gathering)
+}
+
+/// The directives of a file's body, of at most 16 MiB: its logical lines as `lex` gives them, but those that begin with no `#`
+/// are empty (ISO C 6.10 paragraph 2). Time is linear in the body, and less than `lex` takes; the only error is want of memory.
+pub fn lex_directives(alloc: Global, body: &[u8], trigraphs: bool) -> Result<Lexed, AllocError>
+    requires small { length body.now ≤ 16777216 }
+    ensures { IfOk result (λ l. l ≡ directives_alone (lexed trigraphs body.now)) }
+{
+    let SourceText { text, splices } = read_source(alloc, body, trigraphs)?;
+    let Gathering {
+        places,
+        ends,
+        unended,
+        ..
+    } = gather_directives(alloc, &text, &splices)?;
     Ok(Lexed {
         text,
         places,

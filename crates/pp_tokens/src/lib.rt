@@ -12,6 +12,7 @@ mod plain;
 mod quoted;
 mod single;
 mod source;
+mod text_line;
 mod token;
 mod token_cow;
 mod tokens;
@@ -19,7 +20,7 @@ mod unpaired;
 
 pub use base_types::{Bytes, List};
 pub use law::{one_reading, tokens_are_slices};
-pub use lexer::{Lexed, lex};
+pub use lexer::{Lexed, lex, lex_directives};
 pub use plain::{is_plain, is_simple_name};
 pub use single::single_token;
 pub use token::{Kind, Token, TokenRef};

@@ -81,6 +81,15 @@ pub record EndsLastLine (old new : Gathering) : Type 0 where
   pub ends : new.ends.items ≡ cond old.begun (old.ends.items ++ (length old.places.items ∷ [])) old.ends.items
   pub unended : new.unended ≡ old.unended
 
+-- the present line is finished, and where it has a comment that never ends, that is its line
+pub record EndsTextLine (old new : Gathering) (comment : Option ℕ) : Type 0 where
+  pub places : new.places.items ≡ old.places.items
+  pub ends : new.ends.items ≡ old.ends.items ++ (length old.places.items ∷ [])
+  pub first : new.unended ≡ or_else old.unended comment
+  pub before : new.before ≡ Nothing
+  pub begun : new.begun ≡ false
+  pub space : new.space ≡ true
+
 -- the present line has a token more, of this spelling
 pub record AddsToken (old new : Gathering) (place : Place) (spelling : List ℕ) : Type 0 where
   pub places : new.places.items ≡ old.places.items ++ (place ∷ [])
@@ -107,10 +116,21 @@ before_with comment before spelling = before
 before_with open_comment before spelling = before
 before_with (token k) before spelling = after_word before spelling
 
+-- the finished lines behind one part more, where ts are the tokens of the present one
+abbrev pub lines_with : Part → List (List Token) → List Token → List (List Token)
+lines_with part ls ts = elim part [ newline ↦ ls ++ (ts ∷ []) | _ ↦ ls ]
+
+-- the tokens of the present line behind one part more
+abbrev pub present_with : Part → List Token → List ℕ → ℕ → Bool → List Token
+present_with part ts spelling line space =
+    elim part [ newline ↦ [] | token k ↦ ts ++ (record { kind = k; text = spelling; line = line; space = space } ∷ []) | _ ↦ ts ]
+
 -- one part more is gathered: whatever is left, it is the same file
 pub record Gathers (text : List ℕ) (old new : Gathering) (part : Part) (spelling : List ℕ) (line : ℕ) : Type 0 where
   pub gathered : IsGathered text new
   pub few : length new.places.items ≤ length old.places.items + 1
   pub before : new.before ≡ before_with part old.before spelling
+  pub lines : seen_lines text new.places.items 0 new.ends.items ≡ lines_with part (seen_lines text old.places.items 0 old.ends.items) (present_tokens text old)
+  pub present : present_tokens text new ≡ present_with part (present_tokens text old) spelling line old.space
   pub file : (cells : List Cell) (es : List Element) → bytes cells ≡ spelling → line_of cells ≡ line
       → file_with text new es ≡ file_with text old (record { part = part; cells = cells } ∷ es)

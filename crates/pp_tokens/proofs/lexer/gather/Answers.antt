@@ -19,7 +19,7 @@ loop-at-init c = record {
   known = c.new-unpaired.ensures c.args.text.now 0;
   few = rw c.in_ok-gathering.ensures.places (omega arith);
   gathered = nothing_gathered c.args.text.now c.in_ok-gathering.gathering c.in_ok-gathering.ensures;
-  state = lex_start c.args.text.now c.args.splices.now c.in_ok-gathering.gathering c.in_ok-gathering.ensures;
+  state = lex_start (λ f. f) c.args.text.now c.args.splices.now c.in_ok-gathering.gathering c.in_ok-gathering.ensures;
 }
 
 -- what stands first isn't empty, and lies within the text
@@ -67,7 +67,7 @@ loop-at-preserved-then-blank-gt0 c =
     let splices = c.args.splices.now in
     let at = c.loop-at.at in
     let n = c.white_at-blank.result in
-    let run = white_run text splices c.loop-at.gathering c.add_gap.new.self at c.loop-at.base n c.loop-at.invariant.gathered c.loop-at.invariant.state c.add_gap.ensures
+    let run = white_run (λ f. f) text splices c.loop-at.gathering c.add_gap.new.self at c.loop-at.base n c.loop-at.invariant.gathered c.loop-at.invariant.state c.add_gap.ensures
     (omega (arith, c.if-blank-gt0.true)) (front_is_white text at n c.white_at-blank.ensures.run) in
     record {
       within = c.white_at-blank.ensures.within;
@@ -102,13 +102,13 @@ loop-at-preserved c =
       few = omega (arith, c.loop-at.invariant.few, step.few, size.0);
       gathered = step.gathered;
       state = rw passed
-          (lex_step text splices c.loop-at.gathering c.add.new.self at c.loop-at.base n part c.loop-at.invariant.state c.loop-at-test.true first step);
+          (lex_step (λ f. f) text splices c.loop-at.gathering c.add.new.self at c.loop-at.base n part c.loop-at.invariant.state c.loop-at-test.true first step);
     }
 
 pub returns-clause-file : goal.returns-clause-file
 returns-clause-file c =
-    (lex_end c.args.text.now c.args.splices.now c.loop-at.gathering c.end_last_line.new.self c.loop-at.at c.loop-at.base c.loop-at-test.false c.loop-at.invariant.gathered c.loop-at.invariant.state c.in_ok-end_last_line.ensures).0
+    (lex_end (λ f. f) c.args.text.now c.args.splices.now c.loop-at.gathering c.end_last_line.new.self c.loop-at.at c.loop-at.base c.loop-at-test.false c.loop-at.invariant.gathered c.loop-at.invariant.state c.in_ok-end_last_line.ensures).0
 
 pub returns-clause-gathered : goal.returns-clause-gathered
 returns-clause-gathered c =
-    (lex_end c.args.text.now c.args.splices.now c.loop-at.gathering c.end_last_line.new.self c.loop-at.at c.loop-at.base c.loop-at-test.false c.loop-at.invariant.gathered c.loop-at.invariant.state c.in_ok-end_last_line.ensures).1
+    (lex_end (λ f. f) c.args.text.now c.args.splices.now c.loop-at.gathering c.end_last_line.new.self c.loop-at.at c.loop-at.base c.loop-at-test.false c.loop-at.invariant.gathered c.loop-at.invariant.state c.in_ok-end_last_line.ensures).1

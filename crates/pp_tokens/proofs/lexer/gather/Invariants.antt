@@ -13,7 +13,7 @@ invariant-loop-at l = record {
   known : KnowsUnpaired l.unpaired l.text l.at;
   few : length l.gathering.places.items ≤ l.at;
   gathered : IsGathered l.text l.gathering;
-  state : LexState l.text l.splices l.gathering l.at l.base;
+  state : LexState (λ f. f) l.text l.splices l.gathering l.at l.base;
 }
 
 abbrev pub decreases-loop-at : goal.decreases-loop-at

@@ -1,0 +1,184 @@
+use Rattle.std.proofs.Common.{◌≡◌, ◌≤◌, ◌<◌, ◌+◌, ◌-◌, ℕ, true, false, length, take, drop, ap, ◌∙◌, sym, arith, length-drop, subst, ◌==◌}
+use Rattle.std.proofs.lemmas.List.Sums.{count_by-le-length}
+use Rattle.std.proofs.lemmas.List.{length-take-le}
+use Rattle.pp_tokens.specs.Lined.{spliced_up_to}
+use Rattle.pp_tokens.specs.Lines.{Part, first_part}
+use Rattle.pp_tokens.specs.DirectiveLines.{directives_alone}
+use Rattle.pp_tokens.specs.parts.Gathered.{newlines, IsPart, Gathers}
+use Rattle.pp_tokens.specs.parts.Text.{is_due, part_told}
+use Rattle.pp_tokens.specs.parts.TextLines.{begins_line, begins_text}
+use Rattle.pp_tokens.proofs.Headers.{both_hold}
+use Rattle.pp_tokens.proofs.LaterPlaces.{known_later}
+use Rattle.pp_tokens.proofs.Splices.{up_to_all, up_to_later}
+use Rattle.pp_tokens.proofs.LexSteps.{first_within, first_is_part, nothing_gathered, lex_start, lex_step, lex_end, white_run, front_is_white}
+use Rattle.pp_tokens.proofs.DirectiveSteps.{nothing_outlined, gap_outlined, part_outlined, text_outlined, text_step, end_outlined, is_a_token}
+use Rattle.pp_tokens.proofs.lexer.gather_directives.Goals as goal
+use Rattle.pp_tokens.proofs.lexer.gather_directives.Goals.{After-next_part-what}
+
+pub loop-at-init : goal.loop-at-init
+loop-at-init c =
+    let text = c.args.text.now in
+    let g = c.in_ok-gathering.gathering in
+    record {
+      within = omega arith;
+      counted = omega arith;
+      passes = omega arith;
+      known = c.new-unpaired.ensures text 0;
+      few = rw c.in_ok-gathering.ensures.places (omega arith);
+      gathered = nothing_gathered text g c.in_ok-gathering.ensures;
+      outlined = nothing_outlined text g c.in_ok-gathering.ensures;
+      state = lex_start directives_alone text c.args.splices.now g c.in_ok-gathering.ensures;
+    }
+
+-- what stands first isn't empty, and lies within the text
+some_left : (c : After-next_part-what) → 0 < length (drop c.loop-at.at c.args.text.now)
+some_left c = omega (arith, length-drop c.loop-at.at c.args.text.now, c.loop-at-test.true)
+
+size_is : (c : After-next_part-what) → (0 < c.next_part-what.result.1) × (c.loop-at.at + c.next_part-what.result.1 ≤ length c.args.text.now)
+size_is c =
+    let is =
+    first_within c.is_due.result (drop c.loop-at.at c.args.text.now) (part_told c.next_part-what.result.0) c.next_part-what.result.1 (some_left c) c.next_part-what.ensures.part in
+    (is.0, omega (arith, is.1, length-drop c.loop-at.at c.args.text.now, c.loop-at-test.true))
+
+is_part : (c : After-next_part-what) → IsPart (part_told c.next_part-what.result.0) (take c.next_part-what.result.1 (drop c.loop-at.at c.args.text.now))
+is_part c =
+    first_is_part c.is_due.result (drop c.loop-at.at c.args.text.now) (part_told c.next_part-what.result.0) c.next_part-what.result.1 (some_left c) c.next_part-what.ensures.part
+
+-- the part that stands first
+first : (c : After-next_part-what)
+    → ◌≡◌ {A = Part × ℕ} (part_told c.next_part-what.result.0, c.next_part-what.result.1) (first_part (is_due c.loop-at.gathering.before) (drop c.loop-at.at c.args.text.now))
+first c = c.next_part-what.ensures.part ∙ ap (λ d. first_part d (drop c.loop-at.at c.args.text.now)) c.is_due.ensures
+
+line_small : (c : After-next_part-what) → c.loop-at.base + c.splices_passed-passed.result ≤ 16777218
+line_small c =
+    omega (arith, c.loop-at.invariant.counted, c.loop-at-test.true, c.splices_passed-passed.ensures, up_to_all c.args.splices.now c.loop-at.at, c.requires.small)
+
+pub stretch-word-requires : goal.stretch-word-requires
+stretch-word-requires c = (size_is c).1
+
+pub overflow_add-at-then-begins_text : goal.overflow_add-at-then-begins_text
+overflow_add-at-then-begins_text c = omega (arith, (size_is (goal.at.overflow_add-at-then-begins_text c).After-next_part-what).1, c.requires.small)
+
+pub line_end-end-requires-clause-within : goal.line_end-end-requires-clause-within
+line_end-end-requires-clause-within c = (size_is (goal.at.line_end-end-requires-clause-within c).After-next_part-what).1
+
+pub line_end-end-requires-clause-passed : goal.line_end-end-requires-clause-passed
+line_end-end-requires-clause-passed c =
+    omega (arith, c.splices_passed-passed.ensures, up_to_later c.args.splices.now c.loop-at.at c.next_part-what.result.1)
+
+pub loop-at-smaller-then-begins_text : goal.loop-at-smaller-then-begins_text
+loop-at-smaller-then-begins_text c =
+    let size = size_is (goal.at.loop-at-smaller-then-begins_text c).After-next_part-what in
+    omega (arith, size.0, c.line_end-end.ensures.end.later, c.line_end-end.ensures.end.within, c.loop-at-test.true)
+
+pub loop-at-preserved-then-begins_text : goal.loop-at-preserved-then-begins_text
+loop-at-preserved-then-begins_text c =
+    let s = (goal.at.loop-at-preserved-then-begins_text c).After-next_part-what in
+    let text = c.args.text.now in
+    let splices = c.args.splices.now in
+    let at = c.loop-at.at in
+    let n = c.next_part-what.result.1 in
+    let old = c.loop-at.gathering in
+    let new = c.end_text.new.self in
+    let end = c.line_end-end.result in
+    let word = take n (drop at text) in
+    let begins : begins_text old.before (part_told c.next_part-what.result.0) word ≡ true =
+    ap (begins_text old.before (part_told c.next_part-what.result.0)) (sym c.stretch-word.ensures) ∙ sym c.begins_text.ensures ∙ c.if-begins_text.true in
+    let starts : begins_line old.before ≡ true = (both_hold (begins_line old.before) _ begins).0 in
+    let kind = is_a_token old.before (part_told c.next_part-what.result.0) word begins in
+    let ended = text_outlined text old new end.comment c.loop-at.invariant.gathered c.loop-at.invariant.outlined starts c.in_ok-end_text.ensures in
+    let same : at + (end.at - at) ≡ end.at = omega (arith, c.line_end-end.ensures.end.later) in
+    record {
+      within = c.line_end-end.ensures.end.within;
+      counted = c.line_end-end.ensures.end.counted;
+      passes = omega (arith, c.splices_passed-passed.ensures, up_to_later splices at (end.at - at), ap (spliced_up_to splices) same);
+      known = c.line_end-end.ensures.known;
+      few = omega (arith, ap length c.in_ok-end_text.ensures.places, c.loop-at.invariant.few, c.line_end-end.ensures.end.later);
+      gathered = ended.0;
+      outlined = ended.1;
+      state = text_step text splices old new at c.loop-at.base n kind.0 end c.loop-at.invariant.state c.loop-at.invariant.gathered c.loop-at.invariant.outlined c.loop-at-test.true
+          (subst (λ p. ◌≡◌ {A = Part × ℕ} (p, n) (first_part (is_due old.before) (drop at text))) kind.1 (first s))
+          (subst (λ p. begins_text old.before p word ≡ true) kind.1 begins)
+          c.line_end-end.ensures.end c.in_ok-end_text.ensures;
+    }
+
+pub overflow_add-base : goal.overflow_add-base
+overflow_add-base c = omega (arith, line_small (goal.at.overflow_add-base c).After-next_part-what)
+
+pub overflow_cast-base : goal.overflow_cast-base
+overflow_cast-base c = omega (arith, line_small (goal.at.overflow_cast-base c).After-next_part-what)
+
+pub add-requires-clause-within : goal.add-requires-clause-within
+add-requires-clause-within c = (size_is (goal.at.add-requires-clause-within c).After-next_part-what).1
+
+pub newlines-base-requires : goal.newlines-base-requires
+newlines-base-requires c =
+    record { part = subst (IsPart (part_told c.next_part-what.result.0)) (sym c.stretch-word.ensures) (is_part (goal.at.newlines-base-requires c).After-next_part-what) }
+
+pub overflow_add-at-else-begins_text : goal.overflow_add-at-else-begins_text
+overflow_add-at-else-begins_text c = omega (arith, (size_is (goal.at.overflow_add-at-else-begins_text c).After-next_part-what).1, c.requires.small)
+
+pub loop-at-smaller : goal.loop-at-smaller
+loop-at-smaller c = let size = size_is (goal.at.loop-at-smaller c).After-next_part-what in omega (arith, size.0, size.1)
+
+pub loop-at-preserved-then-blank-gt0 : goal.loop-at-preserved-then-blank-gt0
+loop-at-preserved-then-blank-gt0 c =
+    let text = c.args.text.now in
+    let splices = c.args.splices.now in
+    let at = c.loop-at.at in
+    let n = c.white_at-blank.result in
+    let old = c.loop-at.gathering in
+    let new = c.add_gap.new.self in
+    let run = white_run directives_alone text splices old new at c.loop-at.base n c.loop-at.invariant.gathered c.loop-at.invariant.state c.add_gap.ensures
+    (omega (arith, c.if-blank-gt0.true)) (front_is_white text at n c.white_at-blank.ensures.run) in
+    record {
+      within = c.white_at-blank.ensures.within;
+      counted = omega (arith, c.loop-at.invariant.counted);
+      passes = omega (arith, c.loop-at.invariant.passes, up_to_later splices at n);
+      known = known_later c.loop-at.unpaired text at n c.loop-at.invariant.known;
+      few = omega (arith, c.loop-at.invariant.few, ap length c.add_gap.ensures.places);
+      gathered = run.1;
+      outlined = gap_outlined text old new _ c.loop-at.invariant.outlined c.add_gap.ensures;
+      state = run.0;
+    }
+
+pub loop-at-preserved : goal.loop-at-preserved
+loop-at-preserved c =
+    let s = (goal.at.loop-at-preserved c).After-next_part-what in
+    let size = size_is s in
+    let text = c.args.text.now in
+    let splices = c.args.splices.now in
+    let at = c.loop-at.at in
+    let n = c.next_part-what.result.1 in
+    let part = part_told c.next_part-what.result.0 in
+    let word = take n (drop at text) in
+    let old = c.loop-at.gathering in
+    let new = c.add.new.self in
+    let passed : c.newlines-base.result ≡ newlines word = c.newlines-base.ensures ∙ ap newlines c.stretch-word.ensures in
+    let few : newlines word ≤ n = omega (arith, count_by-le-length (λ b. b == 10) word, length-take-le n (drop at text) (omega (arith, size.1, length-drop at text))) in
+    let line : c.loop-at.base + c.splices_passed-passed.result ≡ c.loop-at.base + spliced_up_to splices at = ap (λ m. c.loop-at.base + m) c.splices_passed-passed.ensures in
+    let step = subst (Gathers text old new part word) line c.in_ok-add.ensures in
+    let other : begins_text old.before part word ≡ false =
+    ap (begins_text old.before part) (sym c.stretch-word.ensures) ∙ sym c.begins_text.ensures ∙ c.if-begins_text.false in
+    record {
+      within = size.1;
+      counted = omega (arith, c.loop-at.invariant.counted, passed, few);
+      passes = omega (arith, c.splices_passed-passed.ensures, up_to_later splices at n);
+      known = known_later c.next_part-what.new.unpaired text at n c.next_part-what.ensures.known;
+      few = omega (arith, c.loop-at.invariant.few, step.few, size.0);
+      gathered = step.gathered;
+      outlined = part_outlined text word old new part (c.loop-at.base + spliced_up_to splices at) c.loop-at.invariant.outlined step other;
+      state = rw passed (lex_step directives_alone text splices old new at c.loop-at.base n part c.loop-at.invariant.state c.loop-at-test.true (first s) step);
+    }
+
+pub returns-clause-file : goal.returns-clause-file
+returns-clause-file c =
+    let text = c.args.text.now in
+    let old = c.loop-at.gathering in
+    let new = c.end_last_line.new.self in
+    sym (end_outlined text old new c.loop-at.invariant.gathered c.loop-at.invariant.outlined c.in_ok-end_last_line.ensures)
+    ∙ (lex_end directives_alone text c.args.splices.now old new c.loop-at.at c.loop-at.base c.loop-at-test.false c.loop-at.invariant.gathered c.loop-at.invariant.state c.in_ok-end_last_line.ensures).0
+
+pub returns-clause-gathered : goal.returns-clause-gathered
+returns-clause-gathered c =
+    (lex_end directives_alone c.args.text.now c.args.splices.now c.loop-at.gathering c.end_last_line.new.self c.loop-at.at c.loop-at.base c.loop-at-test.false c.loop-at.invariant.gathered c.loop-at.invariant.state c.in_ok-end_last_line.ensures).1

@@ -1,0 +1,54 @@
+-- What is left of a file from a line of text on, where a line of text tells no more than that it is there. No public
+-- contract rests on these.
+use Rattle.std.specs.Prelude.{◌≡◌, ℕ, zero, ◌+◌, ◌≤◌, Bool, true, false, not, ◌&&◌, ◌||◌, List, [], ◌∷◌, map, length, drop, ◌==◌, codes, Option}
+use Rattle.pp_tokens.specs.declared.due.Before.{Before}
+use Rattle.pp_tokens.specs.declared.due.Before.TheVariants.{Nothing}
+use Rattle.pp_tokens.specs.declared.text_line.LineEnd.{LineEnd}
+use Rattle.pp_tokens.specs.declared.token.Token.{Token}
+use Rattle.pp_tokens.specs.Phases.{Cell}
+use Rattle.pp_tokens.specs.Lined.{lined}
+use Rattle.pp_tokens.specs.Lines.{Part, newline, token, Element, LexedFile, elements, or_else, spells_hash, unended_line}
+use Rattle.pp_tokens.specs.DirectiveLines.{directive_line}
+use Rattle.pp_tokens.specs.parts.Gathered.{joined}
+
+-- a byte that ends no line, and neither begins nor ends a comment or a literal
+abbrev pub is_ordinary : ℕ → Bool
+is_ordinary b = not ((b == 10) || ((b == 34) || ((b == 39) || (b == 47))))
+
+-- the lines from a line of text on
+unfoldable pub text_lines : List Element → List (List Token)
+text_lines [] = [] ∷ []
+text_lines (e ∷ es) = elim e.part [ newline ↦ [] ∷ map directive_line (joined false [] true es) | _ ↦ text_lines es ]
+
+-- the file from a line of text on
+abbrev pub text_file : List Element → LexedFile
+text_file es = record { lines = text_lines es; unended = unended_line es }
+
+-- the file from here on, where a line of text has begun; with which word doesn't matter
+abbrev pub text_left : List Cell → LexedFile
+text_left cells = text_file (elements zero (codes "x" ∷ []) cells)
+
+-- the file from the end of a line of text on, where this is the line of a comment that never ends
+abbrev pub file_behind : Option ℕ → List Element → LexedFile
+file_behind comment es = record {
+  lines = [] ∷ map directive_line (joined false [] true es);
+  unended = or_else comment (unended_line es);
+}
+
+-- a line of text has its end there
+pub record EndsText (text splices : List ℕ) (at base : ℕ) (end : LineEnd) : Type 0 where
+  pub within : end.at ≤ length text
+  pub later : at ≤ end.at
+  pub counted : end.base ≤ end.at + 1
+  pub file : text_left (lined splices at base (drop at text)) ≡ file_behind end.comment (elements zero [] (lined splices end.at end.base (drop end.at text)))
+
+-- nothing but white space and comments stands on the line
+abbrev pub begins_line : Before → Bool
+begins_line before = elim before [ Nothing ↦ true | _ ↦ false ]
+
+abbrev pub is_token : Part → Bool
+is_token part = elim part [ token k ↦ true | _ ↦ false ]
+
+-- this part is the first token of a line of text (6.10 paragraph 2)
+abbrev pub begins_text : Before → Part → List ℕ → Bool
+begins_text before part word = begins_line before && (is_token part && not (spells_hash word))

@@ -1,0 +1,116 @@
+// Where a line of text ends (ISO C 6.10 paragraph 2). Of its tokens none is kept, so only what may end a line or hide a
+// newline is read as a part: literals and comments. All other bytes are stepped over one by one, wherever tokens begin.
+ghost use Rattle.std.specs.Prelude.{◌≡◌, ◌+◌, ◌≤◌, length, drop, take_while};
+ghost use Rattle.pp_tokens.specs.Lined.{spliced_up_to, Rising};
+ghost use Rattle.pp_tokens.specs.Lines.{spells_hash};
+ghost use Rattle.pp_tokens.specs.parts.TextLines.{is_ordinary, is_token, begins_line, begins_text, EndsText};
+ghost use Rattle.pp_tokens.specs.parts.Text.{part_told};
+ghost use Rattle.pp_tokens.specs.parts.Unpaired.{KnowsUnpaired};
+
+use crate::class::is_ordinary;
+use crate::due::Before;
+use crate::lexer::{newlines, splices_passed, stretch};
+use crate::part::{What, next_part};
+use crate::unpaired::Unpaired;
+
+/// Where the line behind a line of text begins, the physical line of that place without its splices, and the physical line
+/// of a comment that begins on the line and never ends.
+#[derive(Clone, Copy, Drop)]
+pub struct LineEnd {
+    pub at: usize,
+    pub base: usize,
+    pub comment: Option<u32>,
+}
+
+fn is_token(what: What) -> bool
+    ensures { result ≡ is_token (part_told what) }
+{
+    matches!(what, What::Token(_))
+}
+
+fn begins_line(before: Before) -> bool
+    ensures { result ≡ begins_line before }
+{
+    matches!(before, Before::Nothing)
+}
+
+fn spells_hash(word: &[u8]) -> bool
+    ensures { result ≡ spells_hash word.now }
+{
+    word == b"#".as_slice() || word == b"%:".as_slice()
+}
+
+/// Whether a part is the first token of a line of text.
+pub fn begins_text(before: Before, what: What, word: &[u8]) -> bool
+    ensures { result ≡ begins_text before (part_told what) word.now }
+{
+    begins_line(before) && is_token(what) && !spells_hash(word)
+}
+
+// How many bytes from a place on end no line and belong to no comment and no literal.
+fn ordinary_at(text: &[u8], at: usize) -> usize
+    requires { at ≤ length text.now }
+    ensures run { result ≡ length (take_while is_ordinary (drop at text.now)) }
+    ensures within { at + result ≤ length text.now }
+{
+    let (_, rest) = text.split_at(at);
+    rest.iter().take_while(|b| is_ordinary(**b)).count()
+}
+
+/// The end of a line of text, from a place behind its first token on, with the physical line of that place and the splices
+/// that are known to stand before it.
+pub fn line_end(
+    text: &[u8],
+    splices: &[u32],
+    from: usize,
+    line: usize,
+    passed: usize,
+    unpaired: &mut Unpaired,
+) -> LineEnd
+    requires small { length text.now + length splices.now ≤ 16777217 }
+    requires rising { Rising 0 splices.now }
+    requires within { from ≤ length text.now }
+    requires counted { line ≤ from + 1 }
+    requires passed { passed ≤ spliced_up_to splices.now from }
+    requires known { KnowsUnpaired unpaired.old text.now from }
+    ensures end { EndsText text.now splices.now from line result }
+    ensures known { KnowsUnpaired unpaired.new text.now result.at }
+{
+    let mut at = from;
+    let mut base = line;
+    while at < text.len() {
+        let run = ordinary_at(text, at);
+        if run > 0 {
+            at += run;
+        } else {
+            let (what, size) = next_part(text, at, false, unpaired);
+            let end = at + size;
+            match what {
+                What::Newline => {
+                    return LineEnd {
+                        at: end,
+                        base: base + 1,
+                        comment: None,
+                    };
+                }
+                What::OpenComment => {
+                    let line = base + splices_passed(splices, passed, at);
+                    return LineEnd {
+                        at: end,
+                        base,
+                        comment: Some(line as u32),
+                    };
+                }
+                What::White | What::Comment | What::Token(_) => {
+                    base += newlines(what, stretch(text, at, size));
+                    at = end;
+                }
+            }
+        }
+    }
+    LineEnd {
+        at,
+        base,
+        comment: None,
+    }
+}
