@@ -8,3 +8,4 @@ mod StackSteps
 mod Whole
 mod ClosedNames
 mod PartSteps
+mod TextLines

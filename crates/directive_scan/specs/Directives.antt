@@ -1,6 +1,6 @@
 -- The directives of a file, from its logical lines of tokens (ISO C 6.10).
-use Rattle.std.specs.Prelude.{ℕ, ◌-◌, List, [], ◌∷◌, ◌++◌, length, take, drop, if◌then◌else◌, nat_eq, codes, bytes_eq}
-use Rattle.std.specs.List.{starts_with}
+use Rattle.std.specs.Prelude.{ℕ, ◌-◌, Bool, true, false, List, [], ◌∷◌, ◌++◌, length, take, drop, if◌then◌else◌, nat_eq, codes, bytes_eq}
+use Rattle.std.specs.List.{filter, starts_with}
 use Rattle.pp_tokens.specs.declared.Kind.{Kind}
 use Rattle.pp_tokens.specs.declared.Kind.TheVariants as kind
 use Rattle.pp_tokens.specs.declared.Token.{Token}
@@ -76,3 +76,12 @@ line_before (t ∷ ts) ps = if spells_hash t.text then Line t.line (directive_of
 unfoldable pub pieces : List (List Token) → List Piece
 pieces [] = []
 pieces (line ∷ lines) = line_before line (pieces lines)
+
+-- the piece is a directive
+abbrev pub is_directive : Piece → Bool
+is_directive (Run tokens) = false
+is_directive (Line at what) = true
+
+-- the directives among pieces, in their order
+abbrev pub directives_of : List Piece → List Piece
+directives_of = filter is_directive

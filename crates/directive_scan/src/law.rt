@@ -2,7 +2,9 @@
 ghost use Rattle.std.specs.Prelude.{◌≡◌, ◌↔◌, List, None, Some, false, map, codes};
 ghost use Rattle.std.specs.List.{list_any};
 ghost use Rattle.pp_tokens.specs.declared.Token.{Token};
+ghost use Rattle.pp_tokens.specs.DirectiveLines.{directive_line};
 ghost use Rattle.pp_tokens.specs.Marks.{is_word};
+ghost use Rattle.directive_scan.specs.Directives.{directives_of, pieces};
 ghost use Rattle.directive_scan.specs.Groups.{Group, HasOutline, Outline, Role, malformed_by, outline, role_of, whole};
 ghost use Rattle.directive_scan.specs.Operands.{parts_of};
 ghost use Rattle.directive_scan.specs.declared.directive.Piece.{Piece};
@@ -26,4 +28,9 @@ pub fn nesting_told()
 /// A condition's line without `__has_include` has its tokens as parts, as written.
 pub fn parts_without_probe()
     ensures { (line : List Token) → list_any (is_word (codes "__has_include")) line ≡ false → parts_of line ≡ Some (map Written line) }
+{}
+
+/// A file has the directives that it has where its lines of text are empty.
+pub fn directives_stand_alone()
+    ensures { (lines : List (List Token)) → directives_of (pieces (map directive_line lines)) ≡ directives_of (pieces lines) }
 {}

@@ -16,7 +16,9 @@ mod stage;
 pub use conditional::{BranchName, Malformed};
 pub use directive::{Directive, HeaderName, Piece, Target};
 pub use header::header_of;
-pub use law::{nesting_told, one_outline, outline_holds, parts_without_probe};
+pub use law::{
+    directives_stand_alone, nesting_told, one_outline, outline_holds, parts_without_probe,
+};
 pub use operand::{ConditionPart, has_operands, has_probe, parts_of};
 pub use pieces::{DirectiveRef, PieceRef, Pieces};
 pub use role::Nesting;
