@@ -4,7 +4,7 @@ use Rattle.command_line.specs.declared.body.FileBody.{FileBody}
 use Rattle.command_line.specs.declared.body.FileBody.TheVariants.{NoFile, Large, Whole}
 
 -- a whole body has at most 16,777,216 bytes
-abbrev pub IsSmall : FileBody → Type 0
-IsSmall NoFile = Unit {0}
-IsSmall Large = Unit {0}
-IsSmall (Whole bytes) = length bytes.items ≤ 16777216
+abbrev pub IsSmallFile : FileBody → Type 0
+IsSmallFile NoFile = Unit {0}
+IsSmallFile Large = Unit {0}
+IsSmallFile (Whole bytes) = length bytes.items ≤ 16777216

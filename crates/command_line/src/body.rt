@@ -1,6 +1,6 @@
 // The bodies of the host's files.
 ghost use Rattle.std.specs.Prelude.{◌≤◌, length, IfOk};
-ghost use Rattle.command_line.specs.Read.{IsSmall};
+ghost use Rattle.command_line.specs.Read.{IsSmallFile};
 
 use anyhow::{Result, bail};
 use std::alloc::Global;
@@ -23,7 +23,7 @@ pub enum FileBody {
 
 /// What there is to read at a path. The path is looked at, and opened where a file stands there: [`read_seen`].
 pub fn read_file<R: Files + AllocGlobal>(rt: &R, path: &str) -> io::Result<FileBody>
-    ensures { IfOk result IsSmall }
+    ensures { IfOk result IsSmallFile }
 {
     if !fs::metadata(rt, path)?.is_file() {
         return Ok(FileBody::NoFile);
@@ -35,7 +35,7 @@ pub fn read_file<R: Files + AllocGlobal>(rt: &R, path: &str) -> io::Result<FileB
 /// read where it is as long as that look said, and no further than one byte behind the limit. An error is the host's:
 /// nothing stands at the path, it may not be opened or read, or there is no memory for its bytes.
 pub fn read_seen<R: Files + AllocGlobal>(rt: &R, path: &str) -> io::Result<FileBody>
-    ensures { IfOk result IsSmall }
+    ensures { IfOk result IsSmallFile }
 {
     let file = File::open(rt, path)?;
     let found = file.metadata()?;
@@ -51,7 +51,7 @@ pub fn read_seen<R: Files + AllocGlobal>(rt: &R, path: &str) -> io::Result<FileB
 // Reads what is said to have so many bytes: to the end, or until there is more than the limit.
 fn read_to_limit<F: Read + Drop>(alloc: Global, file: F, said: usize) -> io::Result<FileBody>
     requires { said ≤ 16777216 }
-    ensures { IfOk result IsSmall }
+    ensures { IfOk result IsSmallFile }
 {
     let mut file = file;
     let mut bytes = Vec::new(alloc);
