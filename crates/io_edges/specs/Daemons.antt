@@ -14,5 +14,5 @@ localhost = record { name = localhost_name; port = 3632; limit = 1 }
 abbrev pub starts_of : List ℕ → List (ℕ × Host)
 starts_of numbers = map (λ k. (k, localhost)) numbers
 
-abbrev pub hosts_of : List ℕ → List Host
-hosts_of numbers = map (λ k. localhost) numbers
+abbrev pub local_hosts : List ℕ → List Host
+local_hosts numbers = map (λ k. localhost) numbers

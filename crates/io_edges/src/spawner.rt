@@ -2,7 +2,7 @@
 ghost use Rattle.std.specs.Prelude.{◌≡◌, ◌≤◌, ◌<◌, ℕ, List, ◌∷◌, [], ◌++◌, Bool, true, false, IfOk, OnOk, OnErr, length, drop, IsErrOf};
 ghost use Rattle.base_types.specs.Calls.{FailsAsListed};
 ghost use Rattle.base_types.specs.Causes.{HasCause, raised};
-ghost use Rattle.io_edges.specs.Daemons.{localhost, starts_of, hosts_of};
+ghost use Rattle.io_edges.specs.Daemons.{localhost, starts_of, local_hosts};
 
 use crate::wire::Host;
 use base_types::{Bytes, Calls, Counted};
@@ -102,7 +102,7 @@ impl Counted for MemSpawner {
 impl Spawner for MemSpawner {
     ghost begun = { λ s. starts_of s.numbers.items };
 
-    ghost running = { λ s. hosts_of (drop s.stopped s.numbers.items) };
+    ghost running = { λ s. local_hosts (drop s.stopped s.numbers.items) };
 
     ghost asked = { λ s. s.asked };
 
