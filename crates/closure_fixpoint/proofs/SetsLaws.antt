@@ -10,7 +10,7 @@ use Rattle.std.proofs.lemmas.Bool.{and_parts}
 use Rattle.base_types.specs.Members.{Member}
 use Rattle.macro_defs.specs.MacroDefinition.{MacroDefinition}
 use Rattle.macro_defs.specs.Defining.{Named, are_distinct}
-use Rattle.macro_defs.specs.Table.{Entries, names_of, lookup, initial_entries}
+use Rattle.macro_defs.specs.Table.{TableEntries, names_ever_defined, lookup, initial_entries}
 use Rattle.macro_expand.specs.Choice.{IsPart}
 use Rattle.symbolic_expand.specs.Defined.{Defined, Adds}
 use Rattle.symbolic_expand.specs.Defined as kept
@@ -106,7 +106,7 @@ others_same old name d new (apart, sets) n other = sets n ∙ go (bytes_eq name 
 
 -- THE FIRST DEFINITIONS
 
-looked_up : (es : Entries) (name : Text) (d : MacroDefinition) → lookup es name ≡ Some d → Member (named name d) (filter_map initial_definition es)
+looked_up : (es : TableEntries) (name : Text) (d : MacroDefinition) → lookup es name ≡ Some d → Member (named name d) (filter_map initial_definition es)
 unfolding lookup
 looked_up [] name d is = absurd (cc)
 looked_up ((n, None) ∷ es) name d is = go (bytes_eq name n) is (looked_up es name d)
@@ -132,29 +132,29 @@ initial_gives (n, Some e) name d is =
     let same : named n e ≡ named name d = cc in
     λ i. ((same i).name, Some ((same i).definition))
 
-not_later : (name : Text) (o : Option MacroDefinition) (es : Entries) → Member (name, o) es → list_any (bytes_eq name) (names_of es) ≡ true
-not_later name o es m = list_any-true (bytes_eq name) name (names_of es) (Member-map (λ (e : Text × Option MacroDefinition). e.0) (name, o) es m) ((bytes_decides name name).1 refl)
+not_later : (name : Text) (o : Option MacroDefinition) (es : TableEntries) → Member (name, o) es → list_any (bytes_eq name) (names_ever_defined es) ≡ true
+not_later name o es m = list_any-true (bytes_eq name) name (names_ever_defined es) (Member-map (λ (e : Text × Option MacroDefinition). e.0) (name, o) es m) ((bytes_decides name name).1 refl)
 
 -- each name stands once
-found_there : (es : Entries) (name : Text) (d : MacroDefinition) → are_distinct (names_of es) ≡ true → Member (name, Some d) es → lookup es name ≡ Some d
+found_there : (es : TableEntries) (name : Text) (d : MacroDefinition) → are_distinct (names_ever_defined es) ≡ true → Member (name, Some d) es → lookup es name ≡ Some d
 unfolding lookup are_distinct
 found_there [] name d once m = absurd m
 found_there (e ∷ es) name d once (inl same) =
     ap (λ b. if b then e.1 else lookup es name) ((bytes_decides name e.0).1 (sym (ap (λ (x : Text × Option MacroDefinition). x.0) same)))
     ∙ ap (λ (x : Text × Option MacroDefinition). x.1) same
-found_there (e ∷ es) name d once (inr m) = go (bytes_eq name e.0) refl ∙ found_there es name d (and_parts (not (list_any (bytes_eq e.0) (names_of es))) (are_distinct (names_of es)) once).1 m
+found_there (e ∷ es) name d once (inr m) = go (bytes_eq name e.0) refl ∙ found_there es name d (and_parts (not (list_any (bytes_eq e.0) (names_ever_defined es))) (are_distinct (names_ever_defined es)) once).1 m
   where
     go : (b : Bool) → bytes_eq name e.0 ≡ b → (if b then e.1 else lookup es name) ≡ lookup es name
     go false is = refl
     go true is =
-        let twice : list_any (bytes_eq e.0) (names_of es) ≡ true = subst (λ (n : Text). list_any (bytes_eq n) (names_of es) ≡ true) ((bytes_decides name e.0).0 is) (not_later name (Some d) es m) in
-        absurd (true≢false (sym (and_parts (not (list_any (bytes_eq e.0) (names_of es))) (are_distinct (names_of es)) once).0 ∙ ap not twice))
+        let twice : list_any (bytes_eq e.0) (names_ever_defined es) ≡ true = subst (λ (n : Text). list_any (bytes_eq n) (names_ever_defined es) ≡ true) ((bytes_decides name e.0).0 is) (not_later name (Some d) es m) in
+        absurd (true≢false (sym (and_parts (not (list_any (bytes_eq e.0) (names_ever_defined es))) (are_distinct (names_ever_defined es)) once).0 ∙ ap not twice))
 
 in_option : (o : Option MacroDefinition) (d : MacroDefinition) → Contains (option_to_list o) d → o ≡ Some d
 in_option None d c = absurd (Member-from_Contains d [] c)
 in_option (Some e) d c = elim (Member-from_Contains d (e ∷ []) c) [ inl same ↦ ap Some same | inr never ↦ absurd never ]
 
-table_just : (es : Entries) → are_distinct (names_of es) ≡ true → (sets : Defined) → ((name : Text) → kept.sets_of sets name ≡ option_to_list (lookup es name))
+table_just : (es : TableEntries) → are_distinct (names_ever_defined es) ≡ true → (sets : Defined) → ((name : Text) → kept.sets_of sets name ≡ option_to_list (lookup es name))
     → HasJust sets (filter_map initial_definition es)
 table_just es once sets is name d = (
   λ c. in_sets (filter_map initial_definition es) name d
@@ -165,7 +165,7 @@ table_just es once sets is name d = (
       subst (λ (ds : List MacroDefinition). Contains ds d) (sym (is name ∙ ap option_to_list (found_there es name d once m))) (Contains-from_Member d (d ∷ []) (inl refl)),
 )
 
-initial_once : are_distinct (names_of initial_entries) ≡ true
+initial_once : are_distinct (names_ever_defined initial_entries) ≡ true
 unfolding are_distinct
 initial_once = refl
 

@@ -5,7 +5,7 @@ use Rattle.pp_tokens.specs.declared.token.Token.{Token}
 use Rattle.macro_defs.specs.MacroDefinition.{MacroDefinition}
 use Rattle.macro_defs.specs.declared.definition.DefineError.{DefineError}
 use Rattle.macro_defs.specs.Defining.{Named, defined_by, names_macro}
-use Rattle.macro_defs.specs.Table.{Entries, lookup, Sets}
+use Rattle.macro_defs.specs.Table.{TableEntries, lookup, SetsDefinition}
 use Rattle.macro_expand.specs.Expansion.{Table}
 use Rattle.daemon_cpp.specs.declared.kept.Kept.{Kept}
 use Rattle.daemon_cpp.specs.declared.stop.Stop.{Stop}
@@ -16,12 +16,12 @@ use Rattle.job_words.specs.declared.MacroWord.{MacroWord}
 use Rattle.std.proofs.lemmas.List.{drop_more, drop_all}
 
 -- a table that sets a name is, as a function, the one with it
-pub sets-table : (old new : Entries) (name : Text) (definition : Option MacroDefinition) → Sets old name definition new →
+pub sets-table : (old new : TableEntries) (name : Text) (definition : Option MacroDefinition) → SetsDefinition old name definition new →
     with_macro (lookup old) name definition ≡ lookup new
 sets-table old new name definition sets = λ i. λ n. sym (sets n) i
 
 -- a state whose macros are those of another table
-macros-shown : (old : Kept) (macros : Entries) (main : Path) (file : Here) (state : State) (table : Table) → Shows old main file state → table ≡ lookup macros →
+macros-shown : (old : Kept) (macros : TableEntries) (main : Path) (file : Here) (state : State) (table : Table) → Shows old main file state → table ≡ lookup macros →
     Shows (record old { macros = macros }) main file (record state { macros = table })
 macros-shown old macros main file state table shows same = record {
   source = shows.source;
@@ -35,8 +35,8 @@ macros-shown old macros main file state table shows same = record {
 }
 
 -- a name that has another definition now, or none
-pub sets-goes : (old : Kept) (macros : Entries) (main : Path) (file : Here) (name : Text) (definition : Option MacroDefinition) (f : State → Step) →
-    ((state : State) → f state ≡ Go (record state { macros = with_macro state.macros name definition })) → Sets old.macros name definition macros →
+pub sets-goes : (old : Kept) (macros : TableEntries) (main : Path) (file : Here) (name : Text) (definition : Option MacroDefinition) (f : State → Step) →
+    ((state : State) → f state ≡ Go (record state { macros = with_macro state.macros name definition })) → SetsDefinition old.macros name definition macros →
     Goes old (record old { macros = macros }) main file {A = Unit {0}} f (Ok tt)
 sets-goes old macros main file name definition f step sets state shows = (
   record state { macros = with_macro state.macros name definition },
@@ -48,34 +48,34 @@ sets-goes old macros main file name definition f step sets state shows = (
 )
 
 -- a definition that was read
-pub define-goes : (old : Kept) (macros : Entries) (main : Path) (file : Here) (at : ℕ) (tokens : List Token) (name : Text) (definition : MacroDefinition) →
-    defined_by tokens ≡ Ok (record { name = name; definition = definition }) → Sets old.macros name (Some definition) macros →
+pub define-goes : (old : Kept) (macros : TableEntries) (main : Path) (file : Here) (at : ℕ) (tokens : List Token) (name : Text) (definition : MacroDefinition) →
+    defined_by tokens ≡ Ok (record { name = name; definition = definition }) → SetsDefinition old.macros name (Some definition) macros →
     Goes old (record old { macros = macros }) main file {A = Unit {0}} (λ state. define_step at (defined_by tokens) state) (Ok tt)
 define-goes old macros main file at tokens name definition read sets =
     sets-goes old macros main file name (Some definition) (λ state. define_step at (defined_by tokens) state)
     (λ state. ap (λ (r : Result Named DefineError). define_step at r state) read) sets
 
 -- the table took it, or has no memory for it
-pub define-sets : (old : Kept) (macros : Entries) (main : Path) (file : Here) (at : ℕ) (tokens : List Token) (name : Text) (definition : MacroDefinition) (r : Result (Unit {0}) Stop) →
-    defined_by tokens ≡ Ok (record { name = name; definition = definition }) → OnOk r (Sets old.macros name (Some definition) macros) → IfErr r (λ e. e ≡ stop.Memory) →
+pub define-sets : (old : Kept) (macros : TableEntries) (main : Path) (file : Here) (at : ℕ) (tokens : List Token) (name : Text) (definition : MacroDefinition) (r : Result (Unit {0}) Stop) →
+    defined_by tokens ≡ Ok (record { name = name; definition = definition }) → OnOk r (SetsDefinition old.macros name (Some definition) macros) → IfErr r (λ e. e ≡ stop.Memory) →
     Goes old (record old { macros = macros }) main file (λ state. define_step at (defined_by tokens) state) r
 define-sets old macros main file at tokens name definition (Ok done) read sets memory = define-goes old macros main file at tokens name definition read sets
 define-sets old macros main file at tokens name definition (Err e) read sets memory =
     subst (λ (t : Stop). Goes old (record old { macros = macros }) main file {A = Unit {0}} (λ state. define_step at (defined_by tokens) state) (Err t)) (sym memory) tt
 
 -- a name that is undefined
-pub undef-goes : (old : Kept) (macros : Entries) (main : Path) (file : Here) (at : ℕ) (t : Token) (ts : List Token) → names_macro t ≡ true → Sets old.macros t.text None macros →
+pub undef-goes : (old : Kept) (macros : TableEntries) (main : Path) (file : Here) (at : ℕ) (t : Token) (ts : List Token) → names_macro t ≡ true → SetsDefinition old.macros t.text None macros →
     Goes old (record old { macros = macros }) main file {A = Unit {0}} (λ state. undef_step at (t ∷ ts) state) (Ok tt)
 undef-goes old macros main file at t ts names sets =
     sets-goes old macros main file t.text None (λ state. undef_step at (t ∷ ts) state) (λ state. rw names refl) sets
 
 -- the same where the token is the first of the line
-pub undef-first : (old : Kept) (macros : Entries) (main : Path) (file : Here) (at : ℕ) (tokens : List Token) (t d : Token) → 1 ≤ length tokens → t ≡ get_or tokens 0 d →
-    names_macro t ≡ true → Sets old.macros t.text None macros →
+pub undef-first : (old : Kept) (macros : TableEntries) (main : Path) (file : Here) (at : ℕ) (tokens : List Token) (t d : Token) → 1 ≤ length tokens → t ≡ get_or tokens 0 d →
+    names_macro t ≡ true → SetsDefinition old.macros t.text None macros →
     Goes old (record old { macros = macros }) main file {A = Unit {0}} (λ state. undef_step at tokens state) (Ok tt)
 undef-first old macros main file at [] t d some is names sets = absurd (omega (arith, some))
 undef-first old macros main file at (u ∷ us) t d some is names sets =
-    undef-goes old macros main file at u us (ap names_macro (sym is) ∙ names) (subst (λ (v : Token). Sets old.macros v.text None macros) is sets)
+    undef-goes old macros main file at u us (ap names_macro (sym is) ∙ names) (subst (λ (v : Token). SetsDefinition old.macros v.text None macros) is sets)
 
 -- ---- the job's words ----
 

@@ -3,7 +3,7 @@ use Rattle.std.proofs.Common.{◌≡◌, ℕ, ◌<◌, ◌≤◌, List, [], ◌�
 use Rattle.std.proofs.lemmas.Bool.{le-leb}
 use Rattle.pp_tokens.specs.declared.token.Token.{Token}
 use Rattle.macro_expand.specs.Asking.{Failure}
-use Rattle.macro_defs.specs.Table.{Entries, lookup}
+use Rattle.macro_defs.specs.Table.{TableEntries, lookup}
 use Rattle.macro_expand.specs.declared.answers.Presumed.{Presumed}
 use Rattle.macro_expand.specs.declared.outcome.Mode.{Mode}
 use Rattle.macro_expand.specs.declared.outcome.Mode.TheVariants as mode
@@ -57,7 +57,7 @@ unfolding after_events
 lays-end o old new units left gives = ap (laid_from o) gives
 
 -- before the first token, all are still to come
-pub lays-init : (o : Laid) (table : Entries) (here : Presumed) (mode : Mode) (units : ℕ) (ts : List Token) →
+pub lays-init : (o : Laid) (table : TableEntries) (here : Presumed) (mode : Mode) (units : ℕ) (ts : List Token) →
     laid_from o (given (expanded_by (lookup table) (place_of here) mode 0 units (map unmarked ts)))
     ≡ laid_from o (to_come (record { table = table; here = here; mode = mode; ready = []; pending = map kept_plain ts; standing = Going }) units)
 lays-init o table here mode units ts =

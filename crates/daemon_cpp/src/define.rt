@@ -1,7 +1,7 @@
 // Definitions (ISO C 6.10.3).
 ghost use Rattle.std.specs.Prelude.{◌≡◌, ◌≤◌, Some, OnOk, IfErr, IsErrOf};
 ghost use Rattle.macro_defs.specs.Defining.{defined_by};
-ghost use Rattle.macro_defs.specs.Table.{Sets};
+ghost use Rattle.macro_defs.specs.Table.{SetsDefinition};
 ghost use Rattle.daemon_cpp.specs.Prep.{define_step, undef_step};
 ghost use Rattle.daemon_cpp.specs.parts.Showing.{Goes, here_seen, TellsDefinition};
 
@@ -32,7 +32,7 @@ pub fn define(
 }
 
 fn set(macros: &mut MacroTable, name: Bytes, definition: Definition) -> Result<(), Stop>
-    ensures sets { OnOk result (Sets macros.old name (Some definition) macros.new) }
+    ensures sets { OnOk result (SetsDefinition macros.old name (Some definition) macros.new) }
     ensures memory { IfErr result (λ e. e ≡ Stop.Memory) }
 {
     match macros.define(name, definition) {

@@ -1,6 +1,6 @@
 // What goes through a job, and the file that is read.
 ghost use Rattle.std.specs.Prelude.{◌≡◌, Some, IfOk, OnOk};
-ghost use Rattle.macro_defs.specs.Table.{lookup, Sets};
+ghost use Rattle.macro_defs.specs.Table.{lookup, SetsDefinition};
 ghost use Rattle.daemon_cpp.specs.Prep.{first_table, with_word};
 
 use crate::lexed_files::LexedFiles;
@@ -67,7 +67,7 @@ fn add(
     name: &[u8],
     definition: &Definition,
 ) -> Result<(), AllocError>
-    ensures { OnOk result (Sets table.old name.now (Some definition.now) table.new) }
+    ensures { OnOk result (SetsDefinition table.old name.now (Some definition.now) table.new) }
 {
     let name = Bytes::copy_of(alloc, name)?;
     let definition = definition.copy(alloc)?;

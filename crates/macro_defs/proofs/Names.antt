@@ -12,7 +12,7 @@ use Rattle.indexmap.specs.IndexSet.{insert_key}
 use Rattle.pp_tokens.specs.declared.Token.{Token}
 use Rattle.pp_tokens.specs.Marks.{is_hash, is_identifier}
 use Rattle.macro_defs.specs.Defining.{are_distinct, hashes_parameters, begins_with_parameter}
-use Rattle.macro_defs.specs.parts.Stored.{spelled}
+use Rattle.macro_defs.specs.parts.Stored.{spellings_of}
 use Rattle.macro_defs.proofs.Fronts.{front_at}
 
 from_not : (p : Bool) → false ≡ not p → p ≡ true
@@ -28,7 +28,7 @@ from_yes false is = refl
 abbrev pub same_name : Bor (List ℕ) → Bor (List ℕ) → Bool
 same_name a b = bytes_eq a.now b.now
 
-pub spelled_any : (test : List ℕ → Bool) (keys : List (Bor (List ℕ))) → list_any test (spelled keys) ≡ list_any (λ k. test k.now) keys
+pub spelled_any : (test : List ℕ → Bool) (keys : List (Bor (List ℕ))) → list_any test (spellings_of keys) ≡ list_any (λ k. test k.now) keys
 spelled_any test [] = refl
 spelled_any test (k ∷ keys) = ap (λ (b : Bool). test k.now || b) (spelled_any test keys)
 
@@ -42,13 +42,13 @@ told_already false false so = refl
 
 -- a name more in a set
 pub inserted : (keys : List (Bor (List ℕ))) (k : Bor (List ℕ)) (other : List ℕ)
-    → list_any (bytes_eq other) (spelled (insert_key same_name keys k)) ≡ (list_any (bytes_eq other) (spelled keys) || bytes_eq other k.now)
+    → list_any (bytes_eq other) (spellings_of (insert_key same_name keys k)) ≡ (list_any (bytes_eq other) (spellings_of keys) || bytes_eq other k.now)
 inserted keys k other = by (list_any (same_name k) keys) refl
   where
-    by : (b : Bool) → list_any (same_name k) keys ≡ b → list_any (bytes_eq other) (spelled (if b then keys else keys ++ k ∷ [])) ≡ (list_any (bytes_eq other) (spelled keys) || bytes_eq other k.now)
+    by : (b : Bool) → list_any (same_name k) keys ≡ b → list_any (bytes_eq other) (spellings_of (if b then keys else keys ++ k ∷ [])) ≡ (list_any (bytes_eq other) (spellings_of keys) || bytes_eq other k.now)
     by true is =
-        told_already (list_any (bytes_eq other) (spelled keys)) (bytes_eq other k.now)
-        (λ same. ap (λ n. list_any (bytes_eq n) (spelled keys)) ((bytes_eq-Decides other k.now).0 same) ∙ spelled_any (bytes_eq k.now) keys ∙ is)
+        told_already (list_any (bytes_eq other) (spellings_of keys)) (bytes_eq other k.now)
+        (λ same. ap (λ n. list_any (bytes_eq n) (spellings_of keys)) ((bytes_eq-Decides other k.now).0 same) ∙ spelled_any (bytes_eq k.now) keys ∙ is)
     by false is =
         spelled_any (bytes_eq other) (keys ++ k ∷ []) ∙ any_last (λ n. bytes_eq other n.now) keys k ∙ ap (λ (b : Bool). b || bytes_eq other k.now) (sym (spelled_any (bytes_eq other) keys))
 

@@ -4,35 +4,35 @@ use Rattle.std.specs.List.{list_any}
 use Rattle.std.proofs.lemmas.Bool.{or_parts}
 use Rattle.pp_tokens.specs.declared.Token.{Token}
 use Rattle.pp_tokens.specs.Marks.{is_comma, is_close}
-use Rattle.macro_defs.specs.Defining.{Parameters, IsParted, up_to_close, within_more, cut_at_commas, onto_first, listed, before_parameters, last_parameter, behind_names}
+use Rattle.macro_defs.specs.Defining.{Parameters, IsParted, up_to_parenthesis, within_more, cut_at_commas, onto_first_piece, listed, before_parameters, last_parameter, behind_names}
 
 -- The first `)`.
 
-close_here : (before : List Token) (t : Token) (behind : List Token) → is_close t ≡ true → list_any is_close before ≡ false → up_to_close (before ++ t ∷ behind) ≡ Some (record { within = before; rest = behind })
-unfolding up_to_close
-close_here [] t behind mark first = ap (λ (b : Bool). if b then Some (record { within = []; rest = behind }) else within_more t (up_to_close behind)) mark
+close_here : (before : List Token) (t : Token) (behind : List Token) → is_close t ≡ true → list_any is_close before ≡ false → up_to_parenthesis (before ++ t ∷ behind) ≡ Some (record { within = before; rest = behind })
+unfolding up_to_parenthesis
+close_here [] t behind mark first = ap (λ (b : Bool). if b then Some (record { within = []; rest = behind }) else within_more t (up_to_parenthesis behind)) mark
 close_here (u ∷ before) t behind mark first =
-    ap (λ (b : Bool). if b then Some (record { within = []; rest = before ++ t ∷ behind }) else within_more u (up_to_close (before ++ t ∷ behind))) (or_parts (is_close u) (list_any is_close before) first).0
+    ap (λ (b : Bool). if b then Some (record { within = []; rest = before ++ t ∷ behind }) else within_more u (up_to_parenthesis (before ++ t ∷ behind))) (or_parts (is_close u) (list_any is_close before) first).0
     ∙ ap (within_more u) (close_here before t behind mark (or_parts (is_close u) (list_any is_close before) first).1)
 
-pub closed : (tokens before behind : List Token) → IsParted is_close tokens before behind → up_to_close tokens ≡ Some (record { within = before; rest = behind })
-closed tokens before behind parted = ap up_to_close parted.whole ∙ close_here before parted.mark behind parted.passes parted.first
+pub closed : (tokens before behind : List Token) → IsParted is_close tokens before behind → up_to_parenthesis tokens ≡ Some (record { within = before; rest = behind })
+closed tokens before behind parted = ap up_to_parenthesis parted.whole ∙ close_here before parted.mark behind parted.passes parted.first
 
-pub unclosed : (tokens : List Token) → list_any is_close tokens ≡ false → up_to_close tokens ≡ None
-unfolding up_to_close
+pub unclosed : (tokens : List Token) → list_any is_close tokens ≡ false → up_to_parenthesis tokens ≡ None
+unfolding up_to_parenthesis
 unclosed [] none = refl
 unclosed (t ∷ tokens) none =
-    ap (λ (b : Bool). if b then Some (record { within = []; rest = tokens }) else within_more t (up_to_close tokens)) (or_parts (is_close t) (list_any is_close tokens) none).0
+    ap (λ (b : Bool). if b then Some (record { within = []; rest = tokens }) else within_more t (up_to_parenthesis tokens)) (or_parts (is_close t) (list_any is_close tokens) none).0
     ∙ ap (within_more t) (unclosed tokens (or_parts (is_close t) (list_any is_close tokens) none).1)
 
 -- The pieces between commas.
 
 comma_here : (before : List Token) (t : Token) (behind : List Token) → is_comma t ≡ true → list_any is_comma before ≡ false → cut_at_commas (before ++ t ∷ behind) ≡ before ∷ cut_at_commas behind
 unfolding cut_at_commas
-comma_here [] t behind mark first = ap (λ (b : Bool). if b then [] ∷ cut_at_commas behind else onto_first t (cut_at_commas behind)) mark
+comma_here [] t behind mark first = ap (λ (b : Bool). if b then [] ∷ cut_at_commas behind else onto_first_piece t (cut_at_commas behind)) mark
 comma_here (u ∷ before) t behind mark first =
-    ap (λ (b : Bool). if b then [] ∷ cut_at_commas (before ++ t ∷ behind) else onto_first u (cut_at_commas (before ++ t ∷ behind))) (or_parts (is_comma u) (list_any is_comma before) first).0
-    ∙ ap (onto_first u) (comma_here before t behind mark (or_parts (is_comma u) (list_any is_comma before) first).1)
+    ap (λ (b : Bool). if b then [] ∷ cut_at_commas (before ++ t ∷ behind) else onto_first_piece u (cut_at_commas (before ++ t ∷ behind))) (or_parts (is_comma u) (list_any is_comma before) first).0
+    ∙ ap (onto_first_piece u) (comma_here before t behind mark (or_parts (is_comma u) (list_any is_comma before) first).1)
 
 cut_once : (tokens before behind : List Token) → IsParted is_comma tokens before behind → cut_at_commas tokens ≡ before ∷ cut_at_commas behind
 cut_once tokens before behind parted = ap cut_at_commas parted.whole ∙ comma_here before parted.mark behind parted.passes parted.first
@@ -41,11 +41,11 @@ uncut : (tokens : List Token) → list_any is_comma tokens ≡ false → cut_at_
 unfolding cut_at_commas
 uncut [] none = refl
 uncut (t ∷ tokens) none =
-    ap (λ (b : Bool). if b then [] ∷ cut_at_commas tokens else onto_first t (cut_at_commas tokens)) (or_parts (is_comma t) (list_any is_comma tokens) none).0
-    ∙ ap (onto_first t) (uncut tokens (or_parts (is_comma t) (list_any is_comma tokens) none).1)
+    ap (λ (b : Bool). if b then [] ∷ cut_at_commas tokens else onto_first_piece t (cut_at_commas tokens)) (or_parts (is_comma t) (list_any is_comma tokens) none).0
+    ∙ ap (onto_first_piece t) (uncut tokens (or_parts (is_comma t) (list_any is_comma tokens) none).1)
 
 -- there is a piece at least
-onto_some : (t : Token) (pieces : List (List Token)) → onto_first t pieces ≡ [] → ⊥
+onto_some : (t : Token) (pieces : List (List Token)) → onto_first_piece t pieces ≡ [] → ⊥
 onto_some t [] is = cc
 onto_some t (p ∷ pieces) is = cc
 
@@ -54,7 +54,7 @@ unfolding cut_at_commas
 some_piece [] is = cc
 some_piece (t ∷ tokens) is = by (is_comma t) is
   where
-    by : (b : Bool) → (if b then [] ∷ cut_at_commas tokens else onto_first t (cut_at_commas tokens)) ≡ [] → ⊥
+    by : (b : Bool) → (if b then [] ∷ cut_at_commas tokens else onto_first_piece t (cut_at_commas tokens)) ≡ [] → ⊥
     by true is' = cc
     by false is' = onto_some t (cut_at_commas tokens) is'
 

@@ -13,17 +13,17 @@ use Rattle.pp_tokens.specs.Marks.{is_identifier}
 use Rattle.macro_defs.specs.declared.definition.Shape.{Shape}
 use Rattle.macro_defs.specs.MacroDefinition.{MacroDefinition, without_line}
 use Rattle.macro_defs.specs.Arguments.{argument_named, parameters_in, parameter_at}
-use Rattle.macro_defs.specs.Defining.{definition_of}
-use Rattle.macro_defs.specs.parts.Stored.{number_at, number_named, numbers_kept}
+use Rattle.macro_defs.specs.Defining.{definition_from}
+use Rattle.macro_defs.specs.parts.Stored.{number_for_name, number_named, numbers_kept}
 
 -- a name more in a map
 pub number_more : {S : Type 0} (old new : IndexMap (Bor (List ℕ)) ℕ S) (name : Bor (List ℕ)) (kept number : ℕ) → kept ≡ number
-    → ((q : Bor (List ℕ)) → number_at new q.now ≡ cond (bytes_eq name.now q.now) (Some kept) (number_at old q.now))
-    → (other : List ℕ) → number_at new other ≡ (if bytes_eq other name.now then Some number else number_at old other)
+    → ((q : Bor (List ℕ)) → number_for_name new q.now ≡ cond (bytes_eq name.now q.now) (Some kept) (number_for_name old q.now))
+    → (other : List ℕ) → number_for_name new other ≡ (if bytes_eq other name.now then Some number else number_for_name old other)
 number_more old new name kept number same updates other =
     updates (record { ref_ptr = (0, 0); now = other })
-    ∙ ap (λ (b : Bool). if b then Some kept else number_at old other) (nat_list_eq_equiv.symm name.now other)
-    ∙ ap (λ n. if bytes_eq other name.now then Some n else number_at old other) same
+    ∙ ap (λ (b : Bool). if b then Some kept else number_for_name old other) (nat_list_eq_equiv.symm name.now other)
+    ∙ ap (λ n. if bytes_eq other name.now then Some n else number_for_name old other) same
 
 -- from the first place on, all places
 pub from_first : (name : List ℕ) (params : List (List ℕ)) (place : ℕ) → place ≡ 0 → position_from (bytes_eq name) place (drop place params) ≡ position (bytes_eq name) params
@@ -39,7 +39,7 @@ mapped-more f xs i x ys y now within is before told made =
 
 -- where a map has the number of the first parameter of each name, it tells which parameter each token names
 told_by : {S : Type 0} (numbers : IndexMap (Bor (List ℕ)) ℕ S) (params : List (List ℕ)) (body : List Token)
-    → ((name : List ℕ) → number_at numbers name ≡ position (bytes_eq name) params) → map (number_named numbers) body ≡ map (argument_named params) body
+    → ((name : List ℕ) → number_for_name numbers name ≡ position (bytes_eq name) params) → map (number_named numbers) body ≡ map (argument_named params) body
 told_by numbers params [] tells = refl
 told_by numbers params (t ∷ body) tells =
     ap (λ o. (if is_identifier t then o else None) ∷ map (number_named numbers) body) (tells t.text)
@@ -51,7 +51,7 @@ kept-some [] body some = absurd (omega (arith, some))
 kept-some (name ∷ params) body some = refl
 
 pub kept-told : {S E A : Type 0} (numbers : IndexMap (Bor (List ℕ)) ℕ S) (params : List (List ℕ)) (body : List Token) → 0 < length params
-    → ((name : List ℕ) → number_at numbers name ≡ position (bytes_eq name) params)
+    → ((name : List ℕ) → number_for_name numbers name ≡ position (bytes_eq name) params)
     → (result : Result (Vec (Option ℕ) A) E) → IfOk result (λ named. named.items ≡ map (number_named numbers) body) → IfOk result (λ named. named.items ≡ numbers_kept params body)
 kept-told numbers params body some tells (Ok named) is = is ∙ told_by numbers params body tells ∙ kept-some params body some
 kept-told numbers params body some tells (Err e) is = tt
@@ -70,7 +70,7 @@ kept_at [] body place number within is = absurd (omega (arith, within))
 kept_at (name ∷ names) body place number within is = parameter (name ∷ names) body place number within is
 
 module _ (shape : Shape) (body : List Token) (named : List (Option ℕ)) (d : MacroDefinition) (place : ℕ)
-    (view : definition_of shape body ≡ d) (kept : named ≡ numbers_kept (parameters_in shape) body) where
+    (view : definition_from shape body ≡ d) (kept : named ≡ numbers_kept (parameters_in shape) body) where
   pub kept_here : (number : Option ℕ) → place < length named → number ≡ get_or named place number → number ≡ parameter_at d place
   kept_here number within is =
       kept_at (parameters_in shape) body place number (subst (λ ns. place < length ns) kept within) (is ∙ ap (λ ns. get_or ns place number) kept)

@@ -6,7 +6,7 @@ use Rattle.std.specs.Cmp.Lexicographic.{pointwise}
 use Rattle.pp_tokens.specs.declared.Token.{Token}
 use Rattle.macro_defs.specs.declared.definition.Shape.{Shape}
 use Rattle.macro_defs.specs.MacroDefinition.{MacroDefinition, without_line}
-use Rattle.macro_defs.specs.Defining.{definition_of}
+use Rattle.macro_defs.specs.Defining.{definition_from}
 use Rattle.macro_defs.specs.Sameness.{is_same_token, is_same_shape, is_same_definition, is_same_definition-Decides}
 
 -- tokens of the same kind, spelling and space
@@ -20,18 +20,18 @@ like_tokens (t ∷ one) [] = refl
 like_tokens (t ∷ one) (u ∷ other) = ap (λ (b : Bool). is_like t u && b) (like_tokens one other)
 
 -- forms that are the same: the tokens tell
-pub by_tokens : (s s' : Shape) (ts ts' : List Token) (a b : MacroDefinition) (result : Bool) → definition_of s ts ≡ a → definition_of s' ts' ≡ b
+pub by_tokens : (s s' : Shape) (ts ts' : List Token) (a b : MacroDefinition) (result : Bool) → definition_from s ts ≡ a → definition_from s' ts' ≡ b
     → true ≡ is_same_shape s s' → result ≡ pointwise is_like ts ts' → result ≡ is_same_definition a b
 by_tokens s s' ts ts' a b result one other same is =
     is ∙ like_tokens ts ts' ∙ ap (λ (p : Bool). p && pointwise is_same_token (map without_line ts) (map without_line ts')) same
-    ∙ ap (λ d. is_same_definition d (definition_of s' ts')) one ∙ ap (is_same_definition a) other
+    ∙ ap (λ d. is_same_definition d (definition_from s' ts')) one ∙ ap (is_same_definition a) other
 
 -- forms that aren't
-pub by_shape : (s s' : Shape) (ts ts' : List Token) (a b : MacroDefinition) → definition_of s ts ≡ a → definition_of s' ts' ≡ b
+pub by_shape : (s s' : Shape) (ts ts' : List Token) (a b : MacroDefinition) → definition_from s ts ≡ a → definition_from s' ts' ≡ b
     → false ≡ is_same_shape s s' → false ≡ is_same_definition a b
 by_shape s s' ts ts' a b one other apart =
     ap (λ (p : Bool). p && pointwise is_same_token (map without_line ts) (map without_line ts')) apart
-    ∙ ap (λ d. is_same_definition d (definition_of s' ts')) one ∙ ap (is_same_definition a) other
+    ∙ ap (λ d. is_same_definition d (definition_from s' ts')) one ∙ ap (is_same_definition a) other
 
 -- what the test computes is equality
 pub equal_so : (a b : MacroDefinition) (result : Bool) → result ≡ is_same_definition a b → Decides result (a ≡ b)

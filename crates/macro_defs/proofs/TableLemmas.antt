@@ -7,8 +7,8 @@ use Rattle.std.specs.Option.{option_copied, option_flatten}
 use Rattle.std.proofs.lemmas.Cmp.{nat_list_eq_equiv}
 use Rattle.indexmap.specs.IndexMap.{insert_entry}
 use Rattle.macro_defs.specs.MacroDefinition.{MacroDefinition}
-use Rattle.macro_defs.specs.Table.{Entries, lookup, names_of, with_definition, Sets}
-use Rattle.macro_defs.specs.parts.Stored.{seen}
+use Rattle.macro_defs.specs.Table.{TableEntries, lookup, names_ever_defined, with_definition, SetsDefinition}
+use Rattle.macro_defs.specs.parts.Stored.{entries_of_map}
 
 abbrev Defined : Type 0
 Defined = Option MacroDefinition
@@ -41,7 +41,7 @@ nothing k n = by (bytes_eq k n)
     by false = refl
 
 -- a definition that is put into a table is the name's, and each other name keeps its own
-pub put_sets : (es : Entries) (k : List ℕ) (d : Defined) → Sets es k d (with_definition es k d)
+pub put_sets : (es : TableEntries) (k : List ℕ) (d : Defined) → SetsDefinition es k d (with_definition es k d)
 unfolding lookup
 put_sets [] k d n = ap (λ (b : Bool). if b then d else None) (nat_list_eq_equiv.symm n k)
 put_sets (e ∷ es) k d n = by (bytes_eq k e.0) refl (put_sets es k d n)
@@ -52,7 +52,7 @@ put_sets (e ∷ es) k d n = by (bytes_eq k e.0) refl (put_sets es k d n)
     by false apart rest = ap (λ (r : Defined). if bytes_eq n e.0 then e.1 else r) rest ∙ there k e.0 n d e.1 (lookup es n) apart
 
 -- the same of a call that may fail
-pub put_sets_ok : {E : Type 0} (result : Result (Unit {0}) E) (old new : Entries) (k : List ℕ) (d : Defined) → OnOk result (new ≡ with_definition old k d) → OnOk result (Sets old k d new)
+pub put_sets_ok : {E : Type 0} (result : Result (Unit {0}) E) (old new : TableEntries) (k : List ℕ) (d : Defined) → OnOk result (new ≡ with_definition old k d) → OnOk result (SetsDefinition old k d new)
 put_sets_ok (Ok u) old new k d is = λ n. ap (λ t. lookup t n) is ∙ put_sets old k d n
 put_sets_ok (Err e) old new k d is = tt
 
@@ -68,56 +68,56 @@ module _ {A : Type 0} where
   is_key name k = bytes_eq name k.items
 
   -- what a map holds after an insertion, as it is seen
-  pub seen_inserted : (es : Stored A) (k : Vec ℕ A) (d : Defined) → seen (insert_entry same_key es k d) ≡ with_definition (seen es) k.items d
+  pub seen_inserted : (es : Stored A) (k : Vec ℕ A) (d : Defined) → entries_of_map (insert_entry same_key es k d) ≡ with_definition (entries_of_map es) k.items d
   seen_inserted [] k d = refl
   seen_inserted (e ∷ es) k d = by (same_key k e.0) (seen_inserted es k d)
     where
-      by : (b : Bool) → seen (insert_entry same_key es k d) ≡ with_definition (seen es) k.items d
-          → seen (if b then (e.0, d) ∷ es else e ∷ insert_entry same_key es k d) ≡ (if b then (e.0.items, d) ∷ seen es else (e.0.items, e.1) ∷ with_definition (seen es) k.items d)
+      by : (b : Bool) → entries_of_map (insert_entry same_key es k d) ≡ with_definition (entries_of_map es) k.items d
+          → entries_of_map (if b then (e.0, d) ∷ es else e ∷ insert_entry same_key es k d) ≡ (if b then (e.0.items, d) ∷ entries_of_map es else (e.0.items, e.1) ∷ with_definition (entries_of_map es) k.items d)
       by true rest = refl
-      by false rest = ap (λ (r : Entries). (e.0.items, e.1) ∷ r) rest
+      by false rest = ap (λ (r : TableEntries). (e.0.items, e.1) ∷ r) rest
 
   -- a definition that is written over is the name's, and each other name keeps its own
-  pub written_sets : (es : Stored A) (k : List ℕ) → Sets (seen es) k None (seen (map.set_value (is_key k) es None))
+  pub written_sets : (es : Stored A) (k : List ℕ) → SetsDefinition (entries_of_map es) k None (entries_of_map (map.set_value (is_key k) es None))
   unfolding lookup
   written_sets [] k n = nothing k n
   written_sets (e ∷ es) k n = by (is_key k e.0) refl (written_sets es k n)
     where
-      by : (b : Bool) → is_key k e.0 ≡ b → lookup (seen (map.set_value (is_key k) es None)) n ≡ (if bytes_eq k n then None else lookup (seen es) n)
-          → lookup (seen (if b then (e.0, None) ∷ es else e ∷ map.set_value (is_key k) es None)) n ≡ (if bytes_eq k n then None else (if bytes_eq n e.0.items then e.1 else lookup (seen es) n))
-      by true same rest = here k e.0.items n None e.1 (lookup (seen es) n) same
-      by false apart rest = ap (λ (r : Defined). if bytes_eq n e.0.items then e.1 else r) rest ∙ there k e.0.items n None e.1 (lookup (seen es) n) apart
+      by : (b : Bool) → is_key k e.0 ≡ b → lookup (entries_of_map (map.set_value (is_key k) es None)) n ≡ (if bytes_eq k n then None else lookup (entries_of_map es) n)
+          → lookup (entries_of_map (if b then (e.0, None) ∷ es else e ∷ map.set_value (is_key k) es None)) n ≡ (if bytes_eq k n then None else (if bytes_eq n e.0.items then e.1 else lookup (entries_of_map es) n))
+      by true same rest = here k e.0.items n None e.1 (lookup (entries_of_map es) n) same
+      by false apart rest = ap (λ (r : Defined). if bytes_eq n e.0.items then e.1 else r) rest ∙ there k e.0.items n None e.1 (lookup (entries_of_map es) n) apart
 
   -- a definition that is written over leaves the names
-  pub written_names : (es : Stored A) (k : List ℕ) → names_of (seen (map.set_value (is_key k) es None)) ≡ names_of (seen es)
+  pub written_names : (es : Stored A) (k : List ℕ) → names_ever_defined (entries_of_map (map.set_value (is_key k) es None)) ≡ names_ever_defined (entries_of_map es)
   written_names [] k = refl
   written_names (e ∷ es) k = by (is_key k e.0) (written_names es k)
     where
-      by : (b : Bool) → names_of (seen (map.set_value (is_key k) es None)) ≡ names_of (seen es)
-          → names_of (seen (if b then (e.0, None) ∷ es else e ∷ map.set_value (is_key k) es None)) ≡ e.0.items ∷ names_of (seen es)
+      by : (b : Bool) → names_ever_defined (entries_of_map (map.set_value (is_key k) es None)) ≡ names_ever_defined (entries_of_map es)
+          → names_ever_defined (entries_of_map (if b then (e.0, None) ∷ es else e ∷ map.set_value (is_key k) es None)) ≡ e.0.items ∷ names_ever_defined (entries_of_map es)
       by true rest = refl
       by false rest = ap (λ (names : List (List ℕ)). e.0.items ∷ names) rest
 
   -- a map that lacks the name
-  pub absent_sets : (es : Stored A) (k : List ℕ) → map.lookup (is_key k) es ≡ None → Sets (seen es) k None (seen es)
+  pub absent_sets : (es : Stored A) (k : List ℕ) → map.lookup (is_key k) es ≡ None → SetsDefinition (entries_of_map es) k None (entries_of_map es)
   unfolding lookup
   absent_sets [] k none n = nothing k n
   absent_sets (e ∷ es) k none n = by (is_key k e.0) refl none (λ left. absent_sets es k left n)
     where
       by : (b : Bool) → is_key k e.0 ≡ b → (if b then Some e.1 else map.lookup (is_key k) es) ≡ None
-          → (map.lookup (is_key k) es ≡ None → lookup (seen es) n ≡ (if bytes_eq k n then None else lookup (seen es) n))
-          → (if bytes_eq n e.0.items then e.1 else lookup (seen es) n) ≡ (if bytes_eq k n then None else (if bytes_eq n e.0.items then e.1 else lookup (seen es) n))
+          → (map.lookup (is_key k) es ≡ None → lookup (entries_of_map es) n ≡ (if bytes_eq k n then None else lookup (entries_of_map es) n))
+          → (if bytes_eq n e.0.items then e.1 else lookup (entries_of_map es) n) ≡ (if bytes_eq k n then None else (if bytes_eq n e.0.items then e.1 else lookup (entries_of_map es) n))
       by true same absent rest = cc
-      by false apart absent rest = ap (λ (r : Defined). if bytes_eq n e.0.items then e.1 else r) (rest absent) ∙ there k e.0.items n None e.1 (lookup (seen es) n) apart
+      by false apart absent rest = ap (λ (r : Defined). if bytes_eq n e.0.items then e.1 else r) (rest absent) ∙ there k e.0.items n None e.1 (lookup (entries_of_map es) n) apart
 
   -- a look-up in a map
-  pub seen_lookup : (es : Stored A) (name : List ℕ) → lookup (seen es) name ≡ option_flatten (map.lookup (is_key name) es)
+  pub seen_lookup : (es : Stored A) (name : List ℕ) → lookup (entries_of_map es) name ≡ option_flatten (map.lookup (is_key name) es)
   unfolding lookup
   seen_lookup [] name = refl
   seen_lookup (e ∷ es) name = by (is_key name e.0) (seen_lookup es name)
     where
-      by : (b : Bool) → lookup (seen es) name ≡ option_flatten (map.lookup (is_key name) es)
-          → (if b then e.1 else lookup (seen es) name) ≡ option_flatten (if b then Some e.1 else map.lookup (is_key name) es)
+      by : (b : Bool) → lookup (entries_of_map es) name ≡ option_flatten (map.lookup (is_key name) es)
+          → (if b then e.1 else lookup (entries_of_map es) name) ≡ option_flatten (if b then Some e.1 else map.lookup (is_key name) es)
       by true rest = refl
       by false rest = rest
 
@@ -127,5 +127,5 @@ lent None is told found same = same ∙ sym found
 lent (Some d) is told found same = same ∙ sym found
 
 -- tables that are equal to two others
-pub sets_along : (es now old new : Entries) (k : List ℕ) (d : Defined) → es ≡ old → new ≡ now → Sets es k d now → Sets old k d new
+pub sets_along : (es now old new : TableEntries) (k : List ℕ) (d : Defined) → es ≡ old → new ≡ now → SetsDefinition es k d now → SetsDefinition old k d new
 sets_along es now old new k d before after sets n = ap (λ t. lookup t n) after ∙ sets n ∙ ap (λ t. if bytes_eq k n then d else lookup t n) before

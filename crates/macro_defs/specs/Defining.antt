@@ -16,13 +16,13 @@ pub record Named : Type 0 where
 
 -- the identifiers that name no macro of a program: `defined`, the names of the preprocessor's own, and that of a variable
 -- argument (6.10.8 p4, 6.10.3 p5)
-abbrev pub is_reserved : List ℕ → Bool
-is_reserved name =
+abbrev pub is_reserved_name : List ℕ → Bool
+is_reserved_name name =
     list_any (bytes_eq name) (codes "defined" ∷ codes "__FILE__" ∷ codes "__LINE__" ∷ codes "__VA_ARGS__" ∷ codes "__has_include" ∷ [])
 
 -- whether a token may name a macro, in `#define` and in `#undef`
 abbrev pub names_macro : Token → Bool
-names_macro t = is_identifier t && not (is_reserved t.text)
+names_macro t = is_identifier t && not (is_reserved_name t.text)
 
 -- Parameters (6.10.3 p10).
 
@@ -35,19 +35,19 @@ abbrev pub within_more : Token → Option Enclosed → Option Enclosed
 within_more t None = None
 within_more t (Some e) = Some (record e { within = t ∷ e.within })
 
-unfoldable pub up_to_close : List Token → Option Enclosed
-up_to_close [] = None
-up_to_close (t ∷ ts) = if is_close t then Some (record { within = []; rest = ts }) else within_more t (up_to_close ts)
+unfoldable pub up_to_parenthesis : List Token → Option Enclosed
+up_to_parenthesis [] = None
+up_to_parenthesis (t ∷ ts) = if is_close t then Some (record { within = []; rest = ts }) else within_more t (up_to_parenthesis ts)
 
 -- a token more at the front of the first piece
-abbrev pub onto_first : Token → List (List Token) → List (List Token)
-onto_first t [] = (t ∷ []) ∷ []
-onto_first t (piece ∷ pieces) = (t ∷ piece) ∷ pieces
+abbrev pub onto_first_piece : Token → List (List Token) → List (List Token)
+onto_first_piece t [] = (t ∷ []) ∷ []
+onto_first_piece t (piece ∷ pieces) = (t ∷ piece) ∷ pieces
 
 -- the tokens, cut at each comma
 unfoldable pub cut_at_commas : List Token → List (List Token)
 cut_at_commas [] = [] ∷ []
-cut_at_commas (t ∷ ts) = if is_comma t then [] ∷ cut_at_commas ts else onto_first t (cut_at_commas ts)
+cut_at_commas (t ∷ ts) = if is_comma t then [] ∷ cut_at_commas ts else onto_first_piece t (cut_at_commas ts)
 
 -- The names of parameters in order. Where the macro is variadic, the last is that of its variable argument: `__VA_ARGS__`
 -- for `...` (6.10.3 p12), or its own for `NAME...` (GNU).
@@ -122,13 +122,13 @@ unfoldable pub hashes_parameters : List (List ℕ) → List Token → Bool
 hashes_parameters names [] = true
 hashes_parameters names (t ∷ ts) = (not (is_hash t) || begins_with_parameter names ts) && hashes_parameters names ts
 
-abbrev pub definition_of : Shape → List Token → MacroDefinition
-definition_of shape body = record { shape = shape; body = map without_line body }
+abbrev pub definition_from : Shape → List Token → MacroDefinition
+definition_from shape body = record { shape = shape; body = map without_line body }
 
 abbrev pub with_body : List ℕ → Shape → Bool → List Token → Result Named DefineError
 with_body name shape hashes body =
     if begins_with_pasting body || ends_with_pasting body then Err error.PasteEnd
-    else (if hashes then Ok (record { name = name; definition = definition_of shape body }) else Err error.Hash)
+    else (if hashes then Ok (record { name = name; definition = definition_from shape body }) else Err error.Hash)
 
 -- a function-like macro, by its parameters and its replacement list
 abbrev pub function_of : List ℕ → Option Parameters → List Token → Result Named DefineError
@@ -144,7 +144,7 @@ enclosed_of name (Some e) = function_of name (parameters_of e.within) e.rest
 abbrev pub after_name : List ℕ → List Token → Result Named DefineError
 after_name name [] = with_body name Object true []
 after_name name (t ∷ ts) =
-    if is_open t && not t.space then enclosed_of name (up_to_close ts) else with_body name Object true (t ∷ ts)
+    if is_open t && not t.space then enclosed_of name (up_to_parenthesis ts) else with_body name Object true (t ∷ ts)
 
 -- What the tokens behind `#define` define, or the first error: of the name, the parameters, a `##` at an end, a `#` that no
 -- parameter follows.
@@ -153,12 +153,12 @@ defined_by [] = Err error.Name
 defined_by (t ∷ ts) = if names_macro t then after_name t.text ts else Err error.Name
 
 -- an error of code tells this reading; want of memory tells nothing
-abbrev pub Refuses : DefineError → Result Named DefineError → Type 0
-Refuses error.Memory r = Unit {0}
-Refuses error.Name r = r ≡ Err error.Name
-Refuses error.Params r = r ≡ Err error.Params
-Refuses error.PasteEnd r = r ≡ Err error.PasteEnd
-Refuses error.Hash r = r ≡ Err error.Hash
+abbrev pub RefusesDefinition : DefineError → Result Named DefineError → Type 0
+RefusesDefinition error.Memory r = Unit {0}
+RefusesDefinition error.Name r = r ≡ Err error.Name
+RefusesDefinition error.Params r = r ≡ Err error.Params
+RefusesDefinition error.PasteEnd r = r ≡ Err error.PasteEnd
+RefusesDefinition error.Hash r = r ≡ Err error.Hash
 
 -- the same of parameters, which are wrong in one way only
 abbrev pub RefusesParameters : DefineError → Option Parameters → Type 0

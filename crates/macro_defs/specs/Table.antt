@@ -7,15 +7,15 @@ use Rattle.macro_defs.specs.MacroDefinition.{MacroDefinition}
 
 -- A table as contracts see it: each name that was ever defined, in the order of the first definitions, with its definition,
 -- or None where it was undefined since.
-abbrev pub Entries : Type 0
-Entries = List (List ℕ × Option MacroDefinition)
+abbrev pub TableEntries : Type 0
+TableEntries = List (List ℕ × Option MacroDefinition)
 
 -- the names that were ever defined, in the order of the first definitions
-abbrev pub names_of : Entries → List (List ℕ)
-names_of entries = map (λ e. e.0) entries
+abbrev pub names_ever_defined : TableEntries → List (List ℕ)
+names_ever_defined entries = map (λ e. e.0) entries
 
 -- the definition of a name, unless it was undefined since
-unfoldable pub lookup : Entries → List ℕ → Option MacroDefinition
+unfoldable pub lookup : TableEntries → List ℕ → Option MacroDefinition
 lookup [] name = None
 lookup (e ∷ es) name = if bytes_eq name e.0 then e.1 else lookup es name
 
@@ -24,15 +24,15 @@ abbrev pub is_always_defined : List ℕ → Bool
 is_always_defined name = bytes_eq name (codes "__FILE__") || (bytes_eq name (codes "__LINE__") || bytes_eq name (codes "__has_include"))
 
 -- whether a name is defined, as `#ifdef`, `#ifndef` and the operator `defined` ask (6.10.1)
-abbrev pub is_defined : Entries → List ℕ → Bool
-is_defined entries name = is_some (lookup entries name) || is_always_defined name
+abbrev pub is_defined_in : TableEntries → List ℕ → Bool
+is_defined_in entries name = is_some (lookup entries name) || is_always_defined name
 
 -- a table is another one with this for a name
-abbrev pub Sets : Entries → List ℕ → Option MacroDefinition → Entries → Type 0
-Sets old name definition new = (n : List ℕ) → lookup new n ≡ (if bytes_eq name n then definition else lookup old n)
+abbrev pub SetsDefinition : TableEntries → List ℕ → Option MacroDefinition → TableEntries → Type 0
+SetsDefinition old name definition new = (n : List ℕ) → lookup new n ≡ (if bytes_eq name n then definition else lookup old n)
 
 -- the table after a definition: a name that stands there keeps its place, and another goes last
-abbrev pub with_definition : Entries → List ℕ → Option MacroDefinition → Entries
+abbrev pub with_definition : TableEntries → List ℕ → Option MacroDefinition → TableEntries
 with_definition [] name definition = (name, definition) ∷ []
 with_definition (e ∷ es) name definition = if bytes_eq name e.0 then (e.0, definition) ∷ es else e ∷ with_definition es name definition
 
@@ -45,7 +45,7 @@ one_token kind spelling = Some (record {
 
 -- the macros that every translation begins with (6.10.8.1); date and time are those of the epoch, so that a text depends on
 -- its files alone
-abbrev pub initial_entries : Entries
+abbrev pub initial_entries : TableEntries
 initial_entries =
     (codes "__STDC__", one_token Number (codes "1"))
     ∷ (codes "__STDC_VERSION__", one_token Number (codes "201710L"))

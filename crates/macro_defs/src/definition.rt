@@ -43,7 +43,7 @@ impl Model for Definition {
 
 impl Definition {
     ghost use Rattle.std.specs.Prelude.{◌≡◌, map, IfOk};
-    ghost use Rattle.macro_defs.specs.Defining.{definition_of};
+    ghost use Rattle.macro_defs.specs.Defining.{definition_from};
     ghost use Rattle.macro_defs.specs.MacroDefinition.{without_line};
     ghost use Rattle.macro_defs.specs.Arguments.{parameter_at};
 
@@ -52,7 +52,7 @@ impl Definition {
     /// The tokens of a macro with parameters are looked up among these here, once: time is linear in both lists, on average. No
     /// memory is taken where there are no parameters. The only error is want of memory, which is also what more than 2^32 parameters give.
     pub fn new(alloc: Global, shape: Shape, body: List<Token>) -> Result<Definition, AllocError>
-        ensures { IfOk result (λ d. d ≡ definition_of shape body) }
+        ensures { IfOk result (λ d. d ≡ definition_from shape body) }
     {
         let named = numbers_in(alloc, &shape, body.as_slice())?;
         Ok(Definition { shape, body, named })

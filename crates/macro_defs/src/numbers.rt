@@ -1,7 +1,7 @@
 // Which parameter each token of a replacement list names (ISO C 6.10.3.1 paragraph 1).
 ghost use Rattle.std.specs.Prelude.{◌≡◌, ◌<◌, ◌≤◌, ℕ, List, Some, map, length, if◌then◌else◌, position, bytes_eq, IfOk, OnOk, IfSome};
 ghost use Rattle.macro_defs.specs.Arguments.{argument_named, parameters_in};
-ghost use Rattle.macro_defs.specs.parts.Stored.{number_at, number_named, numbers_kept};
+ghost use Rattle.macro_defs.specs.parts.Stored.{number_for_name, number_named, numbers_kept};
 
 use crate::Shape;
 use base_types::Bytes;
@@ -106,7 +106,7 @@ fn looked_up(numbers: &IndexMap<&[u8], u32>, token: &Token) -> Option<u32>
 
 // For each name the number of the first parameter that has it.
 fn first_numbers(alloc: Global, params: &[Bytes]) -> Result<IndexMap<&[u8], u32>, AllocError>
-    ensures { IfOk result (λ numbers. (name : List ℕ) → number_at numbers name ≡ position (bytes_eq name) params.now) }
+    ensures { IfOk result (λ numbers. (name : List ℕ) → number_for_name numbers name ≡ position (bytes_eq name) params.now) }
 {
     let mut numbers = IndexMap::new(alloc);
     for place in (0..params.len()).rev() {
@@ -121,7 +121,7 @@ fn put_number<'n>(
     name: &'n [u8],
     number: usize,
 ) -> Result<(), AllocError>
-    ensures { OnOk result ((other : List ℕ) → number_at numbers.new other ≡ (if bytes_eq other name.now then Some number else number_at numbers.old other)) }
+    ensures { OnOk result ((other : List ℕ) → number_for_name numbers.new other ≡ (if bytes_eq other name.now then Some number else number_for_name numbers.old other)) }
 {
     let Ok(number) = u32::try_from(number) else {
         return Err(AllocError);

@@ -2,7 +2,7 @@
 ghost use Rattle.std.specs.Prelude.{◌≡◌, ◌++◌, ◌∷◌, [], ℕ, List, not, ◌||◌, codes, bytes_eq, IfOk, IfErr, OnOk, MatchOption, Some, None};
 ghost use Rattle.std.specs.List.{list_any};
 ghost use Rattle.std.specs.Option.{option_flatten};
-ghost use Rattle.macro_defs.specs.parts.Stored.{spelled};
+ghost use Rattle.macro_defs.specs.parts.Stored.{spellings_of};
 ghost use Rattle.macro_defs.specs.Defining as spec;
 ghost use Rattle.macro_defs.specs.Defining.{Parameters, RefusesParameters, before_parameters, last_parameter, cut_at_commas, is_written_reserved};
 
@@ -139,7 +139,7 @@ fn are_distinct(alloc: Global, names: &[Bytes]) -> Result<bool, AllocError>
 
 // The names, for look-ups.
 pub(crate) fn known_names(alloc: Global, names: &[Bytes]) -> Result<IndexSet<&[u8]>, AllocError>
-    ensures { IfOk result (λ known. (name : List ℕ) → list_any (bytes_eq name) (spelled known.keys) ≡ list_any (bytes_eq name) names.now) }
+    ensures { IfOk result (λ known. (name : List ℕ) → list_any (bytes_eq name) (spellings_of known.keys) ≡ list_any (bytes_eq name) names.now) }
 {
     let mut known = IndexSet::new(alloc);
     for name in names {
@@ -150,8 +150,8 @@ pub(crate) fn known_names(alloc: Global, names: &[Bytes]) -> Result<IndexSet<&[u
 
 // Adds a name, and tells whether it wasn't there.
 fn add_name<'n>(known: &mut IndexSet<&'n [u8]>, name: &'n Bytes) -> Result<bool, AllocError>
-    ensures new { IfOk result (λ new. new ≡ not (list_any (bytes_eq name.now) (spelled known.old.keys))) }
-    ensures known { OnOk result ((other : List ℕ) → list_any (bytes_eq other) (spelled known.new.keys) ≡ (list_any (bytes_eq other) (spelled known.old.keys) || bytes_eq other name.now)) }
+    ensures new { IfOk result (λ new. new ≡ not (list_any (bytes_eq name.now) (spellings_of known.old.keys))) }
+    ensures known { OnOk result ((other : List ℕ) → list_any (bytes_eq other) (spellings_of known.new.keys) ≡ (list_any (bytes_eq other) (spellings_of known.old.keys) || bytes_eq other name.now)) }
 {
     match known.insert(name.as_slice()) {
         Ok(new) => Ok(new),
@@ -161,7 +161,7 @@ fn add_name<'n>(known: &mut IndexSet<&'n [u8]>, name: &'n Bytes) -> Result<bool,
 
 // Whether a name is one of these.
 pub(crate) fn holds(known: &IndexSet<&[u8]>, name: &[u8]) -> bool
-    ensures { result ≡ list_any (bytes_eq name.now) (spelled known.now.keys) }
+    ensures { result ≡ list_any (bytes_eq name.now) (spellings_of known.now.keys) }
 {
     known.contains(name)
 }

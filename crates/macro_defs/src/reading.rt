@@ -1,7 +1,7 @@
 // Reading a `#define` line.
 ghost use Rattle.std.specs.Prelude.{◌≡◌, ℕ, List, IfOk, IfErr, Ok};
 ghost use Rattle.macro_defs.specs.Defining as spec;
-ghost use Rattle.macro_defs.specs.Defining.{defined_by, up_to_close, Refuses};
+ghost use Rattle.macro_defs.specs.Defining.{defined_by, up_to_parenthesis, RefusesDefinition};
 
 use crate::marks::{begins_parameters, parted};
 use crate::params::parameters_of;
@@ -21,7 +21,7 @@ pub fn names_macro(token: &Token) -> bool
 
 // Whether an identifier names no macro of a program.
 fn is_reserved(name: &[u8]) -> bool
-    ensures { result ≡ spec.is_reserved name.now }
+    ensures { result ≡ spec.is_reserved_name name.now }
 {
     name == b"defined".as_slice()
         || name == b"__FILE__".as_slice()
@@ -34,7 +34,7 @@ fn is_reserved(name: &[u8]) -> bool
 /// spelling is copied once. Time is linear in the tokens, on average.
 pub fn read_define(alloc: Global, rest: &[Token]) -> Result<(Bytes, Definition), DefineError>
     ensures ok { IfOk result (λ d. defined_by rest.now ≡ Ok (record { name = d.0; definition = d.1 })) }
-    ensures err { IfErr result (λ e. Refuses e (defined_by rest.now)) }
+    ensures err { IfErr result (λ e. RefusesDefinition e (defined_by rest.now)) }
 {
     let [name, behind @ ..] = rest else {
         return Err(DefineError::Name);
@@ -50,7 +50,7 @@ pub fn read_define(alloc: Global, rest: &[Token]) -> Result<(Bytes, Definition),
 // What the tokens behind the name define.
 fn after_name(alloc: Global, behind: &[Token]) -> Result<Definition, DefineError>
     ensures ok { IfOk result (λ d. (name : List ℕ) → spec.after_name name behind.now ≡ Ok (record { name = name; definition = d })) }
-    ensures err { IfErr result (λ e. (name : List ℕ) → Refuses e (spec.after_name name behind.now)) }
+    ensures err { IfErr result (λ e. (name : List ℕ) → RefusesDefinition e (spec.after_name name behind.now)) }
 {
     let [first, enclosed @ ..] = behind else {
         return with_body(alloc, Shape::Object, true, behind);
@@ -63,8 +63,8 @@ fn after_name(alloc: Global, behind: &[Token]) -> Result<Definition, DefineError
 
 // What the tokens behind the `(` define.
 fn enclosed_of(alloc: Global, enclosed: &[Token]) -> Result<Definition, DefineError>
-    ensures ok { IfOk result (λ d. (name : List ℕ) → spec.enclosed_of name (up_to_close enclosed.now) ≡ Ok (record { name = name; definition = d })) }
-    ensures err { IfErr result (λ e. (name : List ℕ) → Refuses e (spec.enclosed_of name (up_to_close enclosed.now))) }
+    ensures ok { IfOk result (λ d. (name : List ℕ) → spec.enclosed_of name (up_to_parenthesis enclosed.now) ≡ Ok (record { name = name; definition = d })) }
+    ensures err { IfErr result (λ e. (name : List ℕ) → RefusesDefinition e (spec.enclosed_of name (up_to_parenthesis enclosed.now))) }
 {
     let Some((within, body)) = parted(enclosed, b")") else {
         return Err(DefineError::Params);
@@ -75,7 +75,7 @@ fn enclosed_of(alloc: Global, enclosed: &[Token]) -> Result<Definition, DefineEr
 // What the tokens between the parentheses and those behind them define.
 fn function_of(alloc: Global, within: &[Token], body: &[Token]) -> Result<Definition, DefineError>
     ensures ok { IfOk result (λ d. (name : List ℕ) → spec.function_of name (spec.parameters_of within.now) body.now ≡ Ok (record { name = name; definition = d })) }
-    ensures err { IfErr result (λ e. (name : List ℕ) → Refuses e (spec.function_of name (spec.parameters_of within.now) body.now)) }
+    ensures err { IfErr result (λ e. (name : List ℕ) → RefusesDefinition e (spec.function_of name (spec.parameters_of within.now) body.now)) }
 {
     let (params, variadic) = parameters_of(alloc, within)?;
     let hashes = hashes_parameters(alloc, params.as_slice(), body)?;

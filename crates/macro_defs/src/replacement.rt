@@ -1,8 +1,8 @@
 // Replacement lists (ISO C 6.10.3).
 ghost use Rattle.std.specs.Prelude.{◌≡◌, ℕ, List, IfOk, IfErr, Ok};
-ghost use Rattle.macro_defs.specs.parts.Stored.{spelled};
+ghost use Rattle.macro_defs.specs.parts.Stored.{spellings_of};
 ghost use Rattle.macro_defs.specs.Defining as spec;
-ghost use Rattle.macro_defs.specs.Defining.{Refuses};
+ghost use Rattle.macro_defs.specs.Defining.{RefusesDefinition};
 
 use crate::copies::copy_tokens;
 use crate::params::{holds, known_names};
@@ -20,7 +20,7 @@ pub(crate) fn with_body(
     body: &[Token],
 ) -> Result<Definition, DefineError>
     ensures ok { IfOk result (λ d. (name : List ℕ) → spec.with_body name shape hashes body.now ≡ Ok (record { name = name; definition = d })) }
-    ensures err { IfErr result (λ e. (name : List ℕ) → Refuses e (spec.with_body name shape hashes body.now)) }
+    ensures err { IfErr result (λ e. (name : List ℕ) → RefusesDefinition e (spec.with_body name shape hashes body.now)) }
 {
     if begins_with_pasting(body) {
         return Err(DefineError::PasteEnd);
@@ -67,7 +67,7 @@ pub(crate) fn hashes_parameters(
 }
 
 fn hashes_known(known: &IndexSet<&[u8]>, body: &[Token]) -> bool
-    ensures { result ≡ spec.hashes_parameters (spelled known.now.keys) body.now }
+    ensures { result ≡ spec.hashes_parameters (spellings_of known.now.keys) body.now }
 {
     for (i, token) in body.iter().enumerate() {
         if is_wrong_hash(known, token, &body[i + 1..]) {
@@ -79,13 +79,13 @@ fn hashes_known(known: &IndexSet<&[u8]>, body: &[Token]) -> bool
 
 // Whether the token is a `#` that no parameter follows.
 fn is_wrong_hash(known: &IndexSet<&[u8]>, token: &Token, behind: &[Token]) -> bool
-    ensures { result ≡ spec.is_wrong_hash (spelled known.now.keys) token.now behind.now }
+    ensures { result ≡ spec.is_wrong_hash (spellings_of known.now.keys) token.now behind.now }
 {
     token.is_hash() && !begins_with_parameter(known, behind)
 }
 
 fn begins_with_parameter(known: &IndexSet<&[u8]>, tokens: &[Token]) -> bool
-    ensures { result ≡ spec.begins_with_parameter (spelled known.now.keys) tokens.now }
+    ensures { result ≡ spec.begins_with_parameter (spellings_of known.now.keys) tokens.now }
 {
     match tokens {
         [first, ..] => first.is_identifier() && holds(known, first.text.as_slice()),

@@ -18,18 +18,18 @@ pub struct MacroTable {
 }
 
 impl Model for MacroTable {
-    ghost use Rattle.macro_defs.specs.Table.{Entries};
-    ghost use Rattle.macro_defs.specs.parts.Stored.{seen};
+    ghost use Rattle.macro_defs.specs.Table.{TableEntries};
+    ghost use Rattle.macro_defs.specs.parts.Stored.{entries_of_map};
 
-    ghost Value = { Entries };
+    ghost Value = { TableEntries };
 
-    ghost view = { λ t. seen t.entries.entries };
+    ghost view = { λ t. entries_of_map t.entries.entries };
 }
 
 impl MacroTable {
     ghost use Rattle.std.specs.Prelude.{◌≡◌, length, slice_get, IfOk, OnOk, OnErr, MatchOption, Some, None};
     ghost use Rattle.std.specs.Option.{option_map, option_copied};
-    ghost use Rattle.macro_defs.specs.Table.{lookup, names_of, is_defined, with_definition, Sets, one_token, initial_entries};
+    ghost use Rattle.macro_defs.specs.Table.{lookup, names_ever_defined, is_defined_in, with_definition, SetsDefinition, one_token, initial_entries};
 
     /// The macros that every translation begins with (ISO C 6.10.8.1): `__STDC__`, `__STDC_VERSION__`, `__STDC_HOSTED__`,
     /// `__DATE__` and `__TIME__`, the last two those of the epoch.
@@ -77,7 +77,7 @@ impl MacroTable {
     /// Defines a name, whether or not it has a definition. A name that was never defined goes behind all others. After a
     /// refusal the table is as before.
     pub fn define(&mut self, name: Bytes, definition: Definition) -> Result<(), AllocError>
-        ensures ok { OnOk result (Sets self.old name (Some definition) self.new) }
+        ensures ok { OnOk result (SetsDefinition self.old name (Some definition) self.new) }
         ensures placed { OnOk result (self.new ≡ with_definition self.old name (Some definition)) }
         ensures err { OnErr result (self.new ≡ self.old) }
     {
@@ -86,8 +86,8 @@ impl MacroTable {
 
     /// Takes a name's definition away, if it has one (ISO C 6.10.3.5 paragraph 2). The name keeps its place.
     pub fn undef(&mut self, name: &[u8])
-        ensures sets { Sets self.old name.now None self.new }
-        ensures names { names_of self.new ≡ names_of self.old }
+        ensures sets { SetsDefinition self.old name.now None self.new }
+        ensures names { names_ever_defined self.new ≡ names_ever_defined self.old }
     {
         if let Some(definition) = self.entries.get_mut(name) {
             *definition = None;
@@ -107,7 +107,7 @@ impl MacroTable {
     /// Whether a name is defined, as `#ifdef`, `#ifndef` and `defined` ask (ISO C 6.10.1): it has a definition, or it is
     /// `__FILE__`, `__LINE__` or `__has_include`, of which `get` knows nothing.
     pub fn is_defined(&self, name: &[u8]) -> bool
-        ensures { result ≡ is_defined self.now name.now }
+        ensures { result ≡ is_defined_in self.now name.now }
     {
         match self.get(name) {
             Some(_definition) => true,

@@ -2,7 +2,7 @@
 -- error.
 use Rattle.std.specs.Prelude.{◌≡◌, ℕ, ◌+◌, ◌⊎◌, List, [], ◌∷◌, ◌++◌, map, length, Option, Some, None, Result, Ok, Err}
 use Rattle.pp_tokens.specs.declared.token.Token.{Token}
-use Rattle.macro_defs.specs.Table.{Entries, lookup}
+use Rattle.macro_defs.specs.Table.{TableEntries, lookup}
 use Rattle.macro_expand.specs.declared.answers.Presumed.{Presumed}
 use Rattle.macro_expand.specs.declared.marked.Marked.{Marked as Kept}
 use Rattle.macro_expand.specs.declared.outcome.Mode.{Mode}
@@ -34,7 +34,7 @@ given_before ts (Err f) = Err f
 -- An expansion under way: the table and the place that answer, what is expanded, the tokens that were put out and aren't given yet, those
 -- that are still to be expanded, and how it stands.
 pub record Stream : Type 0 where
-  pub table : Entries
+  pub table : TableEntries
   pub here : Presumed
   pub mode : Mode
   pub ready : List Kept

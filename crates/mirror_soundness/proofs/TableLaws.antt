@@ -8,7 +8,7 @@ use Rattle.tree_model.specs.Paths.{Text}
 use Rattle.tree_model.proofs.MemberLemmas.{Member-append_left, Member-append_right, Member-filter_map}
 use Rattle.macro_defs.specs.MacroDefinition.{MacroDefinition}
 use Rattle.macro_defs.specs.Defining.{Named}
-use Rattle.macro_defs.specs.Table.{Entries, lookup, initial_entries}
+use Rattle.macro_defs.specs.Table.{TableEntries, lookup, initial_entries}
 use Rattle.macro_expand.specs.Expansion.{Table}
 use Rattle.macro_expand.specs.Choice.{IsWithin}
 use Rattle.job_words.specs.JobOf.{JobData}
@@ -66,7 +66,7 @@ words_among (w ∷ words) table definitions among there =
     (λ other m. there other (inr m))
 
 -- what a table has stands in it
-listed : (table : Entries) (name : Text) (d : MacroDefinition) → lookup table name ≡ Some d → Member (name, Some d) table
+listed : (table : TableEntries) (name : Text) (d : MacroDefinition) → lookup table name ≡ Some d → Member (name, Some d) table
 unfolding lookup
 listed [] name d e = absurd (cc)
 listed (entry ∷ table) name d e = go (bytes_eq name entry.0) refl e (listed table name d)

@@ -6,23 +6,23 @@ use Rattle.pp_tokens.specs.declared.Token.{Token}
 use Rattle.pp_tokens.specs.Marks.{is_identifier}
 use Rattle.macro_defs.specs.MacroDefinition.{MacroDefinition}
 use Rattle.macro_defs.specs.Arguments.{argument_named}
-use Rattle.macro_defs.specs.Table.{Entries}
+use Rattle.macro_defs.specs.Table.{TableEntries}
 
 -- the entries of a map, each key as its bytes
-abbrev pub seen : {A : Type 0} → List (Vec ℕ A × Option MacroDefinition) → Entries
-seen entries = map (λ e. (e.0.items, e.1)) entries
+abbrev pub entries_of_map : {A : Type 0} → List (Vec ℕ A × Option MacroDefinition) → TableEntries
+entries_of_map entries = map (λ e. (e.0.items, e.1)) entries
 
 -- the spellings in a set of names
-abbrev pub spelled : List (Bor (List ℕ)) → List (List ℕ)
-spelled names = map (λ n. n.now) names
+abbrev pub spellings_of : List (Bor (List ℕ)) → List (List ℕ)
+spellings_of names = map (λ n. n.now) names
 
 -- the number that a map has for a name
-abbrev pub number_at : {S : Type 0} → IndexMap (Bor (List ℕ)) ℕ S → List ℕ → Option ℕ
-number_at numbers name = get_by (λ n. bytes_eq name n.now) numbers
+abbrev pub number_for_name : {S : Type 0} → IndexMap (Bor (List ℕ)) ℕ S → List ℕ → Option ℕ
+number_for_name numbers name = get_by (λ n. bytes_eq name n.now) numbers
 
 -- the number that a map has for the name that a token is
 abbrev pub number_named : {S : Type 0} → IndexMap (Bor (List ℕ)) ℕ S → Token → Option ℕ
-number_named numbers t = if is_identifier t then number_at numbers t.text else None
+number_named numbers t = if is_identifier t then number_for_name numbers t.text else None
 
 -- for each token of a replacement list the argument that it names; nothing where there are no parameters
 abbrev pub numbers_kept : List (List ℕ) → List Token → List (Option ℕ)

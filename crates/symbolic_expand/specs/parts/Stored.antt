@@ -4,7 +4,7 @@ use Rattle.std.specs.declared.alloc.Global.{Global}
 use Rattle.std.specs.List.{list_any}
 use Rattle.std.specs.Option.{option_to_list}
 use Rattle.macro_defs.specs.MacroDefinition.{MacroDefinition}
-use Rattle.macro_defs.specs.Table.{Entries, names_of, lookup}
+use Rattle.macro_defs.specs.Table.{TableEntries, names_ever_defined, lookup}
 use Rattle.symbolic_expand.specs.Defined.{Defined, sets_of}
 
 -- the sets with one definition more, which goes behind those of its name
@@ -22,6 +22,6 @@ one_where true d = option_to_list d
 one_where false d = []
 
 -- of the names before a place of a table each has the definition that it has there, and no other name has one
-abbrev pub HasBefore : Entries → ℕ → Defined → Type 0
+abbrev pub HasBefore : TableEntries → ℕ → Defined → Type 0
 HasBefore table place sets =
-    (name : List ℕ) → sets_of sets name ≡ one_where (list_any (bytes_eq name) (take place (names_of table))) (lookup table name)
+    (name : List ℕ) → sets_of sets name ≡ one_where (list_any (bytes_eq name) (take place (names_ever_defined table))) (lookup table name)
