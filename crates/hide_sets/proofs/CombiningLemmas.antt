@@ -9,8 +9,8 @@ use Rattle.hide_sets.specs.declared.nodes.Node.{Node}
 use Rattle.hide_sets.specs.declared.operation.Operation.{Operation}
 use Rattle.hide_sets.specs.declared.operation.Operation.TheVariants.{Union, Intersection}
 use Rattle.hide_sets.specs.declared.sets.Pair.{Pair}
-use Rattle.hide_sets.specs.Trie.{node_at, has, IsTable, Extends}
-use Rattle.hide_sets.specs.parts.Combining.{operator, Combines, IsMade, Memo, is_same_pair, Remembers}
+use Rattle.hide_sets.specs.Trie.{trie_node, has, IsTable, Extends}
+use Rattle.hide_sets.specs.parts.Combining.{operator, Combines, IsMade, PairMemo, is_same_pair, Remembers}
 use Rattle.hide_sets.proofs.TrieLemmas.{has-extends, has-empty, extends-trans}
 
 -- what was made of two sets in a larger table
@@ -23,7 +23,7 @@ combines-extends op old new a b s t e c = record {
       ∙ (λ i. op (sym (has-extends old new t e a c.left w) i) (sym (has-extends old new t e b c.right w) i));
 }
 
-pub remembers-extends : (o : Operation) (old new : List Node) (m : Memo) → IsTable old → Extends old new → Remembers o old m → Remembers o new m
+pub remembers-extends : (o : Operation) (old new : List Node) (m : PairMemo) → IsTable old → Extends old new → Remembers o old m → Remembers o new m
 remembers-extends o old new m t e known p s is =
     combines-extends (operator o) old new p.low.number p.high.number s.number t e (known p s is)
 
@@ -45,7 +45,7 @@ made-empty o nodes p s t high is known members = record {
 }
 
 -- what a set has whose node is made of two sets' nodes, side by side
-combines-members : (op : Bool → Bool → Bool) (n : List Node) (x y z : Node) (a b s : ℕ) → node_at n a ≡ x → node_at n b ≡ y → node_at n s ≡ z →
+combines-members : (op : Bool → Bool → Bool) (n : List Node) (x y z : Node) (a b s : ℕ) → trie_node n a ≡ x → trie_node n b ≡ y → trie_node n s ≡ z →
     z.here ≡ op x.here y.here → Combines op n x.odd.number y.odd.number z.odd.number → Combines op n x.even.number y.even.number z.even.number →
     (w : List Bool) → has n s w ≡ op (has n a w) (has n b w)
 unfolding has
@@ -59,7 +59,7 @@ combines-members op n x y z a b s at_a at_b at_s here odd even (false ∷ w) =
 -- a set that is made of two sets' nodes, where the table grows on the way
 pub combines-made : (op : Bool → Bool → Bool) (n0 n1 n2 n3 : List Node) (x y z : Node) (a b s : ℕ) →
     IsTable n0 → Extends n0 n1 → Extends n1 n2 → Extends n2 n3 → a < length n0 → b < length n0 → s < length n3 →
-    x ≡ node_at n0 a → y ≡ node_at n0 b → node_at n3 s ≡ z →
+    x ≡ trie_node n0 a → y ≡ trie_node n0 b → trie_node n3 s ≡ z →
     z.here ≡ op x.here y.here → Combines op n1 x.odd.number y.odd.number z.odd.number → Combines op n2 x.even.number y.even.number z.even.number →
     Combines op n3 a b s
 combines-made op n0 n1 n2 n3 x y z a b s t e1 e2 e3 ka kb known at_a at_b at_s here odd even =
@@ -82,7 +82,7 @@ same_pair-is x y is =
     λ i. record { low = record { number = low i }; high = record { number = high i } }
 
 -- what is remembered beside what was
-pub remembers-put : (o : Operation) (nodes : List Node) (m n : Memo) (p : Pair) (s : SetNumber) →
+pub remembers-put : (o : Operation) (nodes : List Node) (m n : PairMemo) (p : Pair) (s : SetNumber) →
     ((q : Pair) → map.get is_same_pair n q ≡ (if is_same_pair p q then Some s else map.get is_same_pair m q)) →
     IsMade o nodes p s → Remembers o nodes m → Remembers o nodes n
 remembers-put o nodes m n p s puts made known q t is = by (is_same_pair p q) refl
@@ -94,7 +94,7 @@ remembers-put o nodes m n p s puts made known q t is = by (is_same_pair p q) ref
     by false b = known q t (sym (puts q ∙ ap (λ (b : Bool). if b then Some s else map.get is_same_pair m q) b) ∙ is)
 
 -- what a memo answers
-pub remembered : (o : Operation) (inside nodes : List Node) (m : Memo) (p : Pair) (found : Option SetNumber) →
+pub remembered : (o : Operation) (inside nodes : List Node) (m : PairMemo) (p : Pair) (found : Option SetNumber) →
     inside ≡ nodes → Remembers o inside m → found ≡ map.get is_same_pair m p → IfSome found (IsMade o nodes p)
 remembered o inside nodes m p None same known is = tt
 remembered o inside nodes m p (Some s) same known is = subst (λ n. IsMade o n p s) same (known p s (sym is))

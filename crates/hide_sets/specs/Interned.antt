@@ -3,36 +3,36 @@ use Rattle.std.specs.Prelude.{◌≡◌, ℕ, ◌<◌, Bool, true, ◌&&◌, ◌
 use Rattle.std.specs.List.{position_or_len}
 use Rattle.hide_sets.specs.declared.set_number.SetNumber.{SetNumber}
 use Rattle.hide_sets.specs.declared.nodes.Node.{Node}
-use Rattle.hide_sets.specs.Trie.{has, number_at, way, IsSingle}
+use Rattle.hide_sets.specs.Trie.{has, number_at_way, way, IsSingle}
 
 -- a name and the set of it alone
-abbrev pub Named : Type 0
-Named = List ℕ × SetNumber
+abbrev pub NamedSet : Type 0
+NamedSet = List ℕ × SetNumber
 
 -- the place of a name; one that isn't there has the place behind the last
-abbrev pub place_of : List ℕ → List Named → ℕ
-place_of n names = position_or_len (λ e. bytes_eq n e.0) names
+abbrev pub name_place : List ℕ → List NamedSet → ℕ
+name_place n names = position_or_len (λ e. bytes_eq n e.0) names
 
 -- A table of hide sets: the names that are in some set, each with its place as its number, and the sets of numbers.
 pub record Interned : Type 0 where
-  pub names : List Named
+  pub names : List NamedSet
   pub nodes : List Node
 
 -- the number of a name; one that is in no set has the number behind the last
-abbrev pub number_of : Interned → List ℕ → ℕ
-number_of v n = place_of n v.names
+abbrev pub name_number : Interned → List ℕ → ℕ
+name_number v n = name_place n v.names
 
 -- Whether a set hides a name.
 abbrev pub hidden_in : Interned → SetNumber → List ℕ → Bool
-hidden_in v s n = has v.nodes s.number (way (number_of v n))
+hidden_in v s n = has v.nodes s.number (way (name_number v n))
 
 -- A set of a table: it has numbers of names alone, so a name that comes later is hidden by no older set.
 pub record IsSet (v : Interned) (s : SetNumber) : Type 0 where
   pub known : s.number < length v.nodes
-  pub within : (w : List Bool) → has v.nodes s.number w ≡ true → number_at w < length v.names
+  pub within : (w : List Bool) → has v.nodes s.number w ≡ true → number_at_way w < length v.names
 
 -- A table in which each set is the set that it was.
-pub record Keeps (old new : Interned) : Type 0 where
+pub record KeepsSets (old new : Interned) : Type 0 where
   pub sets : (s : SetNumber) → IsSet old s → IsSet new s
   pub hides : (s : SetNumber) → IsSet old s → (n : List ℕ) → hidden_in new s n ≡ hidden_in old s n
 
@@ -57,21 +57,21 @@ IsIntersection = IsCombined (λ x y. x && y)
 -- Helpers of contracts.
 
 -- names as the table's map has them
-abbrev pub spelled : {A : Type 0} → List (Vec ℕ A × SetNumber) → List Named
-spelled entries = map (λ e. (e.0.items, e.1)) entries
+abbrev pub named_sets : {A : Type 0} → List (Vec ℕ A × SetNumber) → List NamedSet
+named_sets entries = map (λ e. (e.0.items, e.1)) entries
 
 -- a name stands at this place with this set
-pub record Stands (names : List Named) (n : List ℕ) (i : ℕ) (s : SetNumber) : Type 0 where
-  pub place : i ≡ place_of n names
+pub record NameStands (names : List NamedSet) (n : List ℕ) (i : ℕ) (s : SetNumber) : Type 0 where
+  pub place : i ≡ name_place n names
   pub known : i < length names
   pub set : (name : List ℕ) × (slice_get names i ≡ Some (name, s))
 
 -- each name has the set of it alone
-abbrev pub NamesStand : List Node → List Named → Type 0
-NamesStand nodes names = (i : ℕ) (e : Named) → slice_get names i ≡ Some e → (e.1.number < length nodes) × IsSingle nodes i e.1.number
+abbrev pub NamesStand : List Node → List NamedSet → Type 0
+NamesStand nodes names = (i : ℕ) (e : NamedSet) → slice_get names i ≡ Some e → (e.1.number < length nodes) × IsSingle nodes i e.1.number
 
 -- the set of one name
 pub record IsSingleName (v : Interned) (name : List ℕ) (s : SetNumber) : Type 0 where
   pub known : s.number < length v.nodes
-  pub named : number_of v name < length v.names
-  pub single : IsSingle v.nodes (number_of v name) s.number
+  pub named : name_number v name < length v.names
+  pub single : IsSingle v.nodes (name_number v name) s.number

@@ -10,8 +10,8 @@ empty_set = record { number = 0 }
 abbrev pub empty_node : Node
 empty_node = record { here = false; odd = empty_set; even = empty_set }
 
-abbrev pub node_at : List Node → ℕ → Node
-node_at nodes s = slice_index_or nodes s empty_node
+abbrev pub trie_node : List Node → ℕ → Node
+trie_node nodes s = slice_index_or nodes s empty_node
 
 -- the set that is met next, on the odd or on the even side
 abbrev pub next_set : Bool → Node → ℕ
@@ -20,13 +20,13 @@ next_set odd n = if odd then n.odd.number else n.even.number
 -- Whether a set has the number that stands at this way. A set has 0 where its node says so; it has 2 n + 1 where its odd half
 -- has n, and 2 n + 2 where its even half has n.
 unfoldable pub has : List Node → ℕ → List Bool → Bool
-has nodes s [] = (node_at nodes s).here
-has nodes s (odd ∷ way) = has nodes (next_set odd (node_at nodes s)) way
+has nodes s [] = (trie_node nodes s).here
+has nodes s (odd ∷ way) = has nodes (next_set odd (trie_node nodes s)) way
 
 -- the number that stands at a way
-unfoldable pub number_at : List Bool → ℕ
-number_at [] = 0
-number_at (odd ∷ way) = 2 * number_at way + (if odd then 1 else 2)
+unfoldable pub number_at_way : List Bool → ℕ
+number_at_way [] = 0
+number_at_way (odd ∷ way) = 2 * number_at_way way + (if odd then 1 else 2)
 
 -- the way to a number, in at most so many steps
 unfoldable pub way_within : ℕ → ℕ → List Bool
@@ -40,16 +40,16 @@ way n = way_within n n
 -- A table: the first set is empty, and the halves of each other one are earlier sets.
 pub record IsTable (nodes : List Node) : Type 0 where
   pub some : 0 < length nodes
-  pub first : node_at nodes 0 ≡ empty_node
-  pub odd : (s : ℕ) → 0 < s → s < length nodes → (node_at nodes s).odd.number < s
-  pub even : (s : ℕ) → 0 < s → s < length nodes → (node_at nodes s).even.number < s
+  pub first : trie_node nodes 0 ≡ empty_node
+  pub odd : (s : ℕ) → 0 < s → s < length nodes → (trie_node nodes s).odd.number < s
+  pub even : (s : ℕ) → 0 < s → s < length nodes → (trie_node nodes s).even.number < s
 
 -- The sets of a table stay as they are in another.
 pub record Extends (old new : List Node) : Type 0 where
   pub table : IsTable new
   pub longer : length old ≤ length new
-  pub same : (s : ℕ) → s < length old → node_at new s ≡ node_at old s
+  pub same : (s : ℕ) → s < length old → trie_node new s ≡ trie_node old s
 
 -- a set has one number alone
 abbrev pub IsSingle : List Node → ℕ → ℕ → Type 0
-IsSingle nodes n s = (w : List Bool) → has nodes s w ≡ (number_at w == n)
+IsSingle nodes n s = (w : List Bool) → has nodes s w ≡ (number_at_way w == n)

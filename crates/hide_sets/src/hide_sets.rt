@@ -39,7 +39,7 @@ impl HideSets {
     ghost use Rattle.std.specs.Prelude.{◌≡◌, ◌<◌, ◌≤◌, ◌++◌, ◌∷◌, [], length, IfOk, OnOk, ℕ, List, false};
     ghost use Rattle.hide_sets.specs.Trie.{IsSingle};
     ghost use Rattle.hide_sets.specs.parts.Combining.{operator};
-    ghost use Rattle.hide_sets.specs.Interned.{number_of, hidden_in, IsSet, Keeps, IsWith, IsCombined, IsUnion, IsIntersection, IsSingleName};
+    ghost use Rattle.hide_sets.specs.Interned.{name_number, hidden_in, IsSet, KeepsSets, IsWith, IsCombined, IsUnion, IsIntersection, IsSingleName};
 
     /// A table whose only set is empty.
     pub fn new(alloc: Global) -> Result<HideSets, AllocError>
@@ -75,7 +75,7 @@ impl HideSets {
     ) -> Result<SetNumber, AllocError>
         requires { IsSet self.old set }
         ensures ok { IfOk result (λ s. IsWith self.old self.new set name.now s) }
-        ensures keeps { Keeps self.old self.new }
+        ensures keeps { KeepsSets self.old self.new }
     {
         let one = self.single(alloc, name)?;
         self.combine(Operation::Union, set, one)
@@ -88,7 +88,7 @@ impl HideSets {
         requires left { IsSet self.old a }
         requires right { IsSet self.old b }
         ensures ok { IfOk result (λ s. IsUnion self.old self.new a b s) }
-        ensures keeps { Keeps self.old self.new }
+        ensures keeps { KeepsSets self.old self.new }
     {
         self.combine(Operation::Union, a, b)
     }
@@ -98,7 +98,7 @@ impl HideSets {
         requires left { IsSet self.old a }
         requires right { IsSet self.old b }
         ensures ok { IfOk result (λ s. IsIntersection self.old self.new a b s) }
-        ensures keeps { Keeps self.old self.new }
+        ensures keeps { KeepsSets self.old self.new }
     {
         self.combine(Operation::Intersection, a, b)
     }
@@ -113,7 +113,7 @@ impl HideSets {
         requires left { IsSet self.old a }
         requires right { IsSet self.old b }
         ensures ok { IfOk result (λ s. IsCombined (operator operation) self.old self.new a b s) }
-        ensures keeps { Keeps self.old self.new }
+        ensures keeps { KeepsSets self.old self.new }
     {
         self.sets.table();
         self.sets.combine(operation, a, b)
@@ -122,7 +122,7 @@ impl HideSets {
     // The set of one name.
     fn single(&mut self, alloc: Global, name: &[u8]) -> Result<SetNumber, AllocError>
         ensures ok { IfOk result (λ s. IsSingleName self.new name.now s) }
-        ensures keeps { Keeps self.old self.new }
+        ensures keeps { KeepsSets self.old self.new }
     {
         match self.names.find(name) {
             Some((_, one)) => Ok(one),
@@ -132,9 +132,9 @@ impl HideSets {
 
     // One name more, with the set of it. Its number is new, so no set has had it.
     fn add(&mut self, alloc: Global, name: &[u8]) -> Result<SetNumber, AllocError>
-        requires { length self.old.names ≤ number_of self.old name.now }
+        requires { length self.old.names ≤ name_number self.old name.now }
         ensures ok { IfOk result (λ s. IsSingleName self.new name.now s) }
-        ensures keeps { Keeps self.old self.new }
+        ensures keeps { KeepsSets self.old self.new }
     {
         let number = self.names.len();
         let one = self.single_number(number)?;
@@ -147,7 +147,7 @@ impl HideSets {
         ensures known { IfOk result (λ s. s.number < length self.new.nodes) }
         ensures single { IfOk result (λ s. IsSingle self.new.nodes number s.number) }
         ensures names { self.new.names ≡ self.old.names }
-        ensures keeps { Keeps self.old self.new }
+        ensures keeps { KeepsSets self.old self.new }
     {
         self.sets.table();
         self.sets.single(number)
@@ -157,10 +157,10 @@ impl HideSets {
     fn keep(&mut self, alloc: Global, name: &[u8], one: SetNumber) -> Result<(), AllocError>
         requires known { one.number < length self.old.nodes }
         requires single { IsSingle self.old.nodes (length self.old.names) one.number }
-        requires new { length self.old.names ≤ number_of self.old name.now }
+        requires new { length self.old.names ≤ name_number self.old name.now }
         ensures ok { OnOk result (self.new.names ≡ self.old.names ++ (name.now, one) ∷ []) }
         ensures nodes { self.new.nodes ≡ self.old.nodes }
-        ensures keeps { Keeps self.old self.new }
+        ensures keeps { KeepsSets self.old self.new }
     {
         let _ = &self.sets;
         self.names.add(alloc, name, one)

@@ -14,16 +14,16 @@ pub(crate) struct Names {
 
 impl Model for Names {
     ghost use Rattle.std.specs.Prelude.{List};
-    ghost use Rattle.hide_sets.specs.Interned.{Named, spelled};
+    ghost use Rattle.hide_sets.specs.Interned.{NamedSet, named_sets};
 
-    ghost Value = { List Named };
+    ghost Value = { List NamedSet };
 
-    ghost view = { λ t. spelled t.sets.entries };
+    ghost view = { λ t. named_sets t.sets.entries };
 }
 
 impl Names {
     ghost use Rattle.std.specs.Prelude.{◌≡◌, ◌≤◌, ◌++◌, ◌∷◌, [], length, OnOk, OnErr, MatchOption};
-    ghost use Rattle.hide_sets.specs.Interned.{place_of, Stands};
+    ghost use Rattle.hide_sets.specs.Interned.{name_place, NameStands};
 
     pub(crate) fn new(alloc: Global) -> Names
         ensures { result ≡ [] }
@@ -41,7 +41,7 @@ impl Names {
 
     // The number of a name, and the set of it alone.
     pub(crate) fn find(&self, name: &[u8]) -> Option<(usize, SetNumber)>
-        ensures { MatchOption result (length self.now ≤ place_of name.now self.now) (λ p. Stands self.now name.now p.0 p.1) }
+        ensures { MatchOption result (length self.now ≤ name_place name.now self.now) (λ p. NameStands self.now name.now p.0 p.1) }
     {
         match self.sets.get_full(name) {
             Some((index, _, set)) => Some((index, *set)),
@@ -56,7 +56,7 @@ impl Names {
         name: &[u8],
         set: SetNumber,
     ) -> Result<(), AllocError>
-        requires { length self.old ≤ place_of name.now self.old }
+        requires { length self.old ≤ name_place name.now self.old }
         ensures ok { OnOk result (self.new ≡ self.old ++ (name.now, set) ∷ []) }
         ensures err { OnErr result (self.new ≡ self.old) }
     {

@@ -43,7 +43,7 @@ impl Model for Nodes {
 
 impl Nodes {
     ghost use Rattle.std.specs.Prelude.{◌≡◌, ◌≢◌, ◌<◌, ◌-◌, ◌/◌, ◌%◌, ◌==◌, length, IfOk};
-    ghost use Rattle.hide_sets.specs.Trie.{node_at, empty_node, has, way, next_set, IsTable, Extends, IsSingle};
+    ghost use Rattle.hide_sets.specs.Trie.{trie_node, empty_node, has, way, next_set, IsTable, Extends, IsSingle};
 
     // The empty set alone.
     pub(crate) fn new(alloc: Global) -> Result<Nodes, AllocError> {
@@ -63,7 +63,7 @@ impl Nodes {
 
     pub(crate) fn node(&self, set: SetNumber) -> Node
         requires { set.number < length self.now }
-        ensures { result ≡ node_at self.now set.number }
+        ensures { result ≡ trie_node self.now set.number }
     {
         match self.nodes.get_index(set.index()) {
             Some(node) => *node,
@@ -76,7 +76,7 @@ impl Nodes {
         requires odd { node.odd.number < length self.old }
         requires even { node.even.number < length self.old }
         ensures known { IfOk result (λ s. s.number < length self.new) }
-        ensures node { IfOk result (λ s. node_at self.new s.number ≡ node) }
+        ensures node { IfOk result (λ s. trie_node self.new s.number ≡ node) }
         ensures extends { Extends self.old self.new }
     {
         let _ = &self.nodes;
@@ -92,7 +92,7 @@ impl Nodes {
         requires even { node.even.number < length self.old }
         requires some { node ≢ empty_node }
         ensures known { IfOk result (λ s. s.number < length self.new) }
-        ensures node { IfOk result (λ s. node_at self.new s.number ≡ node) }
+        ensures node { IfOk result (λ s. trie_node self.new s.number ≡ node) }
         ensures extends { Extends self.old self.new }
     {
         match self.nodes.insert_full(node) {
@@ -120,7 +120,7 @@ impl Nodes {
     #[tactic(auto, using(crate::proofs::TrieLemmas::next_known))]
     fn next(&self, set: SetNumber, number: usize) -> SetNumber
         requires { set.number < length self.now }
-        ensures next { result.number ≡ next_set (number % 2 == 0) (node_at self.now set.number) }
+        ensures next { result.number ≡ next_set (number % 2 == 0) (trie_node self.now set.number) }
         ensures known { result.number < length self.now }
     {
         let _ = &self.nodes;

@@ -54,7 +54,7 @@ impl Model for Sets {
 
 impl Sets {
     ghost use Rattle.std.specs.Prelude.{◌≡◌, ◌<◌, ◌≤◌, length, IfOk, IfSome, IfNone};
-    ghost use Rattle.hide_sets.specs.Trie.{node_at, has, way, IsTable, Extends, IsSingle};
+    ghost use Rattle.hide_sets.specs.Trie.{trie_node, has, way, IsTable, Extends, IsSingle};
     ghost use Rattle.hide_sets.specs.parts.Combining.{operator, Combines, IsMade};
 
     // The empty set alone.
@@ -177,7 +177,7 @@ impl Sets {
 
     fn node(&self, set: SetNumber) -> Node
         requires { set.number < length self.now }
-        ensures node { result ≡ node_at self.now set.number }
+        ensures node { result ≡ trie_node self.now set.number }
         ensures odd { 0 < set.number → result.odd.number < set.number }
         ensures even { 0 < set.number → result.even.number < set.number }
     {
@@ -189,7 +189,7 @@ impl Sets {
         requires odd { node.odd.number < length self.old }
         requires even { node.even.number < length self.old }
         ensures known { IfOk result (λ s. s.number < length self.new) }
-        ensures node { IfOk result (λ s. node_at self.new s.number ≡ node) }
+        ensures node { IfOk result (λ s. trie_node self.new s.number ≡ node) }
         ensures extends { Extends self.old self.new }
     {
         self.nodes.table();

@@ -1,6 +1,6 @@
 // Sets that are made of chains of names. What finds no memory is tried once more, so that a run in which one allocation
 // fails ends like the others.
-ghost use Rattle.hide_sets.specs.Interned.{IsSet, Keeps};
+ghost use Rattle.hide_sets.specs.Interned.{IsSet, KeepsSets};
 
 use hide_sets::{HideSets, SetNumber};
 use std::alloc::Global;
@@ -78,7 +78,7 @@ fn table(rt: &impl Abort, alloc: Global) -> HideSets
 fn chain(rt: &impl Abort, alloc: Global, sets: &mut HideSets, names: &str) -> SetNumber
     requires { IsSet sets.old SetNumber.EMPTY }
     ensures set { IsSet sets.new result }
-    ensures keeps { Keeps sets.old sets.new }
+    ensures keeps { KeepsSets sets.old sets.new }
 {
     let mut set = SetNumber::EMPTY;
     for name in names.as_bytes() {
@@ -96,7 +96,7 @@ fn with(
 ) -> SetNumber
     requires { IsSet sets.old set }
     ensures set { IsSet sets.new result }
-    ensures keeps { Keeps sets.old sets.new }
+    ensures keeps { KeepsSets sets.old sets.new }
 {
     match sets.with(alloc, set, name) {
         Ok(more) => more,
@@ -108,7 +108,7 @@ fn union(rt: &impl Abort, sets: &mut HideSets, a: SetNumber, b: SetNumber) -> Se
     requires left { IsSet sets.old a }
     requires right { IsSet sets.old b }
     ensures set { IsSet sets.new result }
-    ensures keeps { Keeps sets.old sets.new }
+    ensures keeps { KeepsSets sets.old sets.new }
 {
     match sets.union(a, b) {
         Ok(one) => one,
@@ -120,7 +120,7 @@ fn intersection(rt: &impl Abort, sets: &mut HideSets, a: SetNumber, b: SetNumber
     requires left { IsSet sets.old a }
     requires right { IsSet sets.old b }
     ensures set { IsSet sets.new result }
-    ensures keeps { Keeps sets.old sets.new }
+    ensures keeps { KeepsSets sets.old sets.new }
 {
     match sets.intersection(a, b) {
         Ok(both) => both,

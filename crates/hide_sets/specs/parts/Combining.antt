@@ -28,13 +28,13 @@ abbrev pub IsMade : Operation → List Node → Pair → SetNumber → Type 0
 IsMade o nodes p s = Combines (operator o) nodes p.low.number p.high.number s.number
 
 -- what was made of each pair
-abbrev pub Memo : Type 0
-Memo = HashMap Pair SetNumber (BuildHasherDefault FoldHasher)
+abbrev pub PairMemo : Type 0
+PairMemo = HashMap Pair SetNumber (BuildHasherDefault FoldHasher)
 
 -- how a map compares pairs
 abbrev pub is_same_pair : Pair → Pair → Bool
 is_same_pair x y = nat_eq x.low.number y.low.number && nat_eq x.high.number y.high.number
 
 -- each set that is remembered for a pair is made of it
-abbrev pub Remembers : Operation → List Node → Memo → Type 0
+abbrev pub Remembers : Operation → List Node → PairMemo → Type 0
 Remembers o nodes m = (p : Pair) (s : SetNumber) → map.get is_same_pair m p ≡ Some s → IsMade o nodes p s

@@ -2,7 +2,7 @@ use Rattle.std.proofs.lemmas.Result.{IfOk-weaker}
 use Rattle.std.proofs.Common.{sym, subst}
 use Rattle.hide_sets.specs.declared.set_number.SetNumber.{SetNumber}
 use Rattle.hide_sets.specs.parts.Combining.{operator, Combines}
-use Rattle.hide_sets.specs.Interned.{Interned, IsSet, IsCombined, Keeps}
+use Rattle.hide_sets.specs.Interned.{Interned, IsSet, IsCombined, KeepsSets}
 use Rattle.hide_sets.proofs.PlaceLemmas.{stand-extends}
 use Rattle.hide_sets.proofs.HiddenLemmas.{combined, keeps-nodes}
 use Rattle.hide_sets.proofs.hide_sets.HideSets.combine.Goals as goal
@@ -26,5 +26,5 @@ returns-clause-ok c =
 pub returns-clause-keeps : goal.returns-clause-keeps
 returns-clause-keeps c =
     let names = c.self.inside.names in
-    subst (λ (v : Interned). Keeps v (record { names = names; nodes = c.combine.new.self })) c.self.view_is
+    subst (λ (v : Interned). KeepsSets v (record { names = names; nodes = c.combine.new.self })) c.self.view_is
     (keeps-nodes names c.self.inside.sets c.combine.new.self c.table.ensures c.combine.ensures.extends)

@@ -1,6 +1,6 @@
 use Rattle.std.proofs.Common.{length, ◌<◌, sym, subst}
 use Rattle.hide_sets.specs.Trie.{IsSingle}
-use Rattle.hide_sets.specs.Interned.{Interned, Keeps}
+use Rattle.hide_sets.specs.Interned.{Interned, KeepsSets}
 use Rattle.hide_sets.proofs.PlaceLemmas.{stand-kept}
 use Rattle.hide_sets.proofs.HiddenLemmas.{keeps-names}
 use Rattle.hide_sets.proofs.hide_sets.HideSets.keep.Goals as goal
@@ -13,5 +13,5 @@ invariant_of-self c =
 
 pub returns-clause-keeps : goal.returns-clause-keeps
 returns-clause-keeps c =
-    subst (λ (v : Interned). Keeps v (record { names = c.add.new.self; nodes = c.self.inside.sets })) c.self.view_is
+    subst (λ (v : Interned). KeepsSets v (record { names = c.add.new.self; nodes = c.self.inside.sets })) c.self.view_is
     (keeps-names c.add.result c.self.inside.names c.add.new.self c.self.inside.sets (c.args.name.now, c.args.one) c.add.ensures.ok c.add.ensures.err)
