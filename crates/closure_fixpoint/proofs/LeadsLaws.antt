@@ -8,7 +8,7 @@ use Rattle.macro_defs.specs.MacroDefinition.{MacroDefinition}
 use Rattle.macro_defs.specs.Sameness.{is_same_definition}
 use Rattle.macro_defs.specs.Defining.{Named}
 use Rattle.macro_expand.specs.Expansion.{Expanded}
-use Rattle.macro_expand.specs.Choice.{IsPart, Run, computed_runs, header_of_ending, MayName, HasLongRun, HasPresumedRun}
+use Rattle.macro_expand.specs.Choice.{AreAmong, Run, computed_runs, header_of_ending, MayName, HasLongRun, HasPresumedRun}
 use Rattle.symbolic_expand.specs.Laws.{MoreKeepHeaders, MoreKeepLongRuns, MoreKeepPresumedRuns}
 use Rattle.search_path.specs.Search.{Hit}
 use Rattle.search_path.specs.declared.asking.Visit.{Visit}
@@ -40,7 +40,7 @@ in_distinct d (e ∷ ds) m = go (in_added d e (distinct ds) m) (in_distinct d ds
     go (inr n) rest = inr (rest n)
 
 -- more definitions have larger sets
-pub sets_more : (less more : List Named) → Within less more → IsPart (sets_of less) (sets_of more)
+pub sets_more : (less more : List Named) → Within less more → AreAmong (sets_of less) (sets_of more)
 sets_more less more within name d there =
     let by : GivenBy (of_name name) less d = filter_map-Member (of_name name) d less (in_distinct d (filter_map (of_name name) less) (Member-from_Contains d (sets_of less name) there)) in
     Contains-from_Member d (sets_of more name)
@@ -76,7 +76,7 @@ module _ (a b : Answers) (is_less : IsLess a b) (job : JobData) (less more : Lis
           Member-append_right x (first_definitions job) (flat_map (λ v. (b.sheet v).defs) more)
           (Member-flat_map (λ v. (b.sheet v).defs) by.by x more (within by.by by.member) (there_more a b is_less (λ s. s.defs) refl by.by x by.gives).0)
 
-  pub parts : IsPart (sets a job less) (sets b job more)
+  pub parts : AreAmong (sets a job less) (sets b job more)
   parts = sets_more (definitions a job less) (definitions b job more) definitions_more
 
   pub may_find_more : MoreKeepHeaders HeaderName → (visit : Visit) (c : ComputedAsk) (hit : Hit) → MayFind a job less visit c hit → MayFind b job more visit c hit

@@ -7,7 +7,7 @@ use Rattle.directive_scan.specs.HeaderNames.{header_named}
 use Rattle.macro_defs.specs.MacroDefinition.{MacroDefinition}
 use Rattle.macro_defs.specs.Sameness.{is_same_definition, is_same_definition-Decides}
 use Rattle.macro_defs.specs.Defining.{Named}
-use Rattle.macro_expand.specs.Choice.{HasNoRepeat, IsDistinct, IsPart, MayName, HasManyRuns, HasLongRun, HasPresumedRun}
+use Rattle.macro_expand.specs.Choice.{HasNoRepeat, IsDistinct, AreAmong, MayName, HasManyRuns, HasLongRun, HasPresumedRun}
 use Rattle.symbolic_expand.specs.Laws.{MoreKeepHeaders, MoreKeepLongRuns, MoreKeepPresumedRuns, MoreKeepManyRuns}
 use Rattle.tree_model.specs.declared.walk.Located.{Located}
 use Rattle.tree_model.proofs.MemberLemmas.{Member-append, Member-append_left, Member-append_right, Member-map, Member-flat_map, Member-filter_map, list_any-true}
@@ -82,10 +82,10 @@ module _ (answers : Answers) (is_large : Visit → Bool) (job : JobData) (heard 
           Member-append_right x (first_definitions job) (flat_map (λ told. told.1.defs) heard.sheets)
           (Member-flat_map (λ told. told.1.defs) (by.by, answers.sheet by.by) x heard.sheets (sheet_told by.by (within by.by by.member)) by.gives)
 
-  told_part : (set : List Visit) → Within (visits_told heard) set → IsPart (sets_told job heard) (sets answers job set)
+  told_part : (set : List Visit) → Within (visits_told heard) set → AreAmong (sets_told job heard) (sets answers job set)
   told_part set within = sets_more (definitions_told job heard) (definitions answers job set) (told_defs set within)
 
-  part_told : (set : List Visit) → Within set (visits_told heard) → IsPart (sets answers job set) (sets_told job heard)
+  part_told : (set : List Visit) → Within set (visits_told heard) → AreAmong (sets answers job set) (sets_told job heard)
   part_told set within = sets_more (definitions answers job set) (definitions_told job heard) (defs_told set within)
 
   -- WHAT IS DUE LIES IN EVERY CLOSED LIST

@@ -11,7 +11,7 @@ use Rattle.base_types.specs.Members.{Member}
 use Rattle.macro_defs.specs.MacroDefinition.{MacroDefinition}
 use Rattle.macro_defs.specs.Defining.{Named, are_distinct}
 use Rattle.macro_defs.specs.Table.{TableEntries, names_ever_defined, lookup, initial_entries}
-use Rattle.macro_expand.specs.Choice.{IsPart}
+use Rattle.macro_expand.specs.Choice.{AreAmong}
 use Rattle.symbolic_expand.specs.Defined.{Defined, Adds}
 use Rattle.symbolic_expand.specs.Defined as kept
 use Rattle.tree_model.specs.Paths.{Text}
@@ -76,7 +76,7 @@ one_more old name d true new (apart, sets) n e c = go (bytes_eq name n) refl (su
     go false other k = inl k
     go true same k = last ((bytes_decides name n).0 same) (Contains-append_cases (kept.sets_of old n) (d ∷ []) e k)
 
-pub just_more : (old : Defined) (name : Text) (d : MacroDefinition) (b : Bool) (new : Defined) → Adds old name d b new → IsPart (kept.sets_of old) (kept.sets_of new)
+pub just_more : (old : Defined) (name : Text) (d : MacroDefinition) (b : Bool) (new : Defined) → Adds old name d b new → AreAmong (kept.sets_of old) (kept.sets_of new)
     → (before : List Named) → HasJust old before → HasJust new (before ++ named name d ∷ [])
 just_more old name d b new adds part before just n e = (to, from)
   where
@@ -187,7 +187,7 @@ word_none sets word name is before just =
     subst (λ (w : MacroWord). HasJust sets (before ++ option_to_list (word_definition w))) (sym is) (subst (HasJust sets) (sym (append-nil before)) just)
 
 -- a word that defines
-pub word_some : (old new : Defined) (word : MacroWord) (name said : Text) (d : MacroDefinition) (b : Bool) → word ≡ words.Define name d → said ≡ name → Adds old said d b new → IsPart (kept.sets_of old) (kept.sets_of new)
+pub word_some : (old new : Defined) (word : MacroWord) (name said : Text) (d : MacroDefinition) (b : Bool) → word ≡ words.Define name d → said ≡ name → Adds old said d b new → AreAmong (kept.sets_of old) (kept.sets_of new)
     → (before : List Named) → HasJust old before → HasJust new (before ++ option_to_list (word_definition word))
 word_some old new word name said d b is same adds part before just =
     subst (λ (w : MacroWord). HasJust new (before ++ option_to_list (word_definition w))) (sym is)

@@ -76,7 +76,7 @@ shown-expansion kept main places state mode tokens shows =
 
 -- ---- lines of directives ----
 
-line-gives : (at : ℕ) (r : Result Expanded Failure) (state : State) (ts : List Token) (left : ℕ) → seen.Gives r ts left →
+line-gives : (at : ℕ) (r : Result Expanded Failure) (state : State) (ts : List Token) (left : ℕ) → seen.GivesTokens r ts left →
     line_expanded at r state ≡ Gives ts (record state { left = left })
 line-gives at (Ok e) state ts left gives =
     ap (λ (n : ℕ). Gives (tokens_of e) (record state { left = n })) gives.1 ∙ ap (λ (us : List Token). Gives us (record state { left = left })) gives.0
@@ -84,7 +84,7 @@ line-gives at (Err f) state ts left gives = absurd gives
 
 -- tokens that were expanded
 pub line-leads : (old : Kept) (work : WorkLeft) (places : Places) (at : ℕ) (mode : Mode) (tokens list : List Token) →
-    seen.Gives (expanded_by (lookup old.macros) (place_of places.presumed.now) mode 0 old.work.left (map unmarked tokens)) list work.left →
+    seen.GivesTokens (expanded_by (lookup old.macros) (place_of places.presumed.now) mode 0 old.work.left (map unmarked tokens)) list work.left →
     Leads old (record old { work = work }) places.source.now (here_seen places) (λ state. expand_line at mode tokens state) (Ok list)
 line-leads old work places at mode tokens list gives state shows = (
   record state { left = work.left },

@@ -10,15 +10,15 @@ use Rattle.macro_expand.specs.declared.marked.Role.TheVariants.{Name, Ordinary, 
 use Rattle.macro_defs.specs.declared.definition.Shape.TheVariants.{Object, Function}
 use Rattle.macro_defs.specs.MacroDefinition.{MacroDefinition}
 use Rattle.macro_expand.specs.Asking.{Failure, Count, Unclosed, Deep, Work, Asking, give, fail, ask_definition, ask_file, ask_line, then_with}
-use Rattle.macro_expand.specs.Replacement.{Marked, Part, Call, call_in, after_open, arguments_of, parts_of, stands_alone}
-use Rattle.macro_expand.specs.Expansion.{DEEPEST, ExpandedEach, argument_expanded, arguments_expanded, counted, called, function_replaced, call_replacement, variable_of, Expanded, expansion, expansion_step, role_of, role_expanded, name_replaced, macro_replaced, charged, go_on, put_out, object_replacement, operand_of_defined, replaced_token, built_in, Table, Place, by_table}
-use Rattle.macro_expand.specs.Answered.{Answerer, Stop, ByFailure, ByPresumed, Answered, with_text, answered, after_result, and_then, before, expanded_for, charged_for, argument_for, arguments_for, table_answerer}
+use Rattle.macro_expand.specs.Replacement.{Marked, BodyPart, Call, call_in, after_open, arguments_of, body_parts, stands_alone}
+use Rattle.macro_expand.specs.Expansion.{DEEPEST, ExpandedEach, argument_expanded, arguments_expanded, counted, called, function_replaced, call_replacement, variable_of, Expanded, expansion, expansion_step, head_role, role_expanded, name_replaced, macro_replaced, charged, go_on, put_out, object_replacement, operand_of_defined, replaced_token, built_in, Table, Place, by_table}
+use Rattle.macro_expand.specs.Answered.{Answerer, Stop, ByFailure, ByPresumed, Answered, with_text, answered, after_result, answered_and_then, before, expanded_for, charged_for, argument_for, arguments_for, table_answerer}
 use Rattle.macro_expand.proofs.StepLaws.{expansion-unfolds}
 
 -- the first part, and then what follows its result
 pub answered-then_with : {A B S : Type 0} (w : Answerer S) (s : S) (t : Asking A) (f : A → Asking B) →
-    answered w s (then_with t f) ≡ and_then (answered w s t) (λ x u. answered w u (f x))
-unfolding answered then_with and_then after_result
+    answered w s (then_with t f) ≡ answered_and_then (answered w s t) (λ x u. answered w u (f x))
+unfolding answered then_with answered_and_then after_result
 answered-then_with w s (give x) f = refl
 answered-then_with w s (fail e) f = refl
 answered-then_with w s (ask_definition name next) f =
@@ -26,20 +26,20 @@ answered-then_with w s (ask_definition name next) f =
 answered-then_with {A = A} {B = B} w s (ask_file next) f =
     go (w.file s).answer (w.file s).state (λ n. answered-then_with w (w.file s).state (next n) f)
   where
-    go : (o : Option (List ℕ)) (u : _) → ((n : List ℕ) → answered w u (then_with (next n) f) ≡ and_then (answered w u (next n)) (λ x v. answered w v (f x))) →
-        with_text o u (λ n. answered w u (then_with (next n) f)) ≡ and_then (with_text o u (λ n. answered w u (next n))) (λ x v. answered w v (f x))
+    go : (o : Option (List ℕ)) (u : _) → ((n : List ℕ) → answered w u (then_with (next n) f) ≡ answered_and_then (answered w u (next n)) (λ x v. answered w v (f x))) →
+        with_text o u (λ n. answered w u (then_with (next n) f)) ≡ answered_and_then (with_text o u (λ n. answered w u (next n))) (λ x v. answered w v (f x))
     go None u ih = refl
     go (Some n) u ih = ih n
 answered-then_with {A = A} {B = B} w s (ask_line line next) f =
     go (w.line s line).answer (w.line s line).state (λ n. answered-then_with w (w.line s line).state (next n) f)
   where
-    go : (o : Option (List ℕ)) (u : _) → ((n : List ℕ) → answered w u (then_with (next n) f) ≡ and_then (answered w u (next n)) (λ x v. answered w v (f x))) →
-        with_text o u (λ n. answered w u (then_with (next n) f)) ≡ and_then (with_text o u (λ n. answered w u (next n))) (λ x v. answered w v (f x))
+    go : (o : Option (List ℕ)) (u : _) → ((n : List ℕ) → answered w u (then_with (next n) f) ≡ answered_and_then (answered w u (next n)) (λ x v. answered w v (f x))) →
+        with_text o u (λ n. answered w u (then_with (next n) f)) ≡ answered_and_then (with_text o u (λ n. answered w u (next n))) (λ x v. answered w v (f x))
     go None u ih = refl
     go (Some n) u ih = ih n
 
 pub before-nothing : {S : Type 0} (a : Answered Expanded S) → before [] a ≡ a
-unfolding before and_then after_result
+unfolding before answered_and_then after_result
 before-nothing a = go a.result
   where
     go : (r : Result Expanded Stop) → after_result r a.state (λ e s. record { result = Ok (record e { tokens = [] ++ e.tokens }); state = s }) ≡ record { result = r; state = a.state }
@@ -47,7 +47,7 @@ before-nothing a = go a.result
     go (Err e) = refl
 
 pub before-before : {S : Type 0} (a b : List Marked) (r : Answered Expanded S) → before a (before b r) ≡ before (a ++ b) r
-unfolding before and_then after_result
+unfolding before answered_and_then after_result
 before-before a b r = go r.result
   where
     go : (q : Result Expanded Stop) → before a (before b (record { result = q; state = r.state })) ≡ before (a ++ b) (record { result = q; state = r.state })
@@ -64,11 +64,11 @@ module _ {S : Type 0} (w : Answerer S) (s : S) (mode : Mode) (depth units : ℕ)
   expanded_for-nil = ap (answered w s) (expansion-unfolds mode depth units [])
 
   expanded_for-step : (t : Marked) (rest : List Marked) →
-      expanded_for w s mode depth units (t ∷ rest) ≡ answered w s (role_expanded (expansion mode) depth units t rest (role_of mode t rest))
+      expanded_for w s mode depth units (t ∷ rest) ≡ answered w s (role_expanded (expansion mode) depth units t rest (head_role mode t rest))
   unfolding expanded_for expansion_step
   expanded_for-step t rest = ap (answered w s) (expansion-unfolds mode depth units (t ∷ rest))
 
-  pub expanded_for-ordinary : (t : Marked) (rest : List Marked) → role_of mode t rest ≡ Ordinary →
+  pub expanded_for-ordinary : (t : Marked) (rest : List Marked) → head_role mode t rest ≡ Ordinary →
       expanded_for w s mode depth units (t ∷ rest) ≡ before (t ∷ []) (expanded_for w s mode depth units rest)
   unfolding expanded_for role_expanded
   expanded_for-ordinary t rest e =
@@ -76,7 +76,7 @@ module _ {S : Type 0} (w : Answerer S) (s : S) (mode : Mode) (depth units : ℕ)
       ∙ ap (λ r. answered w s (role_expanded (expansion mode) depth units t rest r)) e
       ∙ answered-put_out (t ∷ []) (expansion mode depth units rest)
 
-  pub expanded_for-defined : (t : Marked) (rest : List Marked) → role_of mode t rest ≡ Defined →
+  pub expanded_for-defined : (t : Marked) (rest : List Marked) → head_role mode t rest ≡ Defined →
       expanded_for w s mode depth units (t ∷ rest)
       ≡ before (t ∷ (operand_of_defined rest).0) (expanded_for w s mode depth units (operand_of_defined rest).1)
   unfolding expanded_for role_expanded
@@ -104,7 +104,7 @@ module _ {S : Type 0} (w : Answerer S) (s : S) (mode : Mode) (depth units : ℕ)
       ap (λ b. answered w s (put_out (replaced_token t kind text ∷ []) (go_on (expansion mode) depth b (units - 2) rest))) (le-ltb 1 units out)
 
 module _ {S : Type 0} (w : Answerer S) (s : S) (mode : Mode) (depth units : ℕ) (t : Marked) (rest : List Marked) (u : S) where
-  module _ (role : role_of mode t rest ≡ FileName) (state : (w.file s).state ≡ u) where
+  module _ (role : head_role mode t rest ≡ FileName) (state : (w.file s).state ≡ u) where
     expanded_for-file : (o : Option (List ℕ)) → (w.file s).answer ≡ o →
         expanded_for w s mode depth units (t ∷ rest)
         ≡ with_text o u (λ name. answered w u (built_in (expansion mode) depth units t Str (34 ∷ name ++ 34 ∷ []) rest))
@@ -126,7 +126,7 @@ module _ {S : Type 0} (w : Answerer S) (s : S) (mode : Mode) (depth units : ℕ)
         expanded_for w s mode depth units (t ∷ rest) ≡ record { result = Err (ByFailure Work); state = u }
     expanded_for-file_work name e out = expanded_for-file (Some name) e ∙ built_in-work w u mode depth units t Str (34 ∷ name ++ 34 ∷ []) rest out
 
-  module _ (role : role_of mode t rest ≡ LineNumber) (state : (w.line s t.token.line).state ≡ u) where
+  module _ (role : head_role mode t rest ≡ LineNumber) (state : (w.line s t.token.line).state ≡ u) where
     expanded_for-line : (o : Option (List ℕ)) → (w.line s t.token.line).answer ≡ o →
         expanded_for w s mode depth units (t ∷ rest)
         ≡ with_text o u (λ name. answered w u (built_in (expansion mode) depth units t Number name rest))
@@ -174,7 +174,7 @@ module _ {S : Type 0} (w : Answerer S) (s : S) (mode : Mode) (depth units : ℕ)
 
 -- Names, by the definition that the answerer gives, which leaves the state `u`.
 module _ {S : Type 0} (w : Answerer S) (s u : S) (mode : Mode) (depth units : ℕ) (t : Marked) (rest : List Marked)
-    (role : role_of mode t rest ≡ Name) (state : (w.definition s t.token.text).state ≡ u) where
+    (role : head_role mode t rest ≡ Name) (state : (w.definition s t.token.text).state ≡ u) where
   expanded_for-name : (d : Option MacroDefinition) → (w.definition s t.token.text).answer ≡ d →
       expanded_for w s mode depth units (t ∷ rest) ≡ answered w u (name_replaced (expansion mode) depth units t rest d)
   unfolding role_expanded answered
@@ -228,28 +228,28 @@ module _ {S : Type 0} (w : Answerer S) (s u : S) (mode : Mode) (depth units : �
           expanded_for-count e =
               expanded_for-function (Some within) opened
               ∙ ap (λ c. answered w u (called (expansion mode) depth units t params variadic d.body c)) read
-              ∙ ap (λ q. answered w u (counted (expansion mode) depth units t (parts_of params d.body) (variable_of params variadic) call q)) e
+              ∙ ap (λ q. answered w u (counted (expansion mode) depth units t (body_parts params d.body) (variable_of params variadic) call q)) e
 
           -- a call with its arguments: they are expanded, and then the replacement is charged
           pub expanded_for-called : (written : List (List Marked)) → arguments_of (length params) variadic call.within ≡ Some written →
               expanded_for w s mode depth units (t ∷ rest)
-              ≡ and_then (arguments_for w u mode depth t.token (parts_of params d.body) 0 units written) (λ e v.
+              ≡ answered_and_then (arguments_for w u mode depth t.token (body_parts params d.body) 0 units written) (λ e v.
               charged_for w v mode depth e.units
-              (call_replacement t (parts_of params d.body) (variable_of params variadic) call written e.lists) call.after)
+              (call_replacement t (body_parts params d.body) (variable_of params variadic) call written e.lists) call.after)
           unfolding function_replaced called counted arguments_for charged_for
           expanded_for-called written e =
               expanded_for-function (Some within) opened
               ∙ ap (λ c. answered w u (called (expansion mode) depth units t params variadic d.body c)) read
-              ∙ ap (λ q. answered w u (counted (expansion mode) depth units t (parts_of params d.body) (variable_of params variadic) call q)) e
-              ∙ answered-then_with w u (arguments_expanded (expansion mode) depth t.token (parts_of params d.body) 0 units written) _
+              ∙ ap (λ q. answered w u (counted (expansion mode) depth units t (body_parts params d.body) (variable_of params variadic) call q)) e
+              ∙ answered-then_with w u (arguments_expanded (expansion mode) depth t.token (body_parts params d.body) 0 units written) _
 
 -- The arguments of a call.
 -- lists before other lists
 unfoldable pub before_all : {S : Type 0} → List (List Marked) → Answered ExpandedEach S → Answered ExpandedEach S
-before_all ls a = and_then a (λ e s. record { result = Ok (record e { lists = ls ++ e.lists }); state = s })
+before_all ls a = answered_and_then a (λ e s. record { result = Ok (record e { lists = ls ++ e.lists }); state = s })
 
 pub before_all-nothing : {S : Type 0} (a : Answered ExpandedEach S) → before_all [] a ≡ a
-unfolding before_all and_then after_result
+unfolding before_all answered_and_then after_result
 before_all-nothing a = go a.result
   where
     go : (r : Result ExpandedEach Stop) → before_all [] (record { result = r; state = a.state }) ≡ record { result = r; state = a.state }
@@ -258,14 +258,14 @@ before_all-nothing a = go a.result
 
 pub before_all-lists : {S : Type 0} (ls : List (List Marked)) (ts : List Marked) (a : Answered ExpandedEach S) →
     before_all ls (before_all (ts ∷ []) a) ≡ before_all (ls ++ ts ∷ []) a
-unfolding before_all and_then after_result
+unfolding before_all answered_and_then after_result
 before_all-lists ls ts a = go a.result
   where
     go : (r : Result ExpandedEach Stop) → before_all ls (before_all (ts ∷ []) (record { result = r; state = a.state })) ≡ before_all (ls ++ ts ∷ []) (record { result = r; state = a.state })
     go (Ok e) = ap (λ q. record { result = Ok (record e { lists = q }); state = a.state }) (sym (append_assoc ls (ts ∷ []) e.lists))
     go (Err e) = refl
 
-module _ {S : Type 0} (w : Answerer S) (s : S) (mode : Mode) (depth : ℕ) (t : Token) (parts : List Part) where
+module _ {S : Type 0} (w : Answerer S) (s : S) (mode : Mode) (depth : ℕ) (t : Token) (parts : List BodyPart) where
   pub arguments_for-nil : (i units : ℕ) →
       arguments_for w s mode depth t parts i units [] ≡ record { result = Ok (record { lists = []; units = units }); state = s }
   unfolding arguments_for arguments_expanded answered
@@ -273,21 +273,21 @@ module _ {S : Type 0} (w : Answerer S) (s : S) (mode : Mode) (depth : ℕ) (t : 
 
   arguments_for-cons : (i units : ℕ) (a : List Marked) (rest : List (List Marked)) →
       arguments_for w s mode depth t parts i units (a ∷ rest)
-      ≡ and_then (argument_for w s mode depth t (stands_alone i None parts) units a)
+      ≡ answered_and_then (argument_for w s mode depth t (stands_alone i None parts) units a)
       (λ e v. before_all (e.tokens ∷ []) (arguments_for w v mode depth t parts (suc i) e.units rest))
   unfolding arguments_for arguments_expanded answered argument_for before_all
   arguments_for-cons i units a rest =
       answered-then_with w s (argument_expanded (expansion mode) depth (stands_alone i None parts) (nat_lt depth DEEPEST) t units a) _
-      ∙ ap (and_then (answered w s (argument_expanded (expansion mode) depth (stands_alone i None parts) (nat_lt depth DEEPEST) t units a)))
+      ∙ ap (answered_and_then (answered w s (argument_expanded (expansion mode) depth (stands_alone i None parts) (nat_lt depth DEEPEST) t units a)))
       (fun_ext (λ e. fun_ext (λ v. answered-then_with w v (arguments_expanded (expansion mode) depth t parts (suc i) e.units rest) _)))
 
   pub arguments_for-next : (i units : ℕ) (a : List Marked) (rest : List (List Marked)) (alone : Bool) → stands_alone i None parts ≡ alone →
       arguments_for w s mode depth t parts i units (a ∷ rest)
-      ≡ and_then (argument_for w s mode depth t alone units a)
+      ≡ answered_and_then (argument_for w s mode depth t alone units a)
       (λ e v. before_all (e.tokens ∷ []) (arguments_for w v mode depth t parts (suc i) e.units rest))
   arguments_for-next i units a rest alone is =
       arguments_for-cons i units a rest
-      ∙ ap (λ b. and_then (argument_for w s mode depth t b units a) (λ e v. before_all (e.tokens ∷ []) (arguments_for w v mode depth t parts (suc i) e.units rest))) is
+      ∙ ap (λ b. answered_and_then (argument_for w s mode depth t b units a) (λ e v. before_all (e.tokens ∷ []) (arguments_for w v mode depth t parts (suc i) e.units rest))) is
 
 module _ {S : Type 0} (w : Answerer S) (s : S) (mode : Mode) (depth : ℕ) (t : Token) (units : ℕ) (a : List Marked) where
   pub argument_for-skipped : argument_for w s mode depth t false units a ≡ record { result = Ok (record { tokens = []; units = units }); state = s }

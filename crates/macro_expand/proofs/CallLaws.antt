@@ -7,7 +7,7 @@ use Rattle.std.specs.declared.alloc.Global.{Global}
 use Rattle.pp_tokens.specs.declared.Token.{Token}
 use Rattle.pp_tokens.specs.Marks.{is_punctuator, is_mark, is_open, is_close, is_comma, is_hash, is_pasting, Mark, Opening, Closing, Comma, Hash, Pasting, NoMark, mark_of}
 use Rattle.macro_expand.specs.declared.marked.Marked.{Marked as Kept}
-use Rattle.macro_expand.specs.Replacement.{Marked, Call, call_with, call_in, argument_with, cut_at_commas, arguments_of}
+use Rattle.macro_expand.specs.Replacement.{Marked, Call, call_with, call_in, argument_with, cut_at_outer_commas, arguments_of}
 use Rattle.macro_expand.specs.Seen.{marked_of, lists_of}
 use Rattle.macro_expand.specs.parts.Reading.{nesting_after, ends_call, is_cut, call_with_all, arguments_with}
 
@@ -212,17 +212,17 @@ call_none whole tokens n pending keeps empty =
 -- A step through what is cut.
 
 pub cut-made : (c n : ℕ) (m : Marked) (ts : List Marked) → is_cut c n m.token ≡ true →
-    cut_at_commas c n (m ∷ ts) ≡ [] ∷ cut_at_commas (c - 1) n ts
-unfolding cut_at_commas
+    cut_at_outer_commas c n (m ∷ ts) ≡ [] ∷ cut_at_outer_commas (c - 1) n ts
+unfolding cut_at_outer_commas
 cut-made c n m ts cut =
     ap (λ k. elim k as (λ k. List (List Marked)) [
-      | Opening ↦ argument_with m (cut_at_commas c (suc n) ts)
-      | Closing ↦ argument_with m (cut_at_commas c (n - 1) ts)
+      | Opening ↦ argument_with m (cut_at_outer_commas c (suc n) ts)
+      | Closing ↦ argument_with m (cut_at_outer_commas c (n - 1) ts)
       | Comma ↦ elim (if n == 0 then c else 0) [
-        | zero ↦ argument_with m (cut_at_commas c n ts)
-        | suc less ↦ [] ∷ cut_at_commas less n ts
+        | zero ↦ argument_with m (cut_at_outer_commas c n ts)
+        | suc less ↦ [] ∷ cut_at_outer_commas less n ts
       ]
-      | _ ↦ argument_with m (cut_at_commas c n ts)
+      | _ ↦ argument_with m (cut_at_outer_commas c n ts)
     ]) (mark-comma m.token comma)
     ∙ here n none c some
   where
@@ -239,39 +239,39 @@ cut-made c n m ts cut =
     some = ltb-true 0 c (and_parts (nat_lt 0 c) (n == 0) parts.0).0
 
     here : (n : ℕ) → (n == 0) ≡ true → (c : ℕ) → 0 < c → (elim (if n == 0 then c else 0) as (λ k. List (List Marked)) [
-      | zero ↦ argument_with m (cut_at_commas c n ts)
-      | suc less ↦ [] ∷ cut_at_commas less n ts
-    ]) ≡ [] ∷ cut_at_commas (c - 1) n ts
+      | zero ↦ argument_with m (cut_at_outer_commas c n ts)
+      | suc less ↦ [] ∷ cut_at_outer_commas less n ts
+    ]) ≡ [] ∷ cut_at_outer_commas (c - 1) n ts
     here zero e zero below = absurd (omega arith)
     here zero e (suc c) below = let one : suc c - 1 ≡ c = omega arith in rw one refl
     here (suc n) e c below = absurd (not_zero n (eqb-true (suc n) 0 e))
 
 pub cut-goes_on : (c n : ℕ) (m : Marked) (ts : List Marked) → is_cut c n m.token ≡ false →
-    cut_at_commas c n (m ∷ ts) ≡ argument_with m (cut_at_commas c (nesting_after n m.token) ts)
-unfolding cut_at_commas nesting_after
+    cut_at_outer_commas c n (m ∷ ts) ≡ argument_with m (cut_at_outer_commas c (nesting_after n m.token) ts)
+unfolding cut_at_outer_commas nesting_after
 cut-goes_on c n m ts more = go (mark_of m.token) refl
   where
     here : (n : ℕ) (c : ℕ) → (nat_lt 0 c && (n == 0)) ≡ false → (elim (if n == 0 then c else 0) as (λ k. List (List Marked)) [
-      | zero ↦ argument_with m (cut_at_commas c n ts)
-      | suc less ↦ [] ∷ cut_at_commas less n ts
-    ]) ≡ argument_with m (cut_at_commas c n ts)
+      | zero ↦ argument_with m (cut_at_outer_commas c n ts)
+      | suc less ↦ [] ∷ cut_at_outer_commas less n ts
+    ]) ≡ argument_with m (cut_at_outer_commas c n ts)
     here zero zero e = refl
     here zero (suc c) e = absurd (false≢true (sym e ∙ ap (λ b. b && true) (lt-ltb 0 (suc c) (omega arith))))
     here (suc n) c e = ap (λ b. elim (if b then c else 0) as (λ k. List (List Marked)) [
-      | zero ↦ argument_with m (cut_at_commas c (suc n) ts)
-      | suc less ↦ [] ∷ cut_at_commas less (suc n) ts
+      | zero ↦ argument_with m (cut_at_outer_commas c (suc n) ts)
+      | suc less ↦ [] ∷ cut_at_outer_commas less (suc n) ts
     ]) (ne_eqb (suc n) 0 (not_zero n))
 
     go : (k : Mark) → mark_of m.token ≡ k → (elim k as (λ k. List (List Marked)) [
-      | Opening ↦ argument_with m (cut_at_commas c (suc n) ts)
-      | Closing ↦ argument_with m (cut_at_commas c (n - 1) ts)
+      | Opening ↦ argument_with m (cut_at_outer_commas c (suc n) ts)
+      | Closing ↦ argument_with m (cut_at_outer_commas c (n - 1) ts)
       | Comma ↦ elim (if n == 0 then c else 0) [
-        | zero ↦ argument_with m (cut_at_commas c n ts)
-        | suc less ↦ [] ∷ cut_at_commas less n ts
+        | zero ↦ argument_with m (cut_at_outer_commas c n ts)
+        | suc less ↦ [] ∷ cut_at_outer_commas less n ts
       ]
-      | _ ↦ argument_with m (cut_at_commas c n ts)
+      | _ ↦ argument_with m (cut_at_outer_commas c n ts)
     ])
-        ≡ argument_with m (cut_at_commas c (elim k [ Opening ↦ suc n | Closing ↦ n - 1 | _ ↦ n ]) ts)
+        ≡ argument_with m (cut_at_outer_commas c (elim k [ Opening ↦ suc n | Closing ↦ n - 1 | _ ↦ n ]) ts)
     go Opening is = refl
     go Closing is = refl
     go Comma is = here n c (not_both (nat_lt 0 c && (n == 0)) (is_comma m.token) more (cuts m.token is))
@@ -294,40 +294,40 @@ lists_of-last (p ∷ pieces) v = ap (λ (l : List (List Marked)). map marked_of 
 module _ (pieces : List (Vec Kept Global)) (piece : List Kept) (c n : ℕ) (t : Kept) where
   pub cut_turn : is_cut c n t.token ≡ true → (pieces' : List (Vec Kept Global)) (v : Vec Kept Global) → pieces' ≡ pieces ++ v ∷ [] → v.items ≡ piece →
       (piece' : List Kept) → piece' ≡ [] → (c' n' : ℕ) → c' ≡ c - 1 → n' ≡ n → (ts : List Marked) →
-      lists_of pieces ++ arguments_with (map marked_of piece) (cut_at_commas c n (marked_of t ∷ ts))
-      ≡ lists_of pieces' ++ arguments_with (map marked_of piece') (cut_at_commas c' n' ts)
+      lists_of pieces ++ arguments_with (map marked_of piece) (cut_at_outer_commas c n (marked_of t ∷ ts))
+      ≡ lists_of pieces' ++ arguments_with (map marked_of piece') (cut_at_outer_commas c' n' ts)
   cut_turn cut pieces' v pushed same piece' empty c' n' less level ts =
       ap (λ (l : List (List Marked)). lists_of pieces ++ arguments_with (map marked_of piece) l) (cut-made c n (marked_of t) ts cut)
-      ∙ ap (λ (l : List (List Marked)). lists_of pieces ++ l) (whole_piece (map marked_of piece) (cut_at_commas (c - 1) n ts))
-      ∙ sym (append_assoc (lists_of pieces) (map marked_of piece ∷ []) (cut_at_commas (c - 1) n ts))
-      ∙ ap (λ (l : List Kept). (lists_of pieces ++ map marked_of l ∷ []) ++ cut_at_commas (c - 1) n ts) (sym same)
-      ∙ ap (λ (l : List (List Marked)). l ++ cut_at_commas (c - 1) n ts) (sym (ap lists_of pushed ∙ lists_of-last pieces v))
-      ∙ ap (λ (l : List Kept). lists_of pieces' ++ arguments_with (map marked_of l) (cut_at_commas (c - 1) n ts)) (sym empty)
-      ∙ ap (λ k. lists_of pieces' ++ arguments_with (map marked_of piece') (cut_at_commas k n ts)) (sym less)
-      ∙ ap (λ k. lists_of pieces' ++ arguments_with (map marked_of piece') (cut_at_commas c' k ts)) (sym level)
+      ∙ ap (λ (l : List (List Marked)). lists_of pieces ++ l) (whole_piece (map marked_of piece) (cut_at_outer_commas (c - 1) n ts))
+      ∙ sym (append_assoc (lists_of pieces) (map marked_of piece ∷ []) (cut_at_outer_commas (c - 1) n ts))
+      ∙ ap (λ (l : List Kept). (lists_of pieces ++ map marked_of l ∷ []) ++ cut_at_outer_commas (c - 1) n ts) (sym same)
+      ∙ ap (λ (l : List (List Marked)). l ++ cut_at_outer_commas (c - 1) n ts) (sym (ap lists_of pushed ∙ lists_of-last pieces v))
+      ∙ ap (λ (l : List Kept). lists_of pieces' ++ arguments_with (map marked_of l) (cut_at_outer_commas (c - 1) n ts)) (sym empty)
+      ∙ ap (λ k. lists_of pieces' ++ arguments_with (map marked_of piece') (cut_at_outer_commas k n ts)) (sym less)
+      ∙ ap (λ k. lists_of pieces' ++ arguments_with (map marked_of piece') (cut_at_outer_commas c' k ts)) (sym level)
 
   pub grow_turn : is_cut c n t.token ≡ false → (piece' : List Kept) → piece' ≡ piece ++ t ∷ [] → (n' : ℕ) → n' ≡ nesting_after n t.token → (ts : List Marked) →
-      lists_of pieces ++ arguments_with (map marked_of piece) (cut_at_commas c n (marked_of t ∷ ts))
-      ≡ lists_of pieces ++ arguments_with (map marked_of piece') (cut_at_commas c n' ts)
+      lists_of pieces ++ arguments_with (map marked_of piece) (cut_at_outer_commas c n (marked_of t ∷ ts))
+      ≡ lists_of pieces ++ arguments_with (map marked_of piece') (cut_at_outer_commas c n' ts)
   grow_turn more piece' pushed n' deep ts =
       ap (λ (l : List (List Marked)). lists_of pieces ++ l)
       (ap (arguments_with (map marked_of piece)) (cut-goes_on c n (marked_of t) ts more)
       ∙ sym (pieces_last (map marked_of piece) (marked_of t) _)
-      ∙ ap (λ (l : List Marked). arguments_with l (cut_at_commas c (nesting_after n t.token) ts)) (sym (ap (map marked_of) pushed ∙ map-append marked_of piece (t ∷ [])))
-      ∙ ap (λ k. arguments_with (map marked_of piece') (cut_at_commas c k ts)) (sym deep))
+      ∙ ap (λ (l : List Marked). arguments_with l (cut_at_outer_commas c (nesting_after n t.token) ts)) (sym (ap (map marked_of) pushed ∙ map-append marked_of piece (t ∷ [])))
+      ∙ ap (λ k. arguments_with (map marked_of piece') (cut_at_outer_commas c k ts)) (sym deep))
 
 pub cut_end : (pieces pieces' : List (Vec Kept Global)) (v : Vec Kept Global) (c n : ℕ) (ts : List Marked) → ts ≡ [] → pieces' ≡ pieces ++ v ∷ [] →
-    lists_of pieces' ≡ lists_of pieces ++ arguments_with (map marked_of v.items) (cut_at_commas c n ts)
-unfolding cut_at_commas
+    lists_of pieces' ≡ lists_of pieces ++ arguments_with (map marked_of v.items) (cut_at_outer_commas c n ts)
+unfolding cut_at_outer_commas
 cut_end pieces pieces' v c n ts empty pushed =
     ap lists_of pushed ∙ lists_of-last pieces v
     ∙ ap (λ (l : List (List Marked)). lists_of pieces ++ l) (sym (whole_piece (map marked_of v.items) []))
-    ∙ ap (λ (l : List Marked). lists_of pieces ++ arguments_with (map marked_of v.items) (cut_at_commas c n l)) (sym empty)
+    ∙ ap (λ (l : List Marked). lists_of pieces ++ arguments_with (map marked_of v.items) (cut_at_outer_commas c n l)) (sym empty)
 
 -- How many arguments there are.
 
 pub counted_right : (n cuts k : ℕ) (within : List Kept) (pieces : List (Vec Kept Global)) → 0 < n → cuts ≡ length within →
-    lists_of pieces ≡ cut_at_commas cuts 0 (map marked_of within) → k ≡ length pieces → k ≡ n →
+    lists_of pieces ≡ cut_at_outer_commas cuts 0 (map marked_of within) → k ≡ length pieces → k ≡ n →
     Some (lists_of pieces) ≡ arguments_of n false (map marked_of within)
 unfolding arguments_of
 counted_right zero made k within pieces some all cut are same = absurd (omega arith)
@@ -335,11 +335,11 @@ counted_right (suc n) made k within pieces some all cut are same =
     sym (cond-true _ _ _ (ap (λ (l : List (List Marked)). length l == suc n) (sym right) ∙ eq-eqb (length (lists_of pieces)) (suc n) (length-map pieces (λ (v : Vec Kept Global). map marked_of v.items) ∙ sym are ∙ same))
     ∙ ap Some (sym right))
   where
-    right : lists_of pieces ≡ cut_at_commas (length (map marked_of within)) 0 (map marked_of within)
-    right = cut ∙ ap (λ c. cut_at_commas c 0 (map marked_of within)) (all ∙ sym (length-map within marked_of))
+    right : lists_of pieces ≡ cut_at_outer_commas (length (map marked_of within)) 0 (map marked_of within)
+    right = cut ∙ ap (λ c. cut_at_outer_commas c 0 (map marked_of within)) (all ∙ sym (length-map within marked_of))
 
 pub counted_wrong : (n cuts k : ℕ) (within : List Kept) (pieces : List (Vec Kept Global)) → 0 < n → cuts ≡ length within →
-    lists_of pieces ≡ cut_at_commas cuts 0 (map marked_of within) → k ≡ length pieces → (k ≡ n → ⊥) →
+    lists_of pieces ≡ cut_at_outer_commas cuts 0 (map marked_of within) → k ≡ length pieces → (k ≡ n → ⊥) →
     None ≡ arguments_of n false (map marked_of within)
 unfolding arguments_of
 counted_wrong zero made k within pieces some all cut are other = absurd (omega arith)
@@ -347,8 +347,8 @@ counted_wrong (suc n) made k within pieces some all cut are other =
     sym (cond-false _ _ _ (ap (λ (l : List (List Marked)). length l == suc n) (sym right)
     ∙ ne_eqb (length (lists_of pieces)) (suc n) (λ same. other (are ∙ sym (length-map pieces (λ (v : Vec Kept Global). map marked_of v.items)) ∙ same))))
   where
-    right : lists_of pieces ≡ cut_at_commas (length (map marked_of within)) 0 (map marked_of within)
-    right = cut ∙ ap (λ c. cut_at_commas c 0 (map marked_of within)) (all ∙ sym (length-map within marked_of))
+    right : lists_of pieces ≡ cut_at_outer_commas (length (map marked_of within)) 0 (map marked_of within)
+    right = cut ∙ ap (λ c. cut_at_outer_commas c 0 (map marked_of within)) (all ∙ sym (length-map within marked_of))
 
 pub nothing_left : (xs : List Kept) (n : ℕ) → n ≡ length xs → n ≡ 0 → xs ≡ []
 nothing_left [] n same none = refl

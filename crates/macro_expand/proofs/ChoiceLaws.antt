@@ -5,7 +5,7 @@ use Rattle.std.proofs.lemmas.List.Elements.{Contains-append_left, Contains-appen
 use Rattle.macro_defs.specs.MacroDefinition.{MacroDefinition}
 use Rattle.macro_expand.specs.Asking.{Failure, Work, Asking, give, fail, ask_definition, ask_file, ask_line}
 use Rattle.macro_expand.specs.Expansion.{Table, Place, by_table}
-use Rattle.macro_expand.specs.Choice.{Sets, Choice, Ending, Run, after_choice, runs_of, complete_runs, taken_before, taken, with_taken, taken_run, IsWithin}
+use Rattle.macro_expand.specs.Choice.{Sets, Choice, Ending, Run, after_choice, runs_of, complete_runs, taken_before, choices_taken, with_taken, taken_run, IsWithin}
 use Rattle.macro_expand.specs.Laws.{IsCutOff, SameEnd, Knows}
 use Rattle.macro_expand.proofs.UnitsLaws.{Alike, both_give, both_fail, left_out, right_out, both_ask_definition, both_ask_file, both_ask_line}
 
@@ -78,19 +78,19 @@ outcome_after R (d ∷ ds) c x r cs (inr (inr (same, e))) = inr (inr (same, ap (
 
 pub taken_run-outcome : {A B : Type 0} (R : A → B → Type 0) (sets : Sets) (file : Option (List ℕ)) (table : Table) (here : Place) → Knows file here →
     (t : Asking A) (u : Asking B) → Alike R t u →
-    Outcome R (by_table table here t) (taken_run sets file table u).ending (taken sets table here t) (taken_run sets file table u).choices
-unfolding by_table taken_run taken
+    Outcome R (by_table table here t) (taken_run sets file table u).ending (choices_taken sets table here t) (taken_run sets file table u).choices
+unfolding by_table taken_run choices_taken
 taken_run-outcome R sets file table here knows _ _ (both_give r) = inr (inr (r, refl))
 taken_run-outcome R sets file table here knows _ _ (both_fail e) = inr (inr (refl, refl))
 taken_run-outcome R sets file table here knows _ _ (left_out u) = inl refl
 taken_run-outcome R sets file table here knows _ _ (right_out t) = inr (inl refl)
 taken_run-outcome R sets file table here knows _ _ (both_ask_definition name f g k) =
     outcome_after R (sets name) (table name) (by_table table here (f (table name))) (taken_run sets file table (g (table name)))
-    (taken sets table here (f (table name)))
+    (choices_taken sets table here (f (table name)))
     (taken_run-outcome R sets file table here knows (f (table name)) (g (table name)) (k (table name)))
 taken_run-outcome R sets None table here knows _ _ (both_ask_file f g k) = inr (inl tt)
 taken_run-outcome R sets (Some name) table here knows _ _ (both_ask_file f g k) =
     subst (λ w. Outcome R (by_table table here (f w)) (taken_run sets (Some name) table (g name)).ending
-    (taken sets table here (f w)) (taken_run sets (Some name) table (g name)).choices) knows
+    (choices_taken sets table here (f w)) (taken_run sets (Some name) table (g name)).choices) knows
     (taken_run-outcome R sets (Some name) table here knows (f name) (g name) (k name))
 taken_run-outcome R sets file table here knows _ _ (both_ask_line line f g k) = inr (inl tt)

@@ -11,9 +11,9 @@ use Rattle.macro_defs.specs.MacroDefinition.{MacroDefinition}
 use Rattle.macro_expand.specs.Asking.{Failure, Count, Unclosed, Paste, Work, then_with}
 use Rattle.pp_tokens.specs.Marks.{mark_of}
 use Rattle.pp_tokens.specs.Grammar.{kind_of, is_identifier, is_number, number_goes_on, is_character, is_string, closes, is_punctuator}
-use Rattle.macro_expand.specs.Replacement.{Marked, unmarked, call_in, arguments_of, replacement, joined, pieces_of, parts_after, one_joins, cut_at_commas, stands_alone, pasted, escaped, spellings}
-use Rattle.macro_expand.specs.Expansion.{Expanded, expansion, expansion_within, expansion_step, role_of, role_expanded, built_in, name_replaced, macro_replaced, function_replaced, called, counted, call_replacement, object_replacement, argument_expanded, charged, go_on, put_out, arguments_expanded, Table, Place, by_table}
-use Rattle.macro_expand.specs.Choice.{Sets, Ending, Gave, Failed, Presumed, complete_runs, computed_runs, taken}
+use Rattle.macro_expand.specs.Replacement.{Marked, unmarked, call_in, arguments_of, replacement, joins_made, pieces_of, parts_after, one_joins, cut_at_outer_commas, stands_alone, pasted, escaped, spellings}
+use Rattle.macro_expand.specs.Expansion.{Expanded, expansion, expansion_within, expansion_step, head_role, role_expanded, built_in, name_replaced, macro_replaced, function_replaced, called, counted, call_replacement, object_replacement, argument_expanded, charged, go_on, put_out, arguments_expanded, Table, Place, by_table}
+use Rattle.macro_expand.specs.Choice.{Sets, Ending, Gave, Failed, Presumed, complete_runs, computed_runs, choices_taken}
 
 -- a small lexer for the examples: words, one-byte punctuators and `##`, all on line 1
 is_letter : ℕ → Bool
@@ -100,7 +100,7 @@ shown (Ok e) = Ok (shown_after None e.tokens, e.units)
 shown (Err e) = Err e
 
 expanded : ℕ → Mode → Table → List ℕ → Result (List ℕ × ℕ) Failure
-unfolding shown expansion lexed here by_table expansion_within expansion_step role_of role_expanded built_in name_replaced macro_replaced function_replaced called counted call_replacement object_replacement argument_expanded charged go_on put_out call_in mark_of arguments_of then_with arguments_expanded replacement joined pieces_of parts_after one_joins cut_at_commas stands_alone pasted escaped spellings kind_of is_identifier is_number number_goes_on is_character is_string closes is_punctuator
+unfolding shown expansion lexed here by_table expansion_within expansion_step head_role role_expanded built_in name_replaced macro_replaced function_replaced called counted call_replacement object_replacement argument_expanded charged go_on put_out call_in mark_of arguments_of then_with arguments_expanded replacement joins_made pieces_of parts_after one_joins cut_at_outer_commas stands_alone pasted escaped spellings kind_of is_identifier is_number number_goes_on is_character is_string closes is_punctuator
 expanded units mode table text = shown (by_table table here (expansion mode 0 units (map unmarked (lexed text))))
 
 example : Table
@@ -211,7 +211,7 @@ ended_text Presumed = None
 
 -- for each complete run: how many choices it uses, and its text
 runs_text : Sets → Option (List ℕ) → List ℕ → List (ℕ × Option (List ℕ))
-unfolding ended_text expansion lexed complete_runs expansion_within expansion_step role_of role_expanded built_in name_replaced macro_replaced function_replaced called counted call_replacement object_replacement argument_expanded charged go_on put_out call_in mark_of arguments_of then_with arguments_expanded replacement joined pieces_of parts_after one_joins cut_at_commas stands_alone pasted escaped spellings kind_of is_identifier is_number number_goes_on is_character is_string closes is_punctuator
+unfolding ended_text expansion lexed complete_runs expansion_within expansion_step head_role role_expanded built_in name_replaced macro_replaced function_replaced called counted call_replacement object_replacement argument_expanded charged go_on put_out call_in mark_of arguments_of then_with arguments_expanded replacement joins_made pieces_of parts_after one_joins cut_at_outer_commas stands_alone pasted escaped spellings kind_of is_identifier is_number number_goes_on is_character is_string closes is_punctuator
 runs_text sets file text = map (λ r. (length r.choices, ended_text r.ending)) (computed_runs sets file (lexed text))
 
 other_sets : Sets
@@ -227,8 +227,8 @@ three_runs = refl
 
 -- the answers of a table within these sets, for the names that have definitions there
 answers : List ℕ → List Bool
-unfolding other_sets sets_of object expansion lexed here taken expansion_within expansion_step role_of role_expanded built_in name_replaced macro_replaced function_replaced called counted call_replacement object_replacement argument_expanded charged go_on put_out call_in mark_of arguments_of then_with arguments_expanded replacement joined pieces_of parts_after one_joins cut_at_commas stands_alone pasted escaped spellings kind_of is_identifier is_number number_goes_on is_character is_string closes is_punctuator table_of
-answers text = map is_some (taken other_sets (table_of ((codes "H", object (codes "<sys/x.h>")) ∷ [])) here (expansion Text 0 100 (map unmarked (lexed text))))
+unfolding other_sets sets_of object expansion lexed here choices_taken expansion_within expansion_step head_role role_expanded built_in name_replaced macro_replaced function_replaced called counted call_replacement object_replacement argument_expanded charged go_on put_out call_in mark_of arguments_of then_with arguments_expanded replacement joins_made pieces_of parts_after one_joins cut_at_outer_commas stands_alone pasted escaped spellings kind_of is_identifier is_number number_goes_on is_character is_string closes is_punctuator table_of
+answers text = map is_some (choices_taken other_sets (table_of ((codes "H", object (codes "<sys/x.h>")) ∷ [])) here (expansion Text 0 100 (map unmarked (lexed text))))
 
 two_answers : answers (codes "H x") ≡ true ∷ false ∷ []
 unfolding answers

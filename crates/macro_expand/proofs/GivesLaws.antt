@@ -8,7 +8,7 @@ use Rattle.macro_expand.specs.Asking.{Failure, Work}
 use Rattle.macro_expand.specs.Replacement.{Marked}
 use Rattle.macro_expand.specs.Expansion.{Expanded, expansion, Table, Place, expanded_by}
 use Rattle.macro_expand.specs.Answered.{Stop, ByFailure, ByPresumed, Answered, expanded_for, table_answerer}
-use Rattle.macro_expand.specs.Seen.{Gives, HasTokens, Stops, ReportsResult, public_of}
+use Rattle.macro_expand.specs.Seen.{GivesTokens, HasTokens, Stops, ReportsResult, public_of}
 use Rattle.macro_expand.proofs.AnsweredLaws.{lifted, answered-table}
 
 pub lowered : {A : Type 0} → Result A Stop → Result A Failure
@@ -35,9 +35,9 @@ module _ {S : Type 0} (table : Table) (here : S → Place) (s : S) (mode : Mode)
       ∙ ap (λ (a : Answered Expanded S). lowered a.result) (sym by_is ∙ e)
 
   pub Gives_from : (out : List Token) (left : ℕ) (u : S) → HasTokens (expanded_for (table_answerer (λ _. table) here) s mode 0 units ts) out left u →
-      Gives (expanded_by table (here s) mode 0 units ts) out left
+      GivesTokens (expanded_by table (here s) mode 0 units ts) out left
   unfolding lowered
-  Gives_from out left u (list, (is, tokens)) = subst (λ w. Gives w out left) (sym (result_is _ u is)) (tokens, refl)
+  Gives_from out left u (list, (is, tokens)) = subst (λ w. GivesTokens w out left) (sym (result_is _ u is)) (tokens, refl)
 
   pub Reports_from : (e : RunError) (u : S) → Stops e u (expanded_for (table_answerer (λ _. table) here) s mode 0 units ts) →
       ReportsResult (public_of e) (expanded_by table (here s) mode 0 units ts)

@@ -11,9 +11,9 @@ use Rattle.macro_expand.specs.declared.outcome.RunError.{RunError}
 use Rattle.macro_expand.specs.declared.outcome.RunError.TheVariants.{Count as CountError, Unclosed as UnclosedError, Paste as PasteError, Deep as DeepError, Work as WorkError, Presumed as PresumedError, Memory}
 use Rattle.macro_expand.specs.Asking.{Failure, Work}
 use Rattle.macro_expand.specs.Replacement.{Marked}
-use Rattle.macro_expand.specs.Expansion.{Expanded, role_of, operand_of_defined, replaced_token, in_quotes}
-use Rattle.macro_expand.specs.Answered.{Answerer, Reply, Stop, ByFailure, ByPresumed, Answered, after_result, and_then, before, expanded_for, charged_for}
-use Rattle.macro_expand.specs.Seen.{marked_of, Reports, Stops, GoesOn, HasTokens}
+use Rattle.macro_expand.specs.Expansion.{Expanded, head_role, operand_of_defined, replaced_token, in_quotes}
+use Rattle.macro_expand.specs.Answered.{Answerer, Reply, Stop, ByFailure, ByPresumed, Answered, after_result, answered_and_then, before, expanded_for, charged_for}
+use Rattle.macro_expand.specs.Seen.{marked_of, Reports, Stops, StepKeepsResult, HasTokens}
 use Rattle.pp_tokens.specs.declared.Token.{Token}
 use Rattle.macro_expand.proofs.AnsweredLaws.{before-nothing, before-before, expanded_for-nil, expanded_for-ordinary, expanded_for-defined, expanded_for-file_unknown, expanded_for-file_paid, expanded_for-file_work, expanded_for-line_unknown, expanded_for-line_paid, expanded_for-line_work, charged_for-paid, charged_for-work}
 
@@ -75,15 +75,15 @@ module _ {S : Type 0} (w : Answerer S) (mode : Mode) (depth : ℕ) where
       expanded_for w s mode depth units (marked_of t ∷ map marked_of pending)
       ≡ before (map marked_of ts) (expanded_for w u mode depth left (map marked_of pending')) →
       out' ≡ out ++ ts →
-      GoesOn w mode depth s units out t pending u left out' pending'
+      StepKeepsResult w mode depth s units out t pending u left out' pending'
   goes_on-put s u units left t ts out out' pending pending' step made =
       ap (before (map marked_of out)) step
       ∙ before-before (map marked_of out) (map marked_of ts) _
       ∙ ap (λ q. before q (expanded_for w u mode depth left (map marked_of pending')))
       (sym (map-append marked_of out ts) ∙ ap (map marked_of) (sym made))
 
-  pub goes_on-ordinary : (s : S) (units : ℕ) (t : Kept) (out out' pending : List Kept) → role_of mode (marked_of t) (map marked_of pending) ≡ Ordinary →
-      out' ≡ out ++ t ∷ [] → GoesOn w mode depth s units out t pending s units out' pending
+  pub goes_on-ordinary : (s : S) (units : ℕ) (t : Kept) (out out' pending : List Kept) → head_role mode (marked_of t) (map marked_of pending) ≡ Ordinary →
+      out' ≡ out ++ t ∷ [] → StepKeepsResult w mode depth s units out t pending s units out' pending
   goes_on-ordinary s units t out out' pending role made =
       goes_on-put s s units units t (t ∷ []) out out' pending pending
       (expanded_for-ordinary w s mode depth units (marked_of t) (map marked_of pending) role) made
@@ -92,14 +92,14 @@ module _ {S : Type 0} (w : Answerer S) (mode : Mode) (depth : ℕ) where
   pub goes_on-left : (s u : S) (units : ℕ) (t : Kept) (out out' pending after : List Kept) →
       expanded_for w s mode depth units (marked_of t ∷ map marked_of pending)
       ≡ before (marked_of t ∷ []) (expanded_for w u mode depth units (map marked_of after)) →
-      out' ≡ out ++ t ∷ [] → GoesOn w mode depth s units out t pending u units out' after
+      out' ≡ out ++ t ∷ [] → StepKeepsResult w mode depth s units out t pending u units out' after
   goes_on-left s u units t out out' pending after step made = goes_on-put s u units units t (t ∷ []) out out' pending after step made
 
-  pub goes_on-defined : (s : S) (units : ℕ) (t : Kept) (out mid out' pending pending' : List Kept) → role_of mode (marked_of t) (map marked_of pending) ≡ Defined →
+  pub goes_on-defined : (s : S) (units : ℕ) (t : Kept) (out mid out' pending pending' : List Kept) → head_role mode (marked_of t) (map marked_of pending) ≡ Defined →
       mid ≡ out ++ t ∷ [] →
       (map marked_of out' ≡ map marked_of mid ++ (operand_of_defined (map marked_of pending)).0)
       × (map marked_of pending' ≡ (operand_of_defined (map marked_of pending)).1) →
-      GoesOn w mode depth s units out t pending s units out' pending'
+      StepKeepsResult w mode depth s units out t pending s units out' pending'
   goes_on-defined s units t out mid out' pending pending' role made moved =
       ap (before (map marked_of out)) (expanded_for-defined w s mode depth units (marked_of t) (map marked_of pending) role)
       ∙ before-before (map marked_of out) (marked_of t ∷ (operand_of_defined (map marked_of pending)).0) _
@@ -129,7 +129,7 @@ module _ {S : Type 0} (w : Answerer S) (mode : Mode) (depth : ℕ) where
   -- where nothing is put out
   pub goes_on-behind : (s u : S) (units left : ℕ) (t : Kept) (out pending next : List Kept) →
       expanded_for w s mode depth units (marked_of t ∷ map marked_of pending) ≡ expanded_for w u mode depth left (map marked_of next) →
-      GoesOn w mode depth s units out t pending u left out next
+      StepKeepsResult w mode depth s units out t pending u left out next
   goes_on-behind s u units left t out pending next step = ap (before (map marked_of out)) step
 
   module _ (s u : S) (units : ℕ) (t : Kept) (pending : List Kept) where
@@ -152,14 +152,14 @@ module _ {S : Type 0} (w : Answerer S) (mode : Mode) (depth : ℕ) where
     -- one token that is put out in place of the head
     goes_on-placed : (left : ℕ) (placed : Marked) (out out' : List Kept) →
         Head ≡ before (placed ∷ []) (expanded_for w u mode depth left (map marked_of pending)) →
-        map marked_of out' ≡ map marked_of out ++ placed ∷ [] → GoesOn w mode depth s units out t pending u left out' pending
+        map marked_of out' ≡ map marked_of out ++ placed ∷ [] → StepKeepsResult w mode depth s units out t pending u left out' pending
     unfolding Head
     goes_on-placed left placed out out' step made =
         ap (before (map marked_of out)) step
         ∙ before-before (map marked_of out) (placed ∷ []) _
         ∙ ap (λ q. before q (expanded_for w u mode depth left (map marked_of pending))) (sym made)
 
-    module _ (role : role_of mode (marked_of t) (map marked_of pending) ≡ FileName) where
+    module _ (role : head_role mode (marked_of t) (map marked_of pending) ≡ FileName) where
       pub file_unknown : (e : RunError) →
           (e ≡ Memory) ⊎ ((e ≡ PresumedError) × (((w.file s).answer ≡ None) × (u ≡ (w.file s).state))) →
           Stops e u (expanded_for w s mode depth units (marked_of t ∷ map marked_of pending))
@@ -178,7 +178,7 @@ module _ {S : Type 0} (w : Answerer S) (mode : Mode) (depth : ℕ) where
 
         pub goes_on-file : (left : ℕ) (out out' : List Kept) → left + 2 ≡ units →
             map marked_of out' ≡ map marked_of out ++ replaced_token (marked_of t) Str text ∷ [] →
-            GoesOn w mode depth s units out t pending u left out' pending
+            StepKeepsResult w mode depth s units out t pending u left out' pending
         unfolding Head
         goes_on-file left out out' paid made =
             let named = from_quotes (w.file s).answer text known in
@@ -186,7 +186,7 @@ module _ {S : Type 0} (w : Answerer S) (mode : Mode) (depth : ℕ) where
             (expanded_for-file_paid w s mode depth units (marked_of t) (map marked_of pending) u role (sym state) named.0 left named.1.0 paid
             ∙ ap (λ q. before (replaced_token (marked_of t) Str q ∷ []) (expanded_for w u mode depth left (map marked_of pending))) named.1.1) made
 
-    module _ (role : role_of mode (marked_of t) (map marked_of pending) ≡ LineNumber) where
+    module _ (role : head_role mode (marked_of t) (map marked_of pending) ≡ LineNumber) where
       pub line_unknown : (e : RunError) →
           (e ≡ Memory) ⊎ ((e ≡ PresumedError) × (((w.line s t.token.line).answer ≡ None) × (u ≡ (w.line s t.token.line).state))) →
           Stops e u (expanded_for w s mode depth units (marked_of t ∷ map marked_of pending))
@@ -204,7 +204,7 @@ module _ {S : Type 0} (w : Answerer S) (mode : Mode) (depth : ℕ) where
 
         pub goes_on-line : (left : ℕ) (out out' : List Kept) → left + 2 ≡ units →
             map marked_of out' ≡ map marked_of out ++ replaced_token (marked_of t) Number text ∷ [] →
-            GoesOn w mode depth s units out t pending u left out' pending
+            StepKeepsResult w mode depth s units out t pending u left out' pending
         unfolding Head
         goes_on-line left out out' paid made =
             goes_on-placed left (replaced_token (marked_of t) Number text) out out'
@@ -216,13 +216,13 @@ module _ {S : Type 0} (w : Answerer S) (mode : Mode) (depth : ℕ) where
     Keeps out s units pending = whole ≡ before (map marked_of out) (expanded_for w s mode depth units (map marked_of pending))
 
     pub keeps_step : (out out' : List Kept) (t : Kept) (s u : S) (units left : ℕ) (pending rest rest' : List Kept) → pending ≡ t ∷ rest →
-        GoesOn w mode depth s units out t rest u left out' rest' → Keeps out s units pending → Keeps out' u left rest'
+        StepKeepsResult w mode depth s units out t rest u left out' rest' → Keeps out s units pending → Keeps out' u left rest'
     keeps_step out out' t s u units left pending rest rest' is step keeps =
         keeps ∙ ap (λ q. before (map marked_of out) (expanded_for w s mode depth units (map marked_of q))) is ∙ step
 
     pub stops_step : (out : List Kept) (t : Kept) (s u : S) (units : ℕ) (pending rest : List Kept) (e : RunError) → pending ≡ t ∷ rest →
         Stops e u (expanded_for w s mode depth units (marked_of t ∷ map marked_of rest)) → Keeps out s units pending → Stops e u whole
-    unfolding before and_then after_result
+    unfolding before answered_and_then after_result
     stops_step out t s u units pending rest e is stops keeps =
         Stops-same e u _ _ (λ f failed.
         keeps ∙ ap (before (map marked_of out))
@@ -231,7 +231,7 @@ module _ {S : Type 0} (w : Answerer S) (mode : Mode) (depth : ℕ) where
 
     pub keeps_end : (out : List Kept) (s : S) (units : ℕ) (pending : List Kept) → pending ≡ [] → Keeps out s units pending →
         whole ≡ record { result = Ok (record { tokens = map marked_of out; units = units }); state = s }
-    unfolding before and_then after_result
+    unfolding before answered_and_then after_result
     keeps_end out s units pending is keeps =
         keeps ∙ ap (before (map marked_of out))
         (ap (λ q. expanded_for w s mode depth units (map marked_of q)) is
@@ -244,7 +244,7 @@ module _ {S : Type 0} (w : Answerer S) (mode : Mode) (depth : ℕ) where
 
     -- the step puts out into a list of its own, which is moved behind the others
     pub keeps_tokens_step : (out out' : List Token) (put made : List Kept) (t : Kept) (s u : S) (units left : ℕ) (pending rest rest' : List Kept) →
-        pending ≡ t ∷ rest → put ≡ [] → GoesOn w mode depth s units put t rest u left made rest' → out' ≡ out ++ map (λ m. m.token) made →
+        pending ≡ t ∷ rest → put ≡ [] → StepKeepsResult w mode depth s units put t rest u left made rest' → out' ≡ out ++ map (λ m. m.token) made →
         KeepsTokens out s units pending → KeepsTokens out' u left rest'
     keeps_tokens_step out out' put made t s u units left pending rest rest' is empty step moved (list, (keeps, tokens)) = (
       list ++ made,

@@ -12,9 +12,9 @@ use Rattle.macro_defs.specs.MacroDefinition.{MacroDefinition}
 use mathlib.Core.Path.{fun_ext}
 use Rattle.macro_expand.specs.declared.name.MacroCall.{MacroCall}
 use Rattle.macro_expand.specs.Asking.{Failure, Count, Unclosed, Deep}
-use Rattle.macro_expand.specs.Replacement.{Marked, after_open, Part, parts_of, stands_alone}
-use Rattle.macro_expand.specs.Expansion.{Expanded, ExpandedEach, role_of, object_replacement, variable_of, call_replacement}
-use Rattle.macro_expand.specs.Answered.{Answerer, ByFailure, Answered, after_result, and_then, before, expanded_for, charged_for, argument_for, arguments_for}
+use Rattle.macro_expand.specs.Replacement.{Marked, after_open, BodyPart, body_parts, stands_alone}
+use Rattle.macro_expand.specs.Expansion.{Expanded, ExpandedEach, head_role, object_replacement, variable_of, call_replacement}
+use Rattle.macro_expand.specs.Answered.{Answerer, ByFailure, Answered, after_result, answered_and_then, before, expanded_for, charged_for, argument_for, arguments_for}
 use Rattle.macro_expand.specs.Seen.{marked_of, lists_of, parts_seen, Reports, Stops, ReadsCall, RefusesCall, KeepsWritten, call_replaced_by}
 use Rattle.macro_expand.specs.parts.Naming.{StandAlone, called_for}
 use Rattle.macro_expand.proofs.AnsweredLaws.{argument_for-skipped, argument_for-deep, argument_for-alone, expanded_for-undefined, expanded_for-object, expanded_for-not_called, expanded_for-unclosed, expanded_for-count, expanded_for-called, charged_for-error, before_all, before_all-lists, arguments_for-next, arguments_for-nil}
@@ -22,7 +22,7 @@ use Rattle.macro_expand.proofs.PieceLemmas.{written_is}
 use Rattle.macro_expand.proofs.LoopLaws.{Stops-is, Stops-same, Stops-reports}
 
 module _ {S : Type 0} (w : Answerer S) (s u : S) (mode : Mode) (depth units : ℕ) (t : Kept) (rest : List Kept)
-    (role : role_of mode (marked_of t) (map marked_of rest) ≡ Name) (state : u ≡ (w.definition s t.token.text).state) where
+    (role : head_role mode (marked_of t) (map marked_of rest) ≡ Name) (state : u ≡ (w.definition s t.token.text).state) where
   abbrev pub Head : Answered Expanded S
   Head = expanded_for w s mode depth units (marked_of t ∷ map marked_of rest)
 
@@ -72,7 +72,7 @@ module _ {S : Type 0} (w : Answerer S) (s u : S) (mode : Mode) (depth units : �
         -- the call that was read, with what is kept of its arguments as written
         pub head_called : (written : List (List Marked)) (close : Kept) (after : List Marked) →
             ReadsCall (length params) variadic within written (marked_of close) after →
-            (call : MacroCall) (given : List (List Marked)) → given ≡ written → parts_seen call.parts.items ≡ parts_of params d.body →
+            (call : MacroCall) (given : List (List Marked)) → given ≡ written → parts_seen call.parts.items ≡ body_parts params d.body →
             call.variable ≡ variable_of params variadic → call.read.close ≡ close →
             KeepsWritten (parts_seen call.parts.items) written (lists_of call.read.written.items) →
             Head ≡ called_for w u mode depth units t call given after
@@ -80,17 +80,17 @@ module _ {S : Type 0} (w : Answerer S) (s u : S) (mode : Mode) (depth units : �
         head_called written close after reads call given same seen which closes keeps =
             expanded_for-called w s u mode depth units (marked_of t) (map marked_of rest) role (sym state) d (sym some) params variadic shape
             within opened (record { within = reads.within; close = marked_of close; after = after }) reads.read written reads.counted
-            ∙ ap (λ (ps : List Part). and_then (arguments_for w u mode depth t.token ps 0 units written) (λ e v.
+            ∙ ap (λ (ps : List BodyPart). answered_and_then (arguments_for w u mode depth t.token ps 0 units written) (λ e v.
             charged_for w v mode depth e.units (call_replaced_by t ps (variable_of params variadic) written (marked_of close) e.lists) after)) (sym seen)
-            ∙ ap (λ (o : Option ℕ). and_then (arguments_for w u mode depth t.token (parts_seen call.parts.items) 0 units written) (λ e v.
+            ∙ ap (λ (o : Option ℕ). answered_and_then (arguments_for w u mode depth t.token (parts_seen call.parts.items) 0 units written) (λ e v.
             charged_for w v mode depth e.units (call_replaced_by t (parts_seen call.parts.items) o written (marked_of close) e.lists) after)) (sym which)
-            ∙ ap (and_then (arguments_for w u mode depth t.token (parts_seen call.parts.items) 0 units written))
+            ∙ ap (answered_and_then (arguments_for w u mode depth t.token (parts_seen call.parts.items) 0 units written))
             (fun_ext (λ e. fun_ext (λ v. ap (λ r. charged_for w v mode depth e.units r after)
             (sym (written_is t (parts_seen call.parts.items) call.variable written (lists_of call.read.written.items) e.lists close call.read.close keeps closes)))))
             ∙ ap (λ (q : List (List Marked)). called_for w u mode depth units t call q after) (sym same)
 
 -- the same lists of tokens are as many
-pub stand_alone-same : (alone : List Bool) (a b : List (Vec Kept Global)) (parts : List Part) → lists_of b ≡ lists_of a →
+pub stand_alone-same : (alone : List Bool) (a b : List (Vec Kept Global)) (parts : List BodyPart) → lists_of b ≡ lists_of a →
     StandAlone alone (length a) parts → StandAlone alone (length b) parts
 stand_alone-same alone a b parts same stand =
     let f : Vec Kept Global → List Marked = λ v. map marked_of v.items in
@@ -101,9 +101,9 @@ module _ {S : Type 0} (w : Answerer S) (s v : S) (mode : Mode) (depth units : �
   module _ (rest : List Marked) where
     pub argument_stops : (e : RunError) → Stops e v (arguments_for w s mode depth t.token (parts_seen call.parts.items) 0 units given) →
         Stops e v (called_for w s mode depth units t call given rest)
-    unfolding called_for and_then after_result
+    unfolding called_for answered_and_then after_result
     argument_stops e stops =
-        Stops-same e v _ _ (λ f failed. ap (λ r. and_then r (λ e u. charged_for w u mode depth e.units (call_replaced_by t (parts_seen call.parts.items)
+        Stops-same e v _ _ (λ f failed. ap (λ r. answered_and_then r (λ e u. charged_for w u mode depth e.units (call_replaced_by t (parts_seen call.parts.items)
         call.variable (lists_of call.read.written.items) (marked_of call.read.close) e.lists) rest)) failed) stops
 
     module _ (lists : List (List Marked)) (left : ℕ)
@@ -113,9 +113,9 @@ module _ {S : Type 0} (w : Answerer S) (s v : S) (mode : Mode) (depth units : �
       Replaced = call_replaced_by t (parts_seen call.parts.items) call.variable (lists_of call.read.written.items) (marked_of call.read.close) lists
 
       called_is : called_for w s mode depth units t call given rest ≡ charged_for w v mode depth left Replaced rest
-      unfolding called_for and_then after_result Replaced
+      unfolding called_for answered_and_then after_result Replaced
       called_is =
-          ap (λ r. and_then r (λ e u. charged_for w u mode depth e.units (call_replaced_by t (parts_seen call.parts.items)
+          ap (λ r. answered_and_then r (λ e u. charged_for w u mode depth e.units (call_replaced_by t (parts_seen call.parts.items)
           call.variable (lists_of call.read.written.items) (marked_of call.read.close) e.lists) rest)) expanded
 
       pub call_replaced : (made : List Kept) →
@@ -173,20 +173,20 @@ module _ {S : Type 0} (w : Answerer S) (s : S) (mode : Mode) (depth units : ℕ)
       argument_fails (Err e) stops = Stops-is e u _ _ argument_is stops
 
 -- what the code's list says of argument `i`
-stands_is : (alone : List Bool) (count i : ℕ) (parts : List Part) (b : Bool) → length alone ≡ count →
+stands_is : (alone : List Bool) (count i : ℕ) (parts : List BodyPart) (b : Bool) → length alone ≡ count →
     ((k : ℕ) → k < count → get_or alone k false ≡ stands_alone k None parts) → i < count → b ≡ get_or alone i b → stands_alone i None parts ≡ b
 stands_is alone count i parts b long each below is =
     sym (each i below) ∙ get_or_default alone i false b (rw long below) ∙ sym is
 
 -- the same of the next argument, where so many were expanded
-pub stands_next : (alone : List Bool) (count n : ℕ) (out left rest : List (Vec Kept Global)) (a : Vec Kept Global) (parts : List Part) (b : Bool) →
+pub stands_next : (alone : List Bool) (count n : ℕ) (out left rest : List (Vec Kept Global)) (a : Vec Kept Global) (parts : List BodyPart) (b : Bool) →
     length alone ≡ count → ((k : ℕ) → k < count → get_or alone k false ≡ stands_alone k None parts) →
     length out + length left ≡ length alone → left ≡ a ∷ rest → n ≡ length out → b ≡ get_or alone n b → stands_alone (length out) None parts ≡ b
 stands_next alone count n out left rest a parts b long each all is at found =
     stands_is alone count (length out) parts b long each (omega (arith, all, ap length is, long)) (found ∙ ap (λ k. get_or alone k b) at)
 
 -- Turns of the loop over arguments, over the code's lists: `a` is the next argument, and `next` is `out` with one more.
-module _ {S : Type 0} (w : Answerer S) (s : S) (mode : Mode) (depth : ℕ) (t : Token) (parts : List Part)
+module _ {S : Type 0} (w : Answerer S) (s : S) (mode : Mode) (depth : ℕ) (t : Token) (parts : List BodyPart)
     (whole : Answered ExpandedEach S) (out now rest : List (Vec Kept Global)) (units : ℕ)
     (a : Vec Kept Global) (is : now ≡ a ∷ rest)
     (keeps : whole ≡ before_all (lists_of out) (arguments_for w s mode depth t parts (length out) units (lists_of now))) where
@@ -212,7 +212,7 @@ module _ {S : Type 0} (w : Answerer S) (s : S) (mode : Mode) (depth : ℕ) (t : 
     Then_more : Expanded → S → Answered ExpandedEach S
     Then_more e u = before_all (e.tokens ∷ []) (Left u (suc (length out)) e.units (lists_of rest))
 
-    at_expanded : whole ≡ before_all (lists_of out) (and_then (argument_for w s mode depth t alone units (map marked_of a.items)) Then_more)
+    at_expanded : whole ≡ before_all (lists_of out) (answered_and_then (argument_for w s mode depth t alone units (map marked_of a.items)) Then_more)
     unfolding Left Then_more
     at_expanded =
         at_argument
@@ -221,14 +221,14 @@ module _ {S : Type 0} (w : Answerer S) (s : S) (mode : Mode) (depth : ℕ) (t : 
     pub turn_expanded : (next : List (Vec Kept Global)) (v : Vec Kept Global) (u : S) (left : ℕ) → next ≡ out ++ v ∷ [] →
         argument_for w s mode depth t alone units (map marked_of a.items) ≡ record { result = Ok (record { tokens = map marked_of v.items; units = left }); state = u } →
         whole ≡ before_all (lists_of next) (arguments_for w u mode depth t parts (length next) left (lists_of rest))
-    unfolding Then_more and_then after_result
+    unfolding Then_more answered_and_then after_result
     turn_expanded next v u left made expanded =
-        at_next next v u left made (at_expanded ∙ ap (λ r. before_all (lists_of out) (and_then r Then_more)) expanded)
+        at_next next v u left made (at_expanded ∙ ap (λ r. before_all (lists_of out) (answered_and_then r Then_more)) expanded)
 
     pub turn_stops : (u : S) (e : RunError) → Stops e u (argument_for w s mode depth t alone units (map marked_of a.items)) → Stops e u whole
-    unfolding Then_more and_then after_result before_all
+    unfolding Then_more answered_and_then after_result before_all
     turn_stops u e stops =
-        Stops-same e u _ _ (λ f failed. at_expanded ∙ ap (λ r. before_all (lists_of out) (and_then r Then_more)) failed) stops
+        Stops-same e u _ _ (λ f failed. at_expanded ∙ ap (λ r. before_all (lists_of out) (answered_and_then r Then_more)) failed) stops
 
 -- an argument goes from those that are left to those that were expanded
 pub one_moved : (out next left rest : List (Vec Kept Global)) (v a : Vec Kept Global) (all : ℕ) → next ≡ out ++ v ∷ [] → left ≡ a ∷ rest →
@@ -237,11 +237,11 @@ one_moved out next left rest v a all made is whole =
     omega (arith, ap length made ∙ length-append out (v ∷ []), ap length is, whole)
 
 -- where every argument was expanded
-pub arguments_end : {S : Type 0} (w : Answerer S) (s : S) (mode : Mode) (depth : ℕ) (t : Token) (parts : List Part)
+pub arguments_end : {S : Type 0} (w : Answerer S) (s : S) (mode : Mode) (depth : ℕ) (t : Token) (parts : List BodyPart)
     (whole : Answered ExpandedEach S) (out : List (List Marked)) (now : List (Vec Kept Global)) (i units : ℕ) → now ≡ [] →
     whole ≡ before_all out (arguments_for w s mode depth t parts i units (lists_of now)) →
     whole ≡ record { result = Ok (record { lists = out; units = units }); state = s }
-unfolding before_all and_then after_result
+unfolding before_all answered_and_then after_result
 arguments_end w s mode depth t parts whole out now i units none keeps =
     keeps
     ∙ ap (λ q. before_all out (arguments_for w s mode depth t parts i units (lists_of q))) none

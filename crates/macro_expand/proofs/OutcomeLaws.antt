@@ -6,7 +6,7 @@ use Rattle.macro_expand.specs.declared.outcome.Mode.{Mode}
 use Rattle.macro_expand.specs.Asking.{Work}
 use Rattle.macro_expand.specs.Replacement.{Marked}
 use Rattle.macro_expand.specs.Expansion.{expansion, expanded_by, Table, Place}
-use Rattle.macro_expand.specs.Choice.{Sets, complete_runs, taken_run, taken, run_by, IsWithin}
+use Rattle.macro_expand.specs.Choice.{Sets, complete_runs, taken_run, choices_taken, run_by, IsWithin}
 use Rattle.macro_expand.specs.Laws.{SameTokens, SameEnd, IsCutOff, Knows, GoesAlike, ChoiceFact}
 use Rattle.macro_expand.proofs.UnitsLaws.{expansion-alike}
 use Rattle.macro_expand.proofs.ChoiceLaws.{Outcome, taken_run-complete, taken_run-outcome}
@@ -15,7 +15,7 @@ use Rattle.macro_expand.proofs.RunLaws.{complete_runs-are, complete_run-used}
 module _ (sets : Sets) (file : Option (List ℕ)) (table : Table) (here : Place) (mode : Mode) (units work : ℕ) (ts : List Marked) where
   goes_alike : Contains (complete_runs sets file (expansion mode 0 work ts)) (taken_run sets file table (expansion mode 0 work ts)) →
       SameEnd (SameTokens work units) (expanded_by table here mode 0 units ts) (taken_run sets file table (expansion mode 0 work ts)).ending →
-      taken sets table here (expansion mode 0 units ts) ≡ (taken_run sets file table (expansion mode 0 work ts)).choices →
+      choices_taken sets table here (expansion mode 0 units ts) ≡ (taken_run sets file table (expansion mode 0 work ts)).choices →
       GoesAlike sets file table here mode units work ts
   goes_alike complete same list = record {
     ends = same;
@@ -28,7 +28,7 @@ module _ (sets : Sets) (file : Option (List ℕ)) (table : Table) (here : Place)
 
   told : Contains (complete_runs sets file (expansion mode 0 work ts)) (taken_run sets file table (expansion mode 0 work ts)) →
       Outcome (SameTokens work units) (expanded_by table here mode 0 units ts) (taken_run sets file table (expansion mode 0 work ts)).ending
-      (taken sets table here (expansion mode 0 units ts)) (taken_run sets file table (expansion mode 0 work ts)).choices →
+      (choices_taken sets table here (expansion mode 0 units ts)) (taken_run sets file table (expansion mode 0 work ts)).choices →
       (expanded_by table here mode 0 units ts ≡ Err Work)
       ⊎ (IsCutOff (taken_run sets file table (expansion mode 0 work ts)).ending ⊎ GoesAlike sets file table here mode units work ts)
   told complete (inl e) = inl e

@@ -11,8 +11,8 @@ use Rattle.macro_defs.specs.Arguments.{argument_named}
 use Rattle.macro_defs.proofs.Fronts.{front_at}
 use Rattle.pp_tokens.specs.Marks.{is_punctuator, is_open, is_close, is_comma, is_hash, is_pasting, Mark, Opening, Closing, Comma, Hash, Pasting, NoMark, mark_of}
 use Rattle.macro_expand.specs.declared.replace.Part.{Part as KeptPart}
-use Rattle.macro_expand.specs.Replacement.{Part, Plain, Argument, Spelling, Join, parts_after, is_join, is_alone, stands_alone}
-use Rattle.macro_expand.specs.parts.Parts.{operand_part, part_of, object_part, begins_spelling, Marks}
+use Rattle.macro_expand.specs.Replacement.{BodyPart, Plain, Argument, Spelling, Join, parts_after, is_join, is_alone, stands_alone}
+use Rattle.macro_expand.specs.parts.Parts.{operand_part, body_part, object_part, begins_spelling, Marks}
 use Rattle.macro_expand.specs.Seen.{part_seen, parts_seen}
 
 abbrev mark_by : Bool → Bool → Bool → Bool → Bool → Mark
@@ -61,9 +61,9 @@ pub mark-not_pasting : {A : Type 0} (t : Token) (x y : A) → is_pasting t ≡ f
 unfolding mark_of
 mark-not_pasting t x y e = no_pasting (is_open t) (is_close t) (is_comma t) (is_hash t) (is_pasting t) x y e
 
-no_hash : (o c m h p : Bool) (j y : Part) (x z : List Part) → h ≡ false →
-    (elim (mark_by o c m h p) as (λ u. List Part) [ Pasting ↦ j ∷ z | Hash ↦ x | _ ↦ y ∷ z ])
-    ≡ (elim (mark_by o c m h p) as (λ u. Part) [ Pasting ↦ j | _ ↦ y ]) ∷ z
+no_hash : (o c m h p : Bool) (j y : BodyPart) (x z : List BodyPart) → h ≡ false →
+    (elim (mark_by o c m h p) as (λ u. List BodyPart) [ Pasting ↦ j ∷ z | Hash ↦ x | _ ↦ y ∷ z ])
+    ≡ (elim (mark_by o c m h p) as (λ u. BodyPart) [ Pasting ↦ j | _ ↦ y ]) ∷ z
 no_hash true c m h p j y x z e = refl
 no_hash false true m h p j y x z e = refl
 no_hash false false true h p j y x z e = refl
@@ -74,22 +74,22 @@ no_hash false false false false false j y x z e = refl
 -- One token.
 
 pub object_part-join : (t : Token) → is_pasting t ≡ true → object_part t ≡ Join
-object_part-join t h = ap (λ m. elim m as (λ x. Part) [ Pasting ↦ Join | _ ↦ Plain t ]) (mark-pasting t h)
+object_part-join t h = ap (λ m. elim m as (λ x. BodyPart) [ Pasting ↦ Join | _ ↦ Plain t ]) (mark-pasting t h)
 
 pub object_part-plain : (t : Token) → is_pasting t ≡ false → object_part t ≡ Plain t
 object_part-plain t h = mark-not_pasting t Join (Plain t) h
 
-pub part_of-join : (t : Token) (named : Option ℕ) → is_pasting t ≡ true → part_of None t named ≡ Join
-part_of-join t named h = ap (λ m. elim m as (λ x. Part) [ Pasting ↦ Join | _ ↦ operand_part None t named ]) (mark-pasting t h)
+pub body_part-join : (t : Token) (named : Option ℕ) → is_pasting t ≡ true → body_part None t named ≡ Join
+body_part-join t named h = ap (λ m. elim m as (λ x. BodyPart) [ Pasting ↦ Join | _ ↦ operand_part None t named ]) (mark-pasting t h)
 
-pub part_of-operand : (t : Token) (named : Option ℕ) → is_pasting t ≡ false → part_of None t named ≡ operand_part None t named
-part_of-operand t named h = mark-not_pasting t Join (operand_part None t named) h
+pub body_part-operand : (t : Token) (named : Option ℕ) → is_pasting t ≡ false → body_part None t named ≡ operand_part None t named
+body_part-operand t named h = mark-not_pasting t Join (operand_part None t named) h
 
-argument_or : (o : Option ℕ) (t : Token) → (elim o as (λ x. Part) [ None ↦ Plain t | Some i ↦ Argument i t.space ]) ≡ operand_part None t o
+argument_or : (o : Option ℕ) (t : Token) → (elim o as (λ x. BodyPart) [ None ↦ Plain t | Some i ↦ Argument i t.space ]) ≡ operand_part None t o
 argument_or None t = refl
 argument_or (Some i) t = refl
 
-spelling_or : (o : Option ℕ) (space : Bool) (t : Token) → (elim o as (λ x. Part) [ None ↦ Plain t | Some i ↦ Spelling i space ]) ≡ operand_part (Some space) t o
+spelling_or : (o : Option ℕ) (space : Bool) (t : Token) → (elim o as (λ x. BodyPart) [ None ↦ Plain t | Some i ↦ Spelling i space ]) ≡ operand_part (Some space) t o
 spelling_or None space t = refl
 spelling_or (Some i) space t = refl
 
@@ -97,21 +97,21 @@ pub parts_after-hash : (hash : Option Bool) (names : List (List ℕ)) (t : Token
     parts_after hash names (t ∷ ts) ≡ parts_after (Some t.space) names ts
 unfolding parts_after
 parts_after-hash None names t ts h =
-    ap (λ m. elim m as (λ x. List Part) [
+    ap (λ m. elim m as (λ x. List BodyPart) [
       | Pasting ↦ Join ∷ parts_after None names ts
       | Hash ↦ parts_after (Some t.space) names ts
-      | _ ↦ (elim (argument_named names t) as (λ x. Part) [ None ↦ Plain t | Some i ↦ Argument i t.space ]) ∷ parts_after None names ts
+      | _ ↦ (elim (argument_named names t) as (λ x. BodyPart) [ None ↦ Plain t | Some i ↦ Argument i t.space ]) ∷ parts_after None names ts
     ])
     (mark-hash t h)
 parts_after-hash (Some space) names t ts h = absurd (cc)
 
 pub parts_after-part : (hash : Option Bool) (names : List (List ℕ)) (t : Token) (ts : List Token) → begins_spelling hash t ≡ false →
-    parts_after hash names (t ∷ ts) ≡ part_of hash t (argument_named names t) ∷ parts_after None names ts
+    parts_after hash names (t ∷ ts) ≡ body_part hash t (argument_named names t) ∷ parts_after None names ts
 unfolding parts_after mark_of
 parts_after-part None names t ts h =
-    no_hash (is_open t) (is_close t) (is_comma t) (is_hash t) (is_pasting t) Join (elim (argument_named names t) as (λ x. Part) [ None ↦ Plain t | Some i ↦ Argument i t.space ])
+    no_hash (is_open t) (is_close t) (is_comma t) (is_hash t) (is_pasting t) Join (elim (argument_named names t) as (λ x. BodyPart) [ None ↦ Plain t | Some i ↦ Argument i t.space ])
     (parts_after (Some t.space) names ts) (parts_after None names ts) h
-    ∙ ap (λ p. (elim (mark_of t) as (λ u. Part) [ Pasting ↦ Join | _ ↦ p ]) ∷ parts_after None names ts) (argument_or (argument_named names t) t)
+    ∙ ap (λ p. (elim (mark_of t) as (λ u. BodyPart) [ Pasting ↦ Join | _ ↦ p ]) ∷ parts_after None names ts) (argument_or (argument_named names t) t)
 parts_after-part (Some space) names t ts h = ap (λ p. p ∷ parts_after None names ts) (spelling_or (argument_named names t) space t)
 
 -- the argument that the token at a place names
@@ -123,7 +123,7 @@ named-at names (u ∷ body) (suc i) t below is = named-at names body i t (omega 
 
 -- The loop over a list: `parts` were read, and a `#` stands right before the token at `i`, or none.
 module _ (names : List (List ℕ)) (body : List Token) (i : ℕ) (t : Token) (below : i < length body) (is : t ≡ get_or body i t)
-    (hash : Option Bool) (parts : List KeptPart) (whole : List Part)
+    (hash : Option Bool) (parts : List KeptPart) (whole : List BodyPart)
     (keeps : parts_seen parts ++ parts_after hash names (map without_line (drop i body)) ≡ whole) where
   here : parts_seen parts ++ parts_after hash names (without_line t ∷ map without_line (drop (i + 1) body)) ≡ whole
   here = ap (λ ts. parts_seen parts ++ parts_after hash names (map without_line ts)) (sym (front_at body i t below is)) ∙ keeps
@@ -136,7 +136,7 @@ module _ (names : List (List ℕ)) (body : List Token) (i : ℕ) (t : Token) (be
   read-hash h =
       ap (λ ps. parts_seen parts ++ ps) (sym (parts_after-hash hash names (without_line t) (map without_line (drop (i + 1) body)) (unlined hash ∙ h))) ∙ here
 
-  pub read-part : (p : KeptPart) (next : List KeptPart) → begins_spelling hash t ≡ false → part_seen p ≡ part_of hash (without_line t) (argument_named names (without_line t)) →
+  pub read-part : (p : KeptPart) (next : List KeptPart) → begins_spelling hash t ≡ false → part_seen p ≡ body_part hash (without_line t) (argument_named names (without_line t)) →
       next ≡ parts ++ p ∷ [] → parts_seen next ++ parts_after None names (map without_line (drop (i + 1) body)) ≡ whole
   read-part p next h seen made =
       ap (λ ps. parts_seen ps ++ rest) made
@@ -146,10 +146,10 @@ module _ (names : List (List ℕ)) (body : List Token) (i : ℕ) (t : Token) (be
       ∙ ap (λ ps. parts_seen parts ++ ps) (sym (parts_after-part hash names (without_line t) (map without_line (drop (i + 1) body)) (unlined hash ∙ h)))
       ∙ here
     where
-      rest : List Part
+      rest : List BodyPart
       rest = parts_after None names (map without_line (drop (i + 1) body))
 
-pub read-done : (names : List (List ℕ)) (body : List Token) (i : ℕ) (hash : Option Bool) (parts : List Part) (whole : List Part) → length body ≤ i →
+pub read-done : (names : List (List ℕ)) (body : List Token) (i : ℕ) (hash : Option Bool) (parts : List BodyPart) (whole : List BodyPart) → length body ≤ i →
     parts ++ parts_after hash names (map without_line (drop i body)) ≡ whole → parts ≡ whole
 unfolding parts_after
 read-done names body i hash parts whole past keeps =
@@ -157,16 +157,16 @@ read-done names body i hash parts whole past keeps =
 
 -- Arguments that stand alone (6.10.3.1).
 
-abbrev pub part_before : Bool → Option Part
+abbrev pub part_before : Bool → Option BodyPart
 part_before joined = if joined then Some Join else None
 
 -- only whether a `##` stands before counts
-alone-before : (i : ℕ) (p : Part) (joined : Bool) (ps : List Part) → joined ≡ is_join (Some p) → stands_alone i (part_before joined) ps ≡ stands_alone i (Some p) ps
+alone-before : (i : ℕ) (p : BodyPart) (joined : Bool) (ps : List BodyPart) → joined ≡ is_join (Some p) → stands_alone i (part_before joined) ps ≡ stands_alone i (Some p) ps
 unfolding stands_alone
 alone-before i p joined [] e = refl
 alone-before i p joined (q ∷ ps) e = ap (λ b. b || stands_alone i (Some q) ps) (same q p joined ps e)
   where
-    same : (q p : Part) (joined : Bool) (ps : List Part) → joined ≡ is_join (Some p) → is_alone i (part_before joined) q ps ≡ is_alone i (Some p) q ps
+    same : (q p : BodyPart) (joined : Bool) (ps : List BodyPart) → joined ≡ is_join (Some p) → is_alone i (part_before joined) q ps ≡ is_alone i (Some p) q ps
     same (Plain t) p joined ps e = refl
     same (Argument j space) (Plain t) joined ps e = rw e refl
     same (Argument j space) (Argument k s) joined ps e = rw e refl
@@ -194,7 +194,7 @@ alone-turn old new count joined next parts seen k p whole here is behind after s
     ∙ ap (λ ps. get_or old i false || stands_alone i (part_before joined) (parts_seen ps)) (ap (λ ps. p ∷ ps) behind ∙ sym (front_at parts k p here is))
     ∙ keeps i below
 
-pub alone-done : (alone : List Bool) (count : ℕ) (left : Option Part) (parts : List KeptPart) (k : ℕ) (whole : ℕ → Bool) → length parts ≤ k →
+pub alone-done : (alone : List Bool) (count : ℕ) (left : Option BodyPart) (parts : List KeptPart) (k : ℕ) (whole : ℕ → Bool) → length parts ≤ k →
     ((i : ℕ) → i < count → (get_or alone i false || stands_alone i left (parts_seen (drop k parts))) ≡ whole i) →
     (i : ℕ) → i < count → get_or alone i false ≡ whole i
 unfolding stands_alone

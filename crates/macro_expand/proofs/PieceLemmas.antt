@@ -10,7 +10,7 @@ use Rattle.macro_expand.specs.declared.replace.Part.{Part as KeptPart}
 use Rattle.macro_expand.specs.declared.outcome.RunError.{RunError}
 use Rattle.macro_expand.specs.declared.outcome.RunError.TheVariants.{Count as CountError, Unclosed as UnclosedError, Paste as PasteError, Deep as DeepError, Work as WorkError, Presumed as PresumedError, Memory}
 use Rattle.macro_expand.specs.Asking.{Failure, Paste}
-use Rattle.macro_expand.specs.Replacement.{Marked, Names, unmarked, with_space, argument_at, is_join, first_part, with_name, common_names, Part, Plain, Argument, Spelling, Join, Piece, Real, Arguments, pieces_of_part, pieces_of, joined, put_in_for, replacement, object_parts}
+use Rattle.macro_expand.specs.Replacement.{Marked, Names, unmarked, with_space, argument_at, is_join, first_body_part, with_name, common_names, BodyPart, Plain, Argument, Spelling, Join, Piece, Real, Arguments, pieces_of_part, pieces_of, joins_made, put_in_for, replacement, object_parts}
 use Rattle.macro_expand.specs.Expansion.{object_replacement, call_replacement}
 use Rattle.macro_expand.specs.Sets.{names_in}
 use Rattle.macro_expand.specs.Seen.{part_seen, parts_seen, marked_of, call_replaced_by, KeepsWritten, Reports, ReportsPaste}
@@ -19,7 +19,7 @@ use Rattle.pp_tokens.specs.Marks.{is_comma}
 use Rattle.macro_expand.proofs.StringLemmas.{grows, nothing_left}
 
 -- a turn of the loop: one part more, where `seen` are the parts behind it
-pub pieces-turn : (args : Arguments) (parts seen : List KeptPart) (k : ℕ) (p : KeptPart) (left : Option Part) (out next whole : List Piece) →
+pub pieces-turn : (args : Arguments) (parts seen : List KeptPart) (k : ℕ) (p : KeptPart) (left : Option BodyPart) (out next whole : List Piece) →
     k < length parts → p ≡ get_or parts k p → seen ≡ drop (k + 1) parts → next ≡ out ++ pieces_of_part args left (part_seen p) (parts_seen seen) →
     out ++ pieces_of args left (parts_seen (drop k parts)) ≡ whole →
     next ++ pieces_of args (Some (part_seen p)) (parts_seen (drop (k + 1) parts)) ≡ whole
@@ -31,7 +31,7 @@ pieces-turn args parts seen k p left out next whole below is behind made keeps =
     ∙ ap (λ ps. pieces_of_part args left (part_seen p) (parts_seen ps) ++ pieces_of args (Some (part_seen p)) (parts_seen (drop (k + 1) parts))) (sym behind))
     keeps
 
-pub pieces-done : (args : Arguments) (parts : List KeptPart) (k : ℕ) (left : Option Part) (out whole : List Piece) → length parts ≤ k →
+pub pieces-done : (args : Arguments) (parts : List KeptPart) (k : ℕ) (left : Option BodyPart) (out whole : List Piece) → length parts ≤ k →
     out ++ pieces_of args left (parts_seen (drop k parts)) ≡ whole → out ≡ whole
 unfolding pieces_of
 pieces-done args parts k left out whole past keeps =
@@ -46,15 +46,15 @@ Joined = Result (List Marked) (List ℕ × List ℕ)
 abbrev put_in : Token → Names → Joined → Result (List Marked) Failure
 put_in t hidden r = elim r as (λ x. Result (List Marked) Failure) [ Ok ts ↦ Ok (put_in_for t hidden ts) | Err pair ↦ Err (Paste pair.0 pair.1 t.line) ]
 
-module _ (t : Token) (hidden : Names) (parts : List Part) (args : Arguments) (pieces : List Piece) (same : pieces ≡ pieces_of args None parts) where
-  here : replacement t hidden parts args ≡ put_in t hidden (joined None false pieces)
+module _ (t : Token) (hidden : Names) (parts : List BodyPart) (args : Arguments) (pieces : List Piece) (same : pieces ≡ pieces_of args None parts) where
+  here : replacement t hidden parts args ≡ put_in t hidden (joins_made None false pieces)
   unfolding replacement
-  here = ap (λ ps. put_in t hidden (joined None false ps)) (sym same)
+  here = ap (λ ps. put_in t hidden (joins_made None false ps)) (sym same)
 
-  pub replacement-made : (made out : List Marked) → joined None false pieces ≡ Ok made → out ≡ put_in_for t hidden made → replacement t hidden parts args ≡ Ok out
+  pub replacement-made : (made out : List Marked) → joins_made None false pieces ≡ Ok made → out ≡ put_in_for t hidden made → replacement t hidden parts args ≡ Ok out
   replacement-made made out is put = here ∙ ap (put_in t hidden) is ∙ ap Ok (sym put)
 
-  pub replacement-fails : (e : RunError) → ReportsPaste e t.line (joined None false pieces) → Reports e (replacement t hidden parts args)
+  pub replacement-fails : (e : RunError) → ReportsPaste e t.line (joins_made None false pieces) → Reports e (replacement t hidden parts args)
   replacement-fails (CountError name at) r = absurd r
   replacement-fails (UnclosedError name at) r = absurd r
   replacement-fails (PasteError a b at) r = here ∙ ap (put_in t hidden) r.1 ∙ ap (λ l. Err (Paste a b l)) (sym r.0)
@@ -65,7 +65,7 @@ module _ (t : Token) (hidden : Names) (parts : List Part) (args : Arguments) (pi
 
 -- Where no part takes an argument as it is written, none is needed.
 
-no_join : (ps : List Part) → list_any takes_written ps ≡ false → is_join (first_part ps) ≡ false
+no_join : (ps : List BodyPart) → list_any takes_written ps ≡ false → is_join (first_body_part ps) ≡ false
 no_join [] none = refl
 no_join (Plain t ∷ ps) none = refl
 no_join (Argument i space ∷ ps) none = refl
@@ -83,7 +83,7 @@ expanded_alone false false x y l r = refl
 expanded_alone true right x y l r = absurd (true≢false l)
 expanded_alone false true x y l r = absurd (true≢false r)
 
-pieces_of-unwritten : (written written' expanded : List (List Marked)) (variable : Option ℕ) (left : Option Part) (ps : List Part) →
+pieces_of-unwritten : (written written' expanded : List (List Marked)) (variable : Option ℕ) (left : Option BodyPart) (ps : List BodyPart) →
     is_join left ≡ false → list_any takes_written ps ≡ false →
     pieces_of (record { written = written; expanded = expanded; variable = variable }) left ps
     ≡ pieces_of (record { written = written'; expanded = expanded; variable = variable }) left ps
@@ -91,31 +91,31 @@ unfolding pieces_of
 pieces_of-unwritten written written' expanded variable left [] apart none = refl
 pieces_of-unwritten written written' expanded variable left (Plain t ∷ ps) apart none =
     ap (λ q. q ++ pieces_of (record { written = written; expanded = expanded; variable = variable }) (Some (Plain t)) ps)
-    (kept_comma (is_comma t) (is_join (first_part ps)) _ _ [] (Real (unmarked t) ∷ []) (no_join ps none)
-    ∙ sym (kept_comma (is_comma t) (is_join (first_part ps)) _ _ [] (Real (unmarked t) ∷ []) (no_join ps none)))
+    (kept_comma (is_comma t) (is_join (first_body_part ps)) _ _ [] (Real (unmarked t) ∷ []) (no_join ps none)
+    ∙ sym (kept_comma (is_comma t) (is_join (first_body_part ps)) _ _ [] (Real (unmarked t) ∷ []) (no_join ps none)))
     ∙ ap (λ q. pieces_of_part (record { written = written'; expanded = expanded; variable = variable }) left (Plain t) ps ++ q)
     (pieces_of-unwritten written written' expanded variable (Some (Plain t)) ps refl none)
 pieces_of-unwritten written written' expanded variable left (Argument i space ∷ ps) apart none =
     ap (λ q. q ++ pieces_of (record { written = written; expanded = expanded; variable = variable }) (Some (Argument i space)) ps)
-    (expanded_alone (is_join left) (is_join (first_part ps)) _ (map Real (with_space space (argument_at i expanded))) apart (no_join ps none)
-    ∙ sym (expanded_alone (is_join left) (is_join (first_part ps)) _ (map Real (with_space space (argument_at i expanded))) apart (no_join ps none)))
+    (expanded_alone (is_join left) (is_join (first_body_part ps)) _ (map Real (with_space space (argument_at i expanded))) apart (no_join ps none)
+    ∙ sym (expanded_alone (is_join left) (is_join (first_body_part ps)) _ (map Real (with_space space (argument_at i expanded))) apart (no_join ps none)))
     ∙ ap (λ q. pieces_of_part (record { written = written'; expanded = expanded; variable = variable }) left (Argument i space) ps ++ q)
     (pieces_of-unwritten written written' expanded variable (Some (Argument i space)) ps refl none)
 pieces_of-unwritten written written' expanded variable left (Spelling i space ∷ ps) apart none = absurd (true≢false none)
 pieces_of-unwritten written written' expanded variable left (Join ∷ ps) apart none = absurd (true≢false none)
 
-pub keeps_none : (parts : List Part) (written : List (List Marked)) → list_any takes_written parts ≡ false → KeepsWritten parts written []
+pub keeps_none : (parts : List BodyPart) (written : List (List Marked)) → list_any takes_written parts ≡ false → KeepsWritten parts written []
 unfolding call_replacement replacement
 keeps_none parts written none t variable close expanded =
-    ap (λ ps. put_in t.token (with_name t.token.text (common_names (names_in t.hidden) close.hidden)) (joined None false ps))
+    ap (λ ps. put_in t.token (with_name t.token.text (common_names (names_in t.hidden) close.hidden)) (joins_made None false ps))
     (pieces_of-unwritten [] written expanded variable None parts refl none)
 
-pub keeps_all : (parts : List Part) (written kept : List (List Marked)) → kept ≡ written → KeepsWritten parts written kept
+pub keeps_all : (parts : List BodyPart) (written kept : List (List Marked)) → kept ≡ written → KeepsWritten parts written kept
 keeps_all parts written kept same t variable close expanded = ap (λ w. call_replaced_by t parts variable w close expanded) same
 
 -- what a name is replaced by, by a hide set that code keeps
 
-pub object-same : (t : Kept) (body : List Token) (hidden : List (List ℕ)) (parts : List Part) →
+pub object-same : (t : Kept) (body : List Token) (hidden : List (List ℕ)) (parts : List BodyPart) →
     ((n : List ℕ) → names_in hidden n ≡ (bytes_eq n t.token.text || names_in t.hidden n)) → parts ≡ object_parts body →
     replacement t.token (names_in hidden) parts (record { written = []; expanded = []; variable = None }) ≡ object_replacement (marked_of t) body
 unfolding object_replacement
@@ -123,7 +123,7 @@ object-same t body hidden parts h same =
     ap (λ (names : Names). replacement t.token names parts (record { written = []; expanded = []; variable = None })) (fun_ext h)
     ∙ ap (λ ps. replacement t.token (with_name t.token.text (names_in t.hidden)) ps (record { written = []; expanded = []; variable = None })) same
 
-pub call-same : (t close : Kept) (parts : List Part) (variable : Option ℕ) (written expanded : List (List Marked)) (hidden : List (List ℕ)) →
+pub call-same : (t close : Kept) (parts : List BodyPart) (variable : Option ℕ) (written expanded : List (List Marked)) (hidden : List (List ℕ)) →
     ((n : List ℕ) → names_in hidden n ≡ with_name t.token.text (common_names (names_in t.hidden) (names_in close.hidden)) n) →
     replacement t.token (names_in hidden) parts (record { written = written; expanded = expanded; variable = variable })
     ≡ call_replaced_by t parts variable written (marked_of close) expanded
@@ -155,7 +155,7 @@ call-hides (Ok h) name text t close both same common with = λ n. with n ∙ ap 
 call-hides (Err e) name text t close both same common with = with
 
 -- what is kept of the arguments as written gives what they give
-pub written_is : (t : Kept) (parts : List Part) (variable : Option ℕ) (written kept expanded : List (List Marked)) (close close' : Kept) →
+pub written_is : (t : Kept) (parts : List BodyPart) (variable : Option ℕ) (written kept expanded : List (List Marked)) (close close' : Kept) →
     KeepsWritten parts written kept → close' ≡ close →
     call_replaced_by t parts variable kept (marked_of close') expanded ≡ call_replaced_by t parts variable written (marked_of close) expanded
 written_is t parts variable written kept expanded close close' keeps same =

@@ -4,7 +4,7 @@ use Rattle.std.specs.List.{flat_map, Contains}
 use Rattle.std.proofs.lemmas.List.Elements.{Contains-append_cases}
 use Rattle.macro_defs.specs.MacroDefinition.{MacroDefinition}
 use Rattle.macro_expand.specs.Asking.{Asking, give, fail, ask_definition, ask_file, ask_line}
-use Rattle.macro_expand.specs.Choice.{Sets, Choice, Gave, Failed, Presumed, Run, after_choice, ended, runs_of, complete_runs, Started, run_by}
+use Rattle.macro_expand.specs.Choice.{Sets, Choice, Gave, Failed, Presumed, Run, after_choice, run_ended, runs_of, complete_runs, Started, run_by}
 use Rattle.macro_expand.proofs.ChoiceLaws.{IsAllowed, contains_first, contains_later}
 
 pub contains_map_from : {A B : Type 0} (f : A → B) (xs : List A) (y : B) → Contains (map f xs) y → (x : A) × (Contains xs x) × (f x ≡ y)
@@ -30,11 +30,11 @@ IsRunOf {A} P (d ∷ ds) r = (c : Choice) × (s : Run A) × (IsAllowed (d ∷ ds
 
 -- a complete run of a tree
 abbrev pub IsRun : {A : Type 0} → Sets → Option (List ℕ) → Asking A → Run A → Type 0
-IsRun sets file (give x) r = ended (Gave x) ≡ r
-IsRun sets file (fail e) r = ended (Failed e) ≡ r
+IsRun sets file (give x) r = run_ended (Gave x) ≡ r
+IsRun sets file (fail e) r = run_ended (Failed e) ≡ r
 IsRun sets file (ask_definition name next) r = IsRunOf (λ c s. IsRun sets file (next c) s) (sets name) r
-IsRun sets file (ask_file next) r = elim file [ None ↦ ended Presumed ≡ r | Some name ↦ IsRun sets file (next name) r ]
-IsRun sets file (ask_line line next) r = ended Presumed ≡ r
+IsRun sets file (ask_file next) r = elim file [ None ↦ run_ended Presumed ≡ r | Some name ↦ IsRun sets file (next name) r ]
+IsRun sets file (ask_line line next) r = run_ended Presumed ≡ r
 
 contains_one : {A : Type 0} (x y : A) → Contains (x ∷ []) y → x ≡ y
 contains_one x y (zero, below, is) = is

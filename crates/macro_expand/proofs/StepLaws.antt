@@ -13,8 +13,8 @@ use Rattle.macro_expand.specs.declared.marked.Role.TheVariants.{Defined, FileNam
 use Rattle.macro_defs.specs.MacroDefinition.{MacroDefinition}
 use Rattle.macro_expand.specs.Asking.{Failure, Asking, give, fail, ask_definition, ask_file, ask_line, then_with}
 use Rattle.pp_tokens.specs.Marks.{Opening, Closing, Comma, mark_of, is_identifier, is_open, is_close}
-use Rattle.macro_expand.specs.Replacement.{Marked, Call, call_with, call_in, after_open, argument_with, cut_at_commas, arguments_of, Part}
-use Rattle.macro_expand.specs.Expansion.{Expanded, ExpandedEach, Expander, put_out, call_replacement, go_on, charged, argument_expanded, arguments_expanded, counted, called, function_replaced, macro_replaced, name_replaced, built_in, operand_of_defined, role_of, role_expanded, expansion_step, expansion_within, expansion}
+use Rattle.macro_expand.specs.Replacement.{Marked, Call, call_with, call_in, after_open, argument_with, cut_at_outer_commas, arguments_of, BodyPart}
+use Rattle.macro_expand.specs.Expansion.{Expanded, ExpandedEach, Expander, put_out, call_replacement, go_on, charged, argument_expanded, arguments_expanded, counted, called, function_replaced, macro_replaced, name_replaced, built_in, operand_of_defined, head_role, role_expanded, expansion_step, expansion_within, expansion}
 use Rattle.macro_expand.proofs.AskingLaws.{Leaves, Leaves-then_with, then_with-agree}
 
 -- the units left are at most these
@@ -58,7 +58,7 @@ module _ (self : Expander) (depth : ℕ) (frugal : IsFrugal self) where
   argument_expanded-frugal true true t units a = frugal (suc depth) units a
   argument_expanded-frugal true false t units a = tt
 
-  arguments_expanded-frugal : (t : Token) (parts : List Part) (i units most : ℕ) (args : List (List Marked)) → units ≤ most →
+  arguments_expanded-frugal : (t : Token) (parts : List BodyPart) (i units most : ℕ) (args : List (List Marked)) → units ≤ most →
       Leaves (AtMostEach most) (arguments_expanded self depth t parts i units args)
   unfolding arguments_expanded
   arguments_expanded-frugal t parts i units most [] h = h
@@ -67,7 +67,7 @@ module _ (self : Expander) (depth : ℕ) (frugal : IsFrugal self) where
       Leaves-then_with (AtMostEach most) (AtMostEach most) _ _
       (arguments_expanded-frugal t parts (suc i) e.units most rest (le_trans k h)) (λ more m. m))
 
-  counted-frugal : (units : ℕ) (t : Marked) (parts : List Part) (variable : Option ℕ) (call : Call) (written : Option (List (List Marked))) →
+  counted-frugal : (units : ℕ) (t : Marked) (parts : List BodyPart) (variable : Option ℕ) (call : Call) (written : Option (List (List Marked))) →
       Leaves (AtMost units) (counted self depth units t parts variable call written)
   unfolding counted
   counted-frugal units t parts variable call None = tt
@@ -117,7 +117,7 @@ module _ (self : Expander) (depth : ℕ) (frugal : IsFrugal self) where
 pub expansion_step-frugal : (mode : Mode) (self : Expander) → IsFrugal self → IsFrugal (expansion_step mode self)
 unfolding expansion_step
 expansion_step-frugal mode self frugal depth units [] = le_refl _
-expansion_step-frugal mode self frugal depth units (t ∷ rest) = role_expanded-frugal self depth frugal units t rest (role_of mode t rest)
+expansion_step-frugal mode self frugal depth units (t ∷ rest) = role_expanded-frugal self depth frugal units t rest (head_role mode t rest)
 
 pub expansion_within-frugal : (n : ℕ) (mode : Mode) → IsFrugal (expansion_within n mode)
 unfolding expansion_within
@@ -175,28 +175,28 @@ argument_with-short : (k : ℕ) (t : Marked) (args : List (List Marked)) → Eac
 argument_with-short k t [] h = (omega arith, tt)
 argument_with-short k t (a ∷ rest) h = (omega (arith, h.0), EachShort-weaker k (suc k) rest (omega arith) h.1)
 
-cut_at_commas-short : (cuts nesting : ℕ) (ts : List Marked) → EachShort (length ts) (cut_at_commas cuts nesting ts)
-unfolding cut_at_commas
-cut_at_commas-short cuts nesting [] = (le_refl _, tt)
-cut_at_commas-short cuts nesting (t ∷ ts) =
+cut_at_outer_commas-short : (cuts nesting : ℕ) (ts : List Marked) → EachShort (length ts) (cut_at_outer_commas cuts nesting ts)
+unfolding cut_at_outer_commas
+cut_at_outer_commas-short cuts nesting [] = (le_refl _, tt)
+cut_at_outer_commas-short cuts nesting (t ∷ ts) =
     elim (mark_of t.token) as (λ m. EachShort (suc (length ts)) (elim m [
-      | Opening ↦ argument_with t (cut_at_commas cuts (suc nesting) ts)
-      | Closing ↦ argument_with t (cut_at_commas cuts (nesting - 1) ts)
+      | Opening ↦ argument_with t (cut_at_outer_commas cuts (suc nesting) ts)
+      | Closing ↦ argument_with t (cut_at_outer_commas cuts (nesting - 1) ts)
       | Comma ↦ elim (if nesting == 0 then cuts else 0) [
-        | zero ↦ argument_with t (cut_at_commas cuts nesting ts)
-        | suc less ↦ [] ∷ cut_at_commas less nesting ts
+        | zero ↦ argument_with t (cut_at_outer_commas cuts nesting ts)
+        | suc less ↦ [] ∷ cut_at_outer_commas less nesting ts
       ]
-      | _ ↦ argument_with t (cut_at_commas cuts nesting ts)
+      | _ ↦ argument_with t (cut_at_outer_commas cuts nesting ts)
     ])) [
-      | Opening ↦ argument_with-short _ t _ (cut_at_commas-short cuts (suc nesting) ts)
-      | Closing ↦ argument_with-short _ t _ (cut_at_commas-short cuts (nesting - 1) ts)
-      | Comma ↦ comma (λ c n. cut_at_commas-short c n ts) (if nesting == 0 then cuts else 0)
-      | _ ↦ argument_with-short _ t _ (cut_at_commas-short cuts nesting ts)
+      | Opening ↦ argument_with-short _ t _ (cut_at_outer_commas-short cuts (suc nesting) ts)
+      | Closing ↦ argument_with-short _ t _ (cut_at_outer_commas-short cuts (nesting - 1) ts)
+      | Comma ↦ comma (λ c n. cut_at_outer_commas-short c n ts) (if nesting == 0 then cuts else 0)
+      | _ ↦ argument_with-short _ t _ (cut_at_outer_commas-short cuts nesting ts)
     ]
   where
-    comma : ((c n : ℕ) → EachShort (length ts) (cut_at_commas c n ts)) → (k : ℕ) → EachShort (suc (length ts)) (elim k [
-      | zero ↦ argument_with t (cut_at_commas cuts nesting ts)
-      | suc less ↦ [] ∷ cut_at_commas less nesting ts
+    comma : ((c n : ℕ) → EachShort (length ts) (cut_at_outer_commas c n ts)) → (k : ℕ) → EachShort (suc (length ts)) (elim k [
+      | zero ↦ argument_with t (cut_at_outer_commas cuts nesting ts)
+      | suc less ↦ [] ∷ cut_at_outer_commas less nesting ts
     ])
     comma ih zero = argument_with-short _ t _ (ih cuts nesting)
     comma ih (suc less) = (omega arith, EachShort-weaker _ _ _ (omega arith) (ih less nesting))
@@ -215,8 +215,8 @@ arguments_of-short : (count : ℕ) (variadic : Bool) (ts : List Marked) → Each
 unfolding arguments_of
 arguments_of-short count true ts =
     let n : ℕ = length ts in
-    let pieces = cut_at_commas (count - 1) 0 ts in
-    let short : EachShort (length ts) (cut_at_commas (count - 1) 0 ts) = cut_at_commas-short (count - 1) 0 ts in
+    let pieces = cut_at_outer_commas (count - 1) 0 ts in
+    let short : EachShort (length ts) (cut_at_outer_commas (count - 1) 0 ts) = cut_at_outer_commas-short (count - 1) 0 ts in
     let none : EachShort (length ts) ([] ∷ []) = (omega arith, tt) in
     EachShortIf-if (length ts) (length pieces == count) pieces (if suc (length pieces) == count then Some (pieces ++ [] ∷ []) else None) short
     (EachShortIf-if (length ts) (suc (length pieces) == count) (pieces ++ [] ∷ []) None
@@ -224,8 +224,8 @@ arguments_of-short count true ts =
 arguments_of-short zero false [] = tt
 arguments_of-short zero false (t ∷ ts) = tt
 arguments_of-short (suc count) false ts =
-    EachShortIf-if (length ts) (length (cut_at_commas (length ts) 0 ts) == suc count) (cut_at_commas (length ts) 0 ts) None
-    (cut_at_commas-short (length ts) 0 ts) tt
+    EachShortIf-if (length ts) (length (cut_at_outer_commas (length ts) 0 ts) == suc count) (cut_at_outer_commas (length ts) 0 ts) None
+    (cut_at_outer_commas-short (length ts) 0 ts) tt
 
 if-second : (k : ℕ) (b : Bool) (x y : List Marked × List Marked) → length x.1 ≤ k → length y.1 ≤ k → length (if b then x else y).1 ≤ k
 if-second k true x y h g = h
@@ -278,7 +278,7 @@ module _ (k : ℕ) (self other : Expander) (depth : ℕ) (frugal : IsFrugal self
   argument_expanded-agree true true t units a h = agree (suc depth) units a h
   argument_expanded-agree true false t units a h = refl
 
-  arguments_expanded-agree : (t : Token) (parts : List Part) (i units longest : ℕ) (args : List (List Marked)) →
+  arguments_expanded-agree : (t : Token) (parts : List BodyPart) (i units longest : ℕ) (args : List (List Marked)) →
       EachShort longest args → units + longest < k →
       arguments_expanded self depth t parts i units args ≡ arguments_expanded other depth t parts i units args
   unfolding arguments_expanded
@@ -292,7 +292,7 @@ module _ (k : ℕ) (self other : Expander) (depth : ℕ) (frugal : IsFrugal self
       give (record { lists = e.tokens ∷ more.lists; units = more.units }))))
       (argument_expanded-agree _ _ t units a (omega (arith, short.0)))
 
-  counted-agree : (units : ℕ) (t : Marked) (parts : List Part) (variable : Option ℕ) (call : Call) (written : Option (List (List Marked))) →
+  counted-agree : (units : ℕ) (t : Marked) (parts : List BodyPart) (variable : Option ℕ) (call : Call) (written : Option (List (List Marked))) →
       EachShortIf (length call.within) written → units + length call.within < k → units + length call.after ≤ k →
       counted self depth units t parts variable call written ≡ counted other depth units t parts variable call written
   unfolding counted
@@ -356,7 +356,7 @@ expansion_step-agree : (k : ℕ) (mode : Mode) (self other : Expander) → IsFru
 unfolding expansion_step
 expansion_step-agree k mode self other frugal agree depth units [] h = refl
 expansion_step-agree k mode self other frugal agree depth units (t ∷ rest) h =
-    role_expanded-agree k self other depth frugal agree units t rest (role_of mode t rest) (omega arith)
+    role_expanded-agree k self other depth frugal agree units t rest (head_role mode t rest) (omega arith)
 
 -- with enough steps, more steps change nothing
 pub expansion_within-agree : (k n m : ℕ) (mode : Mode) → k ≤ n → k ≤ m → Agree k (expansion_within n mode) (expansion_within m mode)

@@ -11,8 +11,8 @@ use Rattle.macro_expand.specs.declared.outcome.ExpandError.TheVariants.{Count as
 use Rattle.macro_expand.specs.Asking.{Failure}
 use Rattle.macro_expand.specs.Replacement.{Marked}
 use Rattle.macro_expand.specs.Expansion.{Expanded, Table, Place, expanded_by}
-use Rattle.macro_expand.specs.Answered.{after_result, and_then, before, expanded_for, table_answerer}
-use Rattle.macro_expand.specs.Seen.{marked_of, kept_token, place_of, Gives, GoesOn, Stops, ReportsResult}
+use Rattle.macro_expand.specs.Answered.{after_result, answered_and_then, before, expanded_for, table_answerer}
+use Rattle.macro_expand.specs.Seen.{marked_of, kept_token, place_of, GivesTokens, StepKeepsResult, Stops, ReportsResult}
 use Rattle.macro_expand.specs.Stream.{Given, Stream, given, given_before, to_come, GivesNext, StaysAsItIs, Becomes}
 use Rattle.macro_expand.proofs.AnsweredLaws.{lifted, before-nothing, expanded_for-nil, expanded_for-ordinary, expanded_for-undefined}
 use Rattle.macro_expand.proofs.GivesLaws.{by_is, result_is, lowered-lifted}
@@ -64,7 +64,7 @@ with_tokens ts (Err f) = Err f
 
 before-lifted : {S : Type 0} (ts : List Marked) (r : Result Expanded Failure) (u : S) →
     before ts (record { result = lifted r; state = u }) ≡ record { result = lifted (with_tokens ts r); state = u }
-unfolding with_tokens before and_then after_result
+unfolding with_tokens before answered_and_then after_result
 before-lifted ts (Ok e) u = refl
 before-lifted ts (Err f) u = refl
 
@@ -120,7 +120,7 @@ failed (Ok e) f same = absurd (cc)
 failed (Err g) f same = let inner : g ≡ f = cc in ap (λ (h : Failure). let q : Result Expanded Failure = Err h in q) inner
 
 -- what is given as a whole gives the tokens
-pub gives_given : (r : Result Expanded Failure) (ts : List Token) (units : ℕ) → given r ≡ given_before ts (Ok (record { tokens = []; units = units })) → Gives r ts units
+pub gives_given : (r : Result Expanded Failure) (ts : List Token) (units : ℕ) → given r ≡ given_before ts (Ok (record { tokens = []; units = units })) → GivesTokens r ts units
 gives_given (Ok e) ts units same =
     let q : Ok (record { tokens = map (λ (m : Marked). m.token) e.tokens; units = e.units }) ≡ Ok (record { tokens = ts ++ []; units = units }) = same in
     (ap (λ (x : Result Given Failure). given_tokens x) q ∙ append-nil ts, ap (λ (x : Result Given Failure). given_units x) q)
@@ -171,7 +171,7 @@ module _ (table : Table) (mode : Mode) where
 
   -- another token's step
   pub head_turn : (s u v : TablePlace) (units left less : ℕ) (pending now rest later none out us : List Kept) (t : Kept) → Becomes table s mode units pending [] u left now → now ≡ t ∷ rest →
-      none ≡ [] → GoesOn (table_answerer (λ _. table) (λ p. place_of p.here.now)) mode 0 u left none t rest v less out later → out ≡ us → Becomes table s mode units pending us v less later
+      none ≡ [] → StepKeepsResult (table_answerer (λ _. table) (λ p. place_of p.here.now)) mode 0 u left none t rest v less out later → out ≡ us → Becomes table s mode units pending us v less later
   head_turn s u v units left less pending now rest later none out us t kept is empty goes same =
       kept
       ∙ ap (λ (l : List Kept). before [] (expanded_for (table_answerer (λ _. table) (λ p. place_of p.here.now)) u mode 0 left (map marked_of l))) is

@@ -12,8 +12,8 @@ use Rattle.macro_expand.specs.declared.marked.Role.TheVariants.{Defined, FileNam
 use Rattle.macro_defs.specs.declared.definition.Shape.TheVariants.{Object, Function}
 use Rattle.macro_defs.specs.MacroDefinition.{MacroDefinition}
 use Rattle.macro_expand.specs.Asking.{Failure, Count, Unclosed, Deep, Work, Asking, give, fail, ask_definition, ask_file, ask_line, then_with}
-use Rattle.macro_expand.specs.Replacement.{Marked, Part, Call, call_in, after_open, arguments_of, parts_of, stands_alone}
-use Rattle.macro_expand.specs.Expansion.{DEEPEST, argument_expanded, arguments_expanded, built_in, counted, called, function_replaced, call_replacement, variable_of, Expanded, Table, Place, by_table, expansion, expansion_step, operand_of_defined, replaced_token, role_of, role_expanded, name_replaced, macro_replaced, charged, go_on, put_out, object_replacement, expanded_by}
+use Rattle.macro_expand.specs.Replacement.{Marked, BodyPart, Call, call_in, after_open, arguments_of, body_parts, stands_alone}
+use Rattle.macro_expand.specs.Expansion.{DEEPEST, argument_expanded, arguments_expanded, built_in, counted, called, function_replaced, call_replacement, variable_of, Expanded, Table, Place, by_table, expansion, expansion_step, operand_of_defined, replaced_token, head_role, role_expanded, name_replaced, macro_replaced, charged, go_on, put_out, object_replacement, expanded_by}
 use Rattle.macro_expand.specs.Laws.{after_ok, put_before, list_before, charged_by, arguments_by, TablesCompose, TableExpands, FunctionExpands, ArgumentsExpand, UnitsWithin}
 use Rattle.macro_expand.proofs.AskingLaws.{Leaves}
 use Rattle.macro_expand.proofs.StepLaws.{AtMost, expansion-unfolds, expansion_within-frugal}
@@ -40,19 +40,19 @@ module _ (table : Table) (here : Place) (mode : Mode) (depth units : ℕ) where
   nil = ap (by_table table here) (expansion-unfolds mode depth units [])
 
   module _ (t : Marked) (rest : List Marked) where
-    step : (role : Role) → role_of mode t rest ≡ role →
+    step : (role : Role) → head_role mode t rest ≡ role →
         expanded_by table here mode depth units (t ∷ rest) ≡ by_table table here (role_expanded (expansion mode) depth units t rest role)
     unfolding expanded_by expansion_step
     step role e =
         ap (by_table table here) (expansion-unfolds mode depth units (t ∷ rest))
         ∙ ap (λ r. by_table table here (role_expanded (expansion mode) depth units t rest r)) e
 
-    ordinary : role_of mode t rest ≡ Ordinary →
+    ordinary : head_role mode t rest ≡ Ordinary →
         expanded_by table here mode depth units (t ∷ rest) ≡ put_before (t ∷ []) (expanded_by table here mode depth units rest)
     unfolding expanded_by role_expanded
     ordinary e = step Ordinary e ∙ by_table-put_out (t ∷ []) (expansion mode depth units rest)
 
-    defined_operand : role_of mode t rest ≡ Defined →
+    defined_operand : head_role mode t rest ≡ Defined →
         expanded_by table here mode depth units (t ∷ rest)
         ≡ put_before (t ∷ (operand_of_defined rest).0) (expanded_by table here mode depth units (operand_of_defined rest).1)
     unfolding expanded_by role_expanded
@@ -71,13 +71,13 @@ module _ (table : Table) (here : Place) (mode : Mode) (depth units : ℕ) where
         ∙ ap (λ u. by_table table here (put_out (replaced_token t kind spelling ∷ []) (expansion mode depth u rest))) left_units
         ∙ by_table-put_out (replaced_token t kind spelling ∷ []) (expansion mode depth left rest)
 
-    file_name : (left : ℕ) → role_of mode t rest ≡ FileName → left + 2 ≡ units →
+    file_name : (left : ℕ) → head_role mode t rest ≡ FileName → left + 2 ≡ units →
         expanded_by table here mode depth units (t ∷ rest)
         ≡ put_before (replaced_token t Str (34 ∷ here.name ++ 34 ∷ []) ∷ []) (expanded_by table here mode depth left rest)
     unfolding role_expanded by_table
     file_name left e paid = step FileName e ∙ built _ _ left paid
 
-    line_number : (left : ℕ) → role_of mode t rest ≡ LineNumber → left + 2 ≡ units →
+    line_number : (left : ℕ) → head_role mode t rest ≡ LineNumber → left + 2 ≡ units →
         expanded_by table here mode depth units (t ∷ rest)
         ≡ put_before (replaced_token t Number (signed_decimal (pos t.token.line +ℤ here.shift)) ∷ []) (expanded_by table here mode depth left rest)
     unfolding role_expanded by_table
@@ -90,30 +90,30 @@ module _ (table : Table) (here : Place) (mode : Mode) (depth units : ℕ) where
         ap (λ b. by_table table here (put_out (replaced_token t kind spelling ∷ []) (go_on (expansion mode) depth b (units - 2) rest)))
         (le-ltb 1 units out)
 
-    built_in_out : (role_of mode t rest ≡ FileName) ⊎ (role_of mode t rest ≡ LineNumber) → units ≤ 1 →
+    built_in_out : (head_role mode t rest ≡ FileName) ⊎ (head_role mode t rest ≡ LineNumber) → units ≤ 1 →
         expanded_by table here mode depth units (t ∷ rest) ≡ Err Work
     unfolding role_expanded by_table
     built_in_out (inl e) out = step FileName e ∙ built_out Str (34 ∷ here.name ++ 34 ∷ []) out
     built_in_out (inr e) out = step LineNumber e ∙ built_out Number (signed_decimal (pos t.token.line +ℤ here.shift)) out
 
-    named : (d : Option MacroDefinition) → role_of mode t rest ≡ Name → table t.token.text ≡ d →
+    named : (d : Option MacroDefinition) → head_role mode t rest ≡ Name → table t.token.text ≡ d →
         expanded_by table here mode depth units (t ∷ rest) ≡ by_table table here (name_replaced (expansion mode) depth units t rest d)
     unfolding role_expanded by_table
     named d e f = step Name e ∙ ap (λ w. by_table table here (name_replaced (expansion mode) depth units t rest w)) f
 
-    undefined : role_of mode t rest ≡ Name → table t.token.text ≡ None →
+    undefined : head_role mode t rest ≡ Name → table t.token.text ≡ None →
         expanded_by table here mode depth units (t ∷ rest) ≡ put_before (t ∷ []) (expanded_by table here mode depth units rest)
     unfolding expanded_by name_replaced
     undefined e f = named None e f ∙ by_table-put_out (t ∷ []) (expansion mode depth units rest)
 
-    object : (d : MacroDefinition) → role_of mode t rest ≡ Name → table t.token.text ≡ Some d → d.shape ≡ Object →
+    object : (d : MacroDefinition) → head_role mode t rest ≡ Name → table t.token.text ≡ Some d → d.shape ≡ Object →
         expanded_by table here mode depth units (t ∷ rest) ≡ charged_by table here mode depth units (object_replacement t d.body) rest
     unfolding name_replaced macro_replaced charged_by
     object d e f shape =
         named (Some d) e f ∙ ap (λ s. by_table table here (macro_replaced (expansion mode) depth units t rest d.body s)) shape
 
     module _ (d : MacroDefinition) (params : List (List ℕ)) (variadic : Bool)
-        (role : role_of mode t rest ≡ Name) (some : table t.token.text ≡ Some d) (shape : d.shape ≡ Function params variadic) where
+        (role : head_role mode t rest ≡ Name) (some : table t.token.text ≡ Some d) (shape : d.shape ≡ Function params variadic) where
       opened : (within : Option (List Marked)) → after_open rest ≡ within →
           expanded_by table here mode depth units (t ∷ rest)
           ≡ by_table table here (function_replaced (expansion mode) depth units t params variadic d.body rest within)
@@ -143,11 +143,11 @@ module _ (table : Table) (here : Place) (mode : Mode) (depth units : ℕ) where
       cut : (within : List Marked) (call : Call) (written : Option (List (List Marked))) →
           after_open rest ≡ Some within → call_in 0 within ≡ Some call → arguments_of (length params) variadic call.within ≡ written →
           expanded_by table here mode depth units (t ∷ rest)
-          ≡ by_table table here (counted (expansion mode) depth units t (parts_of params d.body) (variable_of params variadic) call written)
+          ≡ by_table table here (counted (expansion mode) depth units t (body_parts params d.body) (variable_of params variadic) call written)
       unfolding called
       cut within call written e is args =
           read within (Some call) e is
-          ∙ ap (λ w. by_table table here (counted (expansion mode) depth units t (parts_of params d.body) (variable_of params variadic) call w)) args
+          ∙ ap (λ w. by_table table here (counted (expansion mode) depth units t (body_parts params d.body) (variable_of params variadic) call w)) args
 
       wrong_count : (within : List Marked) (call : Call) → after_open rest ≡ Some within → call_in 0 within ≡ Some call →
           arguments_of (length params) variadic call.within ≡ None →
@@ -158,13 +158,13 @@ module _ (table : Table) (here : Place) (mode : Mode) (depth units : ℕ) where
       expanded_call : (within : List Marked) (call : Call) (written : List (List Marked)) →
           after_open rest ≡ Some within → call_in 0 within ≡ Some call → arguments_of (length params) variadic call.within ≡ Some written →
           expanded_by table here mode depth units (t ∷ rest)
-          ≡ after_ok (arguments_by table here mode depth t.token (parts_of params d.body) 0 units written) (λ e.
+          ≡ after_ok (arguments_by table here mode depth t.token (body_parts params d.body) 0 units written) (λ e.
           charged_by table here mode depth e.units
-          (call_replacement t (parts_of params d.body) (variable_of params variadic) call written e.lists) call.after)
+          (call_replacement t (body_parts params d.body) (variable_of params variadic) call written e.lists) call.after)
       unfolding counted arguments_by charged_by
       expanded_call within call written e is args =
           cut within call (Some written) e is args
-          ∙ composes table here (arguments_expanded (expansion mode) depth t.token (parts_of params d.body) 0 units written) _
+          ∙ composes table here (arguments_expanded (expansion mode) depth t.token (body_parts params d.body) 0 units written) _
 
       function : FunctionExpands table here mode depth units t rest d.body params variadic
       function = record { not_called = not_called; unclosed = unclosed; count = wrong_count; called = expanded_call }
@@ -206,7 +206,7 @@ module _ (table : Table) (here : Place) (mode : Mode) (depth units : ℕ) where
   }
 
 -- The arguments of a call, where a table answers.
-module _ (table : Table) (here : Place) (mode : Mode) (depth : ℕ) (t : Token) (parts : List Part) where
+module _ (table : Table) (here : Place) (mode : Mode) (depth : ℕ) (t : Token) (parts : List BodyPart) where
   no_arguments : (i units : ℕ) → arguments_by table here mode depth t parts i units [] ≡ Ok (record { lists = []; units = units })
   unfolding arguments_by arguments_expanded by_table
   no_arguments i units = refl

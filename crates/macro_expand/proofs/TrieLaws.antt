@@ -4,7 +4,7 @@ use Rattle.std.proofs.lemmas.Bool.{and_parts, and_from, or_cases, both_ways, fal
 use Rattle.std.proofs.lemmas.List.Folds.{list_any-append}
 use Rattle.std.proofs.lemmas.Slice.Eq.{bytes_eq-Decides}
 use Rattle.macro_expand.specs.Sets.{names_in}
-use Rattle.macro_expand.specs.parts.Tries.{name_hash, Tree, Tip, Branch, names_of, have_bit, next_key, placed, hashed, IsOrdered, is_same_name, found, with_leaf, with_new, with_all, with_common, with_all_common, has_all, is_same}
+use Rattle.macro_expand.specs.parts.Tries.{name_hash, Tree, Tip, Branch, trie_names, have_bit, next_key, stand_by_keys, hashed, IsOrdered, is_same_name, found, with_leaf, with_new, with_all, with_common, with_all_common, has_all, is_same}
 
 names_in-append : (a b : List (List ℕ)) (n : List ℕ) → names_in (a ++ b) n ≡ (names_in a n || names_in b n)
 names_in-append a b n = list_any-append (bytes_eq n) a b
@@ -43,18 +43,18 @@ head_is name n h is = go (bytes_eq name n) refl
         nothing true = refl
         nothing false = refl
 
-found-at : (t : Tree) (key : List ℕ → ℕ) (name : List ℕ) → hashed t ≡ true → placed key t ≡ true →
-    found name (name_hash name) (key name) t ≡ names_in (names_of t) name
+found-at : (t : Tree) (key : List ℕ → ℕ) (name : List ℕ) → hashed t ≡ true → stand_by_keys key t ≡ true →
+    found name (name_hash name) (key name) t ≡ names_in (trie_names t) name
 found-at Tip key name whole ok = refl
 found-at (Branch n h z o) key name whole ok =
     ap (λ b. b || (if key name % 2 == 0 then found name (name_hash name) (key name / 2) z else found name (name_hash name) (key name / 2) o)) (head_is name n h own.0)
     ∙ ap (λ b. bytes_eq name n || b)
     (ap (λ b. if key name % 2 == 0 then b else found name (name_hash name) (key name / 2) o) (found-at z (next_key key) name below.0 left.1)
-    ∙ ap (λ b. if key name % 2 == 0 then names_in (names_of z) name else b) (found-at o (next_key key) name below.1 right.1)
-    ∙ one_side (key name % 2 == 0) (names_in (names_of z) name) (names_in (names_of o) name)
-    (λ is. false_from_ne_true (names_in (names_of o) name) (λ there. not_zero_and_one (key name % 2) (eqb-true (key name % 2) 0 is) (has_bit key 1 (names_of o) name right.0 there)))
-    (λ is. false_from_ne_true (names_in (names_of z) name) (λ there. eqb-false (key name % 2) 0 is (has_bit key 0 (names_of z) name left.0 there)))
-    ∙ sym (names_in-append (names_of z) (names_of o) name))
+    ∙ ap (λ b. if key name % 2 == 0 then names_in (trie_names z) name else b) (found-at o (next_key key) name below.1 right.1)
+    ∙ one_side (key name % 2 == 0) (names_in (trie_names z) name) (names_in (trie_names o) name)
+    (λ is. false_from_ne_true (names_in (trie_names o) name) (λ there. not_zero_and_one (key name % 2) (eqb-true (key name % 2) 0 is) (has_bit key 1 (trie_names o) name right.0 there)))
+    (λ is. false_from_ne_true (names_in (trie_names z) name) (λ there. eqb-false (key name % 2) 0 is (has_bit key 0 (trie_names z) name left.0 there)))
+    ∙ sym (names_in-append (trie_names z) (trie_names o) name))
   where
     own : ((h == name_hash n) ≡ true) × ((hashed z && hashed o) ≡ true)
     own = and_parts (h == name_hash n) (hashed z && hashed o) whole
@@ -62,16 +62,16 @@ found-at (Branch n h z o) key name whole ok =
     below : (hashed z ≡ true) × (hashed o ≡ true)
     below = and_parts (hashed z) (hashed o) own.1
 
-    parts : ((have_bit key 0 (names_of z) && placed (next_key key) z) ≡ true) × ((have_bit key 1 (names_of o) && placed (next_key key) o) ≡ true)
-    parts = and_parts (have_bit key 0 (names_of z) && placed (next_key key) z) (have_bit key 1 (names_of o) && placed (next_key key) o) ok
+    parts : ((have_bit key 0 (trie_names z) && stand_by_keys (next_key key) z) ≡ true) × ((have_bit key 1 (trie_names o) && stand_by_keys (next_key key) o) ≡ true)
+    parts = and_parts (have_bit key 0 (trie_names z) && stand_by_keys (next_key key) z) (have_bit key 1 (trie_names o) && stand_by_keys (next_key key) o) ok
 
-    left : (have_bit key 0 (names_of z) ≡ true) × (placed (next_key key) z ≡ true)
-    left = and_parts (have_bit key 0 (names_of z)) (placed (next_key key) z) parts.0
+    left : (have_bit key 0 (trie_names z) ≡ true) × (stand_by_keys (next_key key) z ≡ true)
+    left = and_parts (have_bit key 0 (trie_names z)) (stand_by_keys (next_key key) z) parts.0
 
-    right : (have_bit key 1 (names_of o) ≡ true) × (placed (next_key key) o ≡ true)
-    right = and_parts (have_bit key 1 (names_of o)) (placed (next_key key) o) parts.1
+    right : (have_bit key 1 (trie_names o) ≡ true) × (stand_by_keys (next_key key) o ≡ true)
+    right = and_parts (have_bit key 1 (trie_names o)) (stand_by_keys (next_key key) o) parts.1
 
-pub found-is : (t : Tree) (name : List ℕ) → IsOrdered t → found name (name_hash name) (name_hash name) t ≡ names_in (names_of t) name
+pub found-is : (t : Tree) (name : List ℕ) → IsOrdered t → found name (name_hash name) (name_hash name) t ≡ names_in (trie_names t) name
 found-is t name ok = found-at t name_hash name ok.with_hash ok.at_bits
 
 -- One name more.
@@ -94,28 +94,28 @@ in_one false true false o = refl
 in_one false false z o = refl
 
 pub with_leaf-names : (t : Tree) (name : List ℕ) (hash key : ℕ) (n : List ℕ) →
-    names_in (names_of (with_leaf name hash key t)) n ≡ (bytes_eq n name || names_in (names_of t) n)
+    names_in (trie_names (with_leaf name hash key t)) n ≡ (bytes_eq n name || names_in (trie_names t) n)
 with_leaf-names Tip name hash key n = refl
 with_leaf-names (Branch m h z o) name hash key n = go (is_same_name name hash m h) refl (key % 2 == 0)
     (with_leaf-names z name hash (key / 2) n) (with_leaf-names o name hash (key / 2) n)
   where
     go : (same : Bool) → is_same_name name hash m h ≡ same → (zero : Bool) →
-        names_in (names_of (with_leaf name hash (key / 2) z)) n ≡ (bytes_eq n name || names_in (names_of z) n) →
-        names_in (names_of (with_leaf name hash (key / 2) o)) n ≡ (bytes_eq n name || names_in (names_of o) n) →
-        names_in (names_of (if same then Branch m h z o
+        names_in (trie_names (with_leaf name hash (key / 2) z)) n ≡ (bytes_eq n name || names_in (trie_names z) n) →
+        names_in (trie_names (with_leaf name hash (key / 2) o)) n ≡ (bytes_eq n name || names_in (trie_names o) n) →
+        names_in (trie_names (if same then Branch m h z o
         else (if zero then Branch m h (with_leaf name hash (key / 2) z) o else Branch m h z (with_leaf name hash (key / 2) o)))) n
-        ≡ (bytes_eq n name || (bytes_eq n m || names_in (names_of z ++ names_of o) n))
+        ≡ (bytes_eq n name || (bytes_eq n m || names_in (trie_names z ++ trie_names o) n))
     go true is zero hz ho =
-        again (bytes_eq n m) (names_in (names_of z ++ names_of o) n)
-        ∙ ap (λ x. bytes_eq n x || (bytes_eq n m || names_in (names_of z ++ names_of o) n)) (sym (same_name name m (and_parts (hash == h) (bytes_eq name m) is).1))
+        again (bytes_eq n m) (names_in (trie_names z ++ trie_names o) n)
+        ∙ ap (λ x. bytes_eq n x || (bytes_eq n m || names_in (trie_names z ++ trie_names o) n)) (sym (same_name name m (and_parts (hash == h) (bytes_eq name m) is).1))
     go false is true hz ho =
-        ap (λ b. bytes_eq n m || b) (names_in-append (names_of (with_leaf name hash (key / 2) z)) (names_of o) n ∙ ap (λ b. b || names_in (names_of o) n) hz)
-        ∙ in_zero (bytes_eq n m) (bytes_eq n name) (names_in (names_of z) n) (names_in (names_of o) n)
-        ∙ ap (λ b. bytes_eq n name || (bytes_eq n m || b)) (sym (names_in-append (names_of z) (names_of o) n))
+        ap (λ b. bytes_eq n m || b) (names_in-append (trie_names (with_leaf name hash (key / 2) z)) (trie_names o) n ∙ ap (λ b. b || names_in (trie_names o) n) hz)
+        ∙ in_zero (bytes_eq n m) (bytes_eq n name) (names_in (trie_names z) n) (names_in (trie_names o) n)
+        ∙ ap (λ b. bytes_eq n name || (bytes_eq n m || b)) (sym (names_in-append (trie_names z) (trie_names o) n))
     go false is false hz ho =
-        ap (λ b. bytes_eq n m || b) (names_in-append (names_of z) (names_of (with_leaf name hash (key / 2) o)) n ∙ ap (λ b. names_in (names_of z) n || b) ho)
-        ∙ in_one (bytes_eq n m) (bytes_eq n name) (names_in (names_of z) n) (names_in (names_of o) n)
-        ∙ ap (λ b. bytes_eq n name || (bytes_eq n m || b)) (sym (names_in-append (names_of z) (names_of o) n))
+        ap (λ b. bytes_eq n m || b) (names_in-append (trie_names z) (trie_names (with_leaf name hash (key / 2) o)) n ∙ ap (λ b. names_in (trie_names z) n || b) ho)
+        ∙ in_one (bytes_eq n m) (bytes_eq n name) (names_in (trie_names z) n) (names_in (trie_names o) n)
+        ∙ ap (λ b. bytes_eq n name || (bytes_eq n m || b)) (sym (names_in-append (trie_names z) (trie_names o) n))
 
 have_bit-append : (key : List ℕ → ℕ) (bit : ℕ) (a b : List (List ℕ)) → have_bit key bit (a ++ b) ≡ (have_bit key bit a && have_bit key bit b)
 have_bit-append key bit [] b = refl
@@ -127,53 +127,53 @@ have_bit-append key bit (x ∷ a) b =
     shift false q r = refl
 
 -- the names of a trie with one more name pass where the name does
-with_leaf-have_bit : (t : Tree) (key : List ℕ → ℕ) (bit : ℕ) (name : List ℕ) (hash k : ℕ) → (key name % 2 == bit) ≡ true → have_bit key bit (names_of t) ≡ true →
-    have_bit key bit (names_of (with_leaf name hash k t)) ≡ true
+with_leaf-have_bit : (t : Tree) (key : List ℕ → ℕ) (bit : ℕ) (name : List ℕ) (hash k : ℕ) → (key name % 2 == bit) ≡ true → have_bit key bit (trie_names t) ≡ true →
+    have_bit key bit (trie_names (with_leaf name hash k t)) ≡ true
 with_leaf-have_bit Tip key bit name hash k is all = and_from (key name % 2 == bit) true is refl
 with_leaf-have_bit (Branch m h z o) key bit name hash k is all = go (is_same_name name hash m h) (k % 2 == 0)
     (with_leaf-have_bit z key bit name hash (k / 2) is sides.0) (with_leaf-have_bit o key bit name hash (k / 2) is sides.1)
   where
-    parts : ((key m % 2 == bit) ≡ true) × (have_bit key bit (names_of z ++ names_of o) ≡ true)
-    parts = and_parts (key m % 2 == bit) (have_bit key bit (names_of z ++ names_of o)) all
+    parts : ((key m % 2 == bit) ≡ true) × (have_bit key bit (trie_names z ++ trie_names o) ≡ true)
+    parts = and_parts (key m % 2 == bit) (have_bit key bit (trie_names z ++ trie_names o)) all
 
-    sides : (have_bit key bit (names_of z) ≡ true) × (have_bit key bit (names_of o) ≡ true)
-    sides = and_parts (have_bit key bit (names_of z)) (have_bit key bit (names_of o)) (sym (have_bit-append key bit (names_of z) (names_of o)) ∙ parts.1)
+    sides : (have_bit key bit (trie_names z) ≡ true) × (have_bit key bit (trie_names o) ≡ true)
+    sides = and_parts (have_bit key bit (trie_names z)) (have_bit key bit (trie_names o)) (sym (have_bit-append key bit (trie_names z) (trie_names o)) ∙ parts.1)
 
     both : (a b : List (List ℕ)) → have_bit key bit a ≡ true → have_bit key bit b ≡ true → have_bit key bit (m ∷ a ++ b) ≡ true
     both a b left right = and_from (key m % 2 == bit) (have_bit key bit (a ++ b)) parts.0
         (have_bit-append key bit a b ∙ and_from (have_bit key bit a) (have_bit key bit b) left right)
 
-    go : (same zero : Bool) → have_bit key bit (names_of (with_leaf name hash (k / 2) z)) ≡ true → have_bit key bit (names_of (with_leaf name hash (k / 2) o)) ≡ true →
-        have_bit key bit (names_of (if same then Branch m h z o
+    go : (same zero : Bool) → have_bit key bit (trie_names (with_leaf name hash (k / 2) z)) ≡ true → have_bit key bit (trie_names (with_leaf name hash (k / 2) o)) ≡ true →
+        have_bit key bit (trie_names (if same then Branch m h z o
         else (if zero then Branch m h (with_leaf name hash (k / 2) z) o else Branch m h z (with_leaf name hash (k / 2) o)))) ≡ true
     go true zero hz ho = all
-    go false true hz ho = both (names_of (with_leaf name hash (k / 2) z)) (names_of o) hz sides.1
-    go false false hz ho = both (names_of z) (names_of (with_leaf name hash (k / 2) o)) sides.0 ho
+    go false true hz ho = both (trie_names (with_leaf name hash (k / 2) z)) (trie_names o) hz sides.1
+    go false false hz ho = both (trie_names z) (trie_names (with_leaf name hash (k / 2) o)) sides.0 ho
 
 the_other_bit : (n : ℕ) → (n % 2 == 0) ≡ false → (n % 2 == 1) ≡ true
 the_other_bit n is = let no : n % 2 ≡ 0 → ⊥ = eqb-false (n % 2) 0 is in eq-eqb (n % 2) 1 (omega arith)
 
-pub with_leaf-placed : (t : Tree) (key : List ℕ → ℕ) (name : List ℕ) (hash : ℕ) → placed key t ≡ true → placed key (with_leaf name hash (key name) t) ≡ true
+pub with_leaf-placed : (t : Tree) (key : List ℕ → ℕ) (name : List ℕ) (hash : ℕ) → stand_by_keys key t ≡ true → stand_by_keys key (with_leaf name hash (key name) t) ≡ true
 with_leaf-placed Tip key name hash ok = refl
 with_leaf-placed (Branch m h z o) key name hash ok = go (is_same_name name hash m h) (key name % 2 == 0) refl
     (with_leaf-placed z (next_key key) name hash left.1) (with_leaf-placed o (next_key key) name hash right.1)
   where
-    parts : ((have_bit key 0 (names_of z) && placed (next_key key) z) ≡ true) × ((have_bit key 1 (names_of o) && placed (next_key key) o) ≡ true)
-    parts = and_parts (have_bit key 0 (names_of z) && placed (next_key key) z) (have_bit key 1 (names_of o) && placed (next_key key) o) ok
+    parts : ((have_bit key 0 (trie_names z) && stand_by_keys (next_key key) z) ≡ true) × ((have_bit key 1 (trie_names o) && stand_by_keys (next_key key) o) ≡ true)
+    parts = and_parts (have_bit key 0 (trie_names z) && stand_by_keys (next_key key) z) (have_bit key 1 (trie_names o) && stand_by_keys (next_key key) o) ok
 
-    left : (have_bit key 0 (names_of z) ≡ true) × (placed (next_key key) z ≡ true)
-    left = and_parts (have_bit key 0 (names_of z)) (placed (next_key key) z) parts.0
+    left : (have_bit key 0 (trie_names z) ≡ true) × (stand_by_keys (next_key key) z ≡ true)
+    left = and_parts (have_bit key 0 (trie_names z)) (stand_by_keys (next_key key) z) parts.0
 
-    right : (have_bit key 1 (names_of o) ≡ true) × (placed (next_key key) o ≡ true)
-    right = and_parts (have_bit key 1 (names_of o)) (placed (next_key key) o) parts.1
+    right : (have_bit key 1 (trie_names o) ≡ true) × (stand_by_keys (next_key key) o ≡ true)
+    right = and_parts (have_bit key 1 (trie_names o)) (stand_by_keys (next_key key) o) parts.1
 
-    both : (a b : Tree) → have_bit key 0 (names_of a) ≡ true → placed (next_key key) a ≡ true → have_bit key 1 (names_of b) ≡ true → placed (next_key key) b ≡ true →
-        placed key (Branch m h a b) ≡ true
-    both a b p q r s = and_from (have_bit key 0 (names_of a) && placed (next_key key) a) (have_bit key 1 (names_of b) && placed (next_key key) b)
-        (and_from (have_bit key 0 (names_of a)) (placed (next_key key) a) p q) (and_from (have_bit key 1 (names_of b)) (placed (next_key key) b) r s)
+    both : (a b : Tree) → have_bit key 0 (trie_names a) ≡ true → stand_by_keys (next_key key) a ≡ true → have_bit key 1 (trie_names b) ≡ true → stand_by_keys (next_key key) b ≡ true →
+        stand_by_keys key (Branch m h a b) ≡ true
+    both a b p q r s = and_from (have_bit key 0 (trie_names a) && stand_by_keys (next_key key) a) (have_bit key 1 (trie_names b) && stand_by_keys (next_key key) b)
+        (and_from (have_bit key 0 (trie_names a)) (stand_by_keys (next_key key) a) p q) (and_from (have_bit key 1 (trie_names b)) (stand_by_keys (next_key key) b) r s)
 
-    go : (same zero : Bool) → (key name % 2 == 0) ≡ zero → placed (next_key key) (with_leaf name hash (key name / 2) z) ≡ true → placed (next_key key) (with_leaf name hash (key name / 2) o) ≡ true →
-        placed key (if same then Branch m h z o
+    go : (same zero : Bool) → (key name % 2 == 0) ≡ zero → stand_by_keys (next_key key) (with_leaf name hash (key name / 2) z) ≡ true → stand_by_keys (next_key key) (with_leaf name hash (key name / 2) o) ≡ true →
+        stand_by_keys key (if same then Branch m h z o
         else (if zero then Branch m h (with_leaf name hash (key name / 2) z) o else Branch m h z (with_leaf name hash (key name / 2) o))) ≡ true
     go true zero is hz ho = ok
     go false true is hz ho = both (with_leaf name hash (key name / 2) z) o (with_leaf-have_bit z key 0 name hash (key name / 2) is left.0) hz right.0 right.1
@@ -202,28 +202,28 @@ with_leaf-hashed (Branch m h z o) name hash k is whole = go (is_same_name name h
 
 pub with_leaf-ordered : (t : Tree) (name : List ℕ) (hash : ℕ) → hash ≡ name_hash name → IsOrdered t → IsOrdered (with_leaf name hash hash t)
 with_leaf-ordered t name hash is ok = record {
-  at_bits = ap (λ k. placed name_hash (with_leaf name hash k t)) is ∙ with_leaf-placed t name_hash name hash ok.at_bits;
+  at_bits = ap (λ k. stand_by_keys name_hash (with_leaf name hash k t)) is ∙ with_leaf-placed t name_hash name hash ok.at_bits;
   with_hash = with_leaf-hashed t name hash hash is ok.with_hash;
 }
 
 -- A name that may be there.
 
-found-with : (t : Tree) (name : List ℕ) (hash : ℕ) → hash ≡ name_hash name → IsOrdered t → found name hash hash t ≡ names_in (names_of t) name
+found-with : (t : Tree) (name : List ℕ) (hash : ℕ) → hash ≡ name_hash name → IsOrdered t → found name hash hash t ≡ names_in (trie_names t) name
 found-with t name hash is ok = ap (λ h. found name h h t) is ∙ found-is t name ok
 
-there : (t : Tree) (name n : List ℕ) → names_in (names_of t) name ≡ true → names_in (names_of t) n ≡ (bytes_eq n name || names_in (names_of t) n)
-there t name n is = go (bytes_eq n name) (names_in (names_of t) n) (λ same. ap (names_in (names_of t)) (same_name n name same) ∙ is)
+there : (t : Tree) (name n : List ℕ) → names_in (trie_names t) name ≡ true → names_in (trie_names t) n ≡ (bytes_eq n name || names_in (trie_names t) n)
+there t name n is = go (bytes_eq n name) (names_in (trie_names t) n) (λ same. ap (names_in (trie_names t)) (same_name n name same) ∙ is)
   where
     go : (same r : Bool) → (same ≡ true → r ≡ true) → r ≡ (same || r)
     go true r h = h refl
     go false r h = refl
 
 with_new-names : (t : Tree) (name : List ℕ) (hash : ℕ) (n : List ℕ) → hash ≡ name_hash name → IsOrdered t →
-    names_in (names_of (with_new name hash t)) n ≡ (bytes_eq n name || names_in (names_of t) n)
+    names_in (trie_names (with_new name hash t)) n ≡ (bytes_eq n name || names_in (trie_names t) n)
 with_new-names t name hash n own ok = go (found name hash hash t) refl
   where
     go : (is : Bool) → found name hash hash t ≡ is →
-        names_in (names_of (if is then t else with_leaf name hash hash t)) n ≡ (bytes_eq n name || names_in (names_of t) n)
+        names_in (trie_names (if is then t else with_leaf name hash hash t)) n ≡ (bytes_eq n name || names_in (trie_names t) n)
     go true is = there t name n (sym (found-with t name hash own ok) ∙ is)
     go false is = with_leaf-names t name hash hash n
 
@@ -248,14 +248,14 @@ with_all-ordered (Branch m h z o) t whole ok =
     (with_all-ordered z (with_new m h t) (hash_rest m h z o whole).0 (with_new-ordered t m h (hash_first m h z o whole) ok))
 
 pub with_all-names : (s t : Tree) → hashed s ≡ true → IsOrdered t → (n : List ℕ) →
-    names_in (names_of (with_all s t)) n ≡ (names_in (names_of s) n || names_in (names_of t) n)
+    names_in (trie_names (with_all s t)) n ≡ (names_in (trie_names s) n || names_in (trie_names t) n)
 with_all-names Tip t whole ok n = refl
 with_all-names (Branch m h z o) t whole ok n =
     with_all-names o (with_all z (with_new m h t)) rest.1 (with_all-ordered z (with_new m h t) rest.0 next) n
-    ∙ ap (λ b. names_in (names_of o) n || b)
-    (with_all-names z (with_new m h t) rest.0 next n ∙ ap (λ b. names_in (names_of z) n || b) (with_new-names t m h n own ok))
-    ∙ order (bytes_eq n m) (names_in (names_of z) n) (names_in (names_of o) n) (names_in (names_of t) n)
-    ∙ ap (λ b. (bytes_eq n m || b) || names_in (names_of t) n) (sym (names_in-append (names_of z) (names_of o) n))
+    ∙ ap (λ b. names_in (trie_names o) n || b)
+    (with_all-names z (with_new m h t) rest.0 next n ∙ ap (λ b. names_in (trie_names z) n || b) (with_new-names t m h n own ok))
+    ∙ order (bytes_eq n m) (names_in (trie_names z) n) (names_in (trie_names o) n) (names_in (trie_names t) n)
+    ∙ ap (λ b. (bytes_eq n m || b) || names_in (trie_names t) n) (sym (names_in-append (trie_names z) (trie_names o) n))
   where
     own : h ≡ name_hash m
     own = hash_first m h z o whole
@@ -279,7 +279,7 @@ with_all-names (Branch m h z o) t whole ok n =
 -- The names that two tries have.
 
 with_common-names : (other t : Tree) (name : List ℕ) (hash : ℕ) (n : List ℕ) → hash ≡ name_hash name → IsOrdered other →
-    names_in (names_of (with_common name hash other t)) n ≡ ((bytes_eq n name && names_in (names_of other) n) || names_in (names_of t) n)
+    names_in (trie_names (with_common name hash other t)) n ≡ ((bytes_eq n name && names_in (trie_names other) n) || names_in (trie_names t) n)
 with_common-names other t name hash n own ok = go (found name hash hash other) (found-with other name hash own ok)
   where
     yes_there : (same here r : Bool) → (same ≡ true → here ≡ true) → (same || r) ≡ ((same && here) || r)
@@ -290,13 +290,13 @@ with_common-names other t name hash n own ok = go (found name hash hash other) (
     not_there true here r h = sym (ap (λ b. b || r) (h refl))
     not_there false here r h = refl
 
-    go : (is : Bool) → is ≡ names_in (names_of other) name →
-        names_in (names_of (if is then with_leaf name hash hash t else t)) n ≡ ((bytes_eq n name && names_in (names_of other) n) || names_in (names_of t) n)
+    go : (is : Bool) → is ≡ names_in (trie_names other) name →
+        names_in (trie_names (if is then with_leaf name hash hash t else t)) n ≡ ((bytes_eq n name && names_in (trie_names other) n) || names_in (trie_names t) n)
     go true is = with_leaf-names t name hash hash n
-        ∙ yes_there (bytes_eq n name) (names_in (names_of other) n) (names_in (names_of t) n)
-        (λ same. ap (names_in (names_of other)) (same_name n name same) ∙ sym is)
-    go false is = not_there (bytes_eq n name) (names_in (names_of other) n) (names_in (names_of t) n)
-        (λ same. ap (names_in (names_of other)) (same_name n name same) ∙ sym is)
+        ∙ yes_there (bytes_eq n name) (names_in (trie_names other) n) (names_in (trie_names t) n)
+        (λ same. ap (names_in (trie_names other)) (same_name n name same) ∙ sym is)
+    go false is = not_there (bytes_eq n name) (names_in (trie_names other) n) (names_in (trie_names t) n)
+        (λ same. ap (names_in (trie_names other)) (same_name n name same) ∙ sym is)
 
 with_common-ordered : (other t : Tree) (name : List ℕ) (hash : ℕ) → hash ≡ name_hash name → IsOrdered t → IsOrdered (with_common name hash other t)
 with_common-ordered other t name hash own ok = go (found name hash hash other)
@@ -312,15 +312,15 @@ with_all_common-ordered (Branch m h z o) other t whole ok =
     (with_all_common-ordered z other (with_common m h other t) (hash_rest m h z o whole).0 (with_common-ordered other t m h (hash_first m h z o whole) ok))
 
 pub with_all_common-names : (s other t : Tree) → hashed s ≡ true → IsOrdered other → (n : List ℕ) →
-    names_in (names_of (with_all_common s other t)) n ≡ ((names_in (names_of s) n && names_in (names_of other) n) || names_in (names_of t) n)
+    names_in (trie_names (with_all_common s other t)) n ≡ ((names_in (trie_names s) n && names_in (trie_names other) n) || names_in (trie_names t) n)
 with_all_common-names Tip other t whole ok n = refl
 with_all_common-names (Branch m h z o) other t whole ok n =
     with_all_common-names o other (with_all_common z other (with_common m h other t)) (hash_rest m h z o whole).1 ok n
-    ∙ ap (λ b. (names_in (names_of o) n && names_in (names_of other) n) || b)
+    ∙ ap (λ b. (names_in (trie_names o) n && names_in (trie_names other) n) || b)
     (with_all_common-names z other (with_common m h other t) (hash_rest m h z o whole).0 ok n
-    ∙ ap (λ b. (names_in (names_of z) n && names_in (names_of other) n) || b) (with_common-names other t m h n (hash_first m h z o whole) ok))
-    ∙ order (bytes_eq n m) (names_in (names_of z) n) (names_in (names_of o) n) (names_in (names_of other) n) (names_in (names_of t) n)
-    ∙ ap (λ b. ((bytes_eq n m || b) && names_in (names_of other) n) || names_in (names_of t) n) (sym (names_in-append (names_of z) (names_of o) n))
+    ∙ ap (λ b. (names_in (trie_names z) n && names_in (trie_names other) n) || b) (with_common-names other t m h n (hash_first m h z o whole) ok))
+    ∙ order (bytes_eq n m) (names_in (trie_names z) n) (names_in (trie_names o) n) (names_in (trie_names other) n) (names_in (trie_names t) n)
+    ∙ ap (λ b. ((bytes_eq n m || b) && names_in (trie_names other) n) || names_in (trie_names t) n) (sym (names_in-append (trie_names z) (trie_names o) n))
   where
     order : (m z o h t : Bool) → ((o && h) || ((z && h) || ((m && h) || t))) ≡ (((m || (z || o)) && h) || t)
     order true true true true t = refl
@@ -341,40 +341,40 @@ with_all_common-names (Branch m h z o) other t whole ok n =
     order false false false false t = refl
 
 pub has_all-names : (s other : Tree) → hashed s ≡ true → IsOrdered other → has_all s other ≡ true → (n : List ℕ) →
-    names_in (names_of s) n ≡ (names_in (names_of s) n && names_in (names_of other) n)
-has_all-names s other whole ok all n = go (names_in (names_of s) n) (names_in (names_of other) n) (inside s whole all)
+    names_in (trie_names s) n ≡ (names_in (trie_names s) n && names_in (trie_names other) n)
+has_all-names s other whole ok all n = go (names_in (trie_names s) n) (names_in (trie_names other) n) (inside s whole all)
   where
     go : (a b : Bool) → (a ≡ true → b ≡ true) → a ≡ (a && b)
     go true b h = sym (h refl)
     go false b h = refl
 
-    inside : (s : Tree) → hashed s ≡ true → has_all s other ≡ true → names_in (names_of s) n ≡ true → names_in (names_of other) n ≡ true
+    inside : (s : Tree) → hashed s ≡ true → has_all s other ≡ true → names_in (trie_names s) n ≡ true → names_in (trie_names other) n ≡ true
     inside Tip whole all is = absurd (both_ways false refl is)
     inside (Branch m h z o) whole all is =
-        elim (or_cases (bytes_eq n m) (names_in (names_of z ++ names_of o) n) is) [
-          | inl same ↦ ap (names_in (names_of other)) (same_name n m same) ∙ sym (found-with other m h (hash_first m h z o whole) ok)
+        elim (or_cases (bytes_eq n m) (names_in (trie_names z ++ trie_names o) n) is) [
+          | inl same ↦ ap (names_in (trie_names other)) (same_name n m same) ∙ sym (found-with other m h (hash_first m h z o whole) ok)
               ∙ (and_parts (found m h h other) (has_all z other) (and_parts (found m h h other && has_all z other) (has_all o other) all).0).0
-          | inr rest ↦ elim (or_cases (names_in (names_of z) n) (names_in (names_of o) n) (sym (names_in-append (names_of z) (names_of o) n) ∙ rest)) [
+          | inr rest ↦ elim (or_cases (names_in (trie_names z) n) (names_in (trie_names o) n) (sym (names_in-append (trie_names z) (trie_names o) n) ∙ rest)) [
             | inl left ↦ inside z (hash_rest m h z o whole).0 (and_parts (found m h h other) (has_all z other) (and_parts (found m h h other && has_all z other) (has_all o other) all).0).1 left
             | inr right ↦ inside o (hash_rest m h z o whole).1 (and_parts (found m h h other && has_all z other) (has_all o other) all).1 right
           ]
         ]
 
-pub is_same-names : (s t : Tree) → is_same s t ≡ true → names_of s ≡ names_of t
+pub is_same-names : (s t : Tree) → is_same s t ≡ true → trie_names s ≡ trie_names t
 is_same-names Tip Tip is = refl
 is_same-names Tip (Branch n h z o) is = absurd (both_ways false refl is)
 is_same-names (Branch n h z o) Tip is = absurd (both_ways false refl is)
 is_same-names (Branch n h z o) (Branch m k y p) is =
-    ap (λ (x : List ℕ). x ∷ names_of z ++ names_of o) (same_name n m (and_parts (h == k) (bytes_eq n m) (and_parts (is_same_name n h m k) (is_same z y) first.0).0).1)
-    ∙ ap (λ (l : List (List ℕ)). m ∷ l ++ names_of o) (is_same-names z y (and_parts (is_same_name n h m k) (is_same z y) first.0).1)
-    ∙ ap (λ (l : List (List ℕ)). m ∷ names_of y ++ l) (is_same-names o p first.1)
+    ap (λ (x : List ℕ). x ∷ trie_names z ++ trie_names o) (same_name n m (and_parts (h == k) (bytes_eq n m) (and_parts (is_same_name n h m k) (is_same z y) first.0).0).1)
+    ∙ ap (λ (l : List (List ℕ)). m ∷ l ++ trie_names o) (is_same-names z y (and_parts (is_same_name n h m k) (is_same z y) first.0).1)
+    ∙ ap (λ (l : List (List ℕ)). m ∷ trie_names y ++ l) (is_same-names o p first.1)
   where
     first : ((is_same_name n h m k && is_same z y) ≡ true) × (is_same o p ≡ true)
     first = and_parts (is_same_name n h m k && is_same z y) (is_same o p) is
 
 -- What the operations of hide sets make.
 
-pub hides-is : (t : Tree) (names : List (List ℕ)) (name : List ℕ) (h : ℕ) (r : Bool) → IsOrdered t → names_of t ≡ names →
+pub hides-is : (t : Tree) (names : List (List ℕ)) (name : List ℕ) (h : ℕ) (r : Bool) → IsOrdered t → trie_names t ≡ names →
     h ≡ name_hash name → r ≡ found name h h t → r ≡ names_in names name
 hides-is t names name h r ok seen own is = is ∙ found-with t name h own ok ∙ ap (λ (l : List (List ℕ)). names_in l name) seen
 
@@ -386,9 +386,9 @@ module _ (t made : Tree) (names : List (List ℕ)) (kept name : List ℕ) (h : �
   pub with-ordered : IsOrdered t → IsOrdered made
   with-ordered ok = subst IsOrdered (sym made_is) (with_leaf-ordered t name h own ok)
 
-  pub with-names : names_of t ≡ names → (n : List ℕ) → names_in (names_of made) n ≡ (bytes_eq n name || names_in names n)
+  pub with-names : trie_names t ≡ names → (n : List ℕ) → names_in (trie_names made) n ≡ (bytes_eq n name || names_in names n)
   with-names seen n =
-      ap (λ (m : Tree). names_in (names_of m) n) made_is ∙ with_leaf-names t name h h n
+      ap (λ (m : Tree). names_in (trie_names m) n) made_is ∙ with_leaf-names t name h h n
       ∙ ap (λ (l : List (List ℕ)). bytes_eq n name || names_in l n) seen
 
 module _ (t copy s made : Tree) (same : copy ≡ t) (is : made ≡ with_all s copy) (ok : IsOrdered t) (more_ok : IsOrdered s) where
@@ -398,11 +398,11 @@ module _ (t copy s made : Tree) (same : copy ≡ t) (is : made ≡ with_all s co
   pub all-ordered : IsOrdered made
   all-ordered = subst IsOrdered (sym all_is) (with_all-ordered s t more_ok.with_hash ok)
 
-  pub all-names : (xs ys : List (List ℕ)) → names_of t ≡ xs → names_of s ≡ ys → (n : List ℕ) → names_in (names_of made) n ≡ (names_in xs n || names_in ys n)
+  pub all-names : (xs ys : List (List ℕ)) → trie_names t ≡ xs → trie_names s ≡ ys → (n : List ℕ) → names_in (trie_names made) n ≡ (names_in xs n || names_in ys n)
   all-names xs ys seen more n =
-      ap (λ (m : Tree). names_in (names_of m) n) all_is ∙ with_all-names s t more_ok.with_hash ok n
-      ∙ swap (names_in (names_of s) n) (names_in (names_of t) n)
-      ∙ ap (λ (l : List (List ℕ)). names_in l n || names_in (names_of s) n) seen
+      ap (λ (m : Tree). names_in (trie_names m) n) all_is ∙ with_all-names s t more_ok.with_hash ok n
+      ∙ swap (names_in (trie_names s) n) (names_in (trie_names t) n)
+      ∙ ap (λ (l : List (List ℕ)). names_in l n || names_in (trie_names s) n) seen
       ∙ ap (λ (l : List (List ℕ)). names_in xs n || names_in l n) more
     where
       swap : (a b : Bool) → (a || b) ≡ (b || a)
@@ -415,12 +415,12 @@ module _ (s other made : Tree) (ok : IsOrdered s) (is : made ≡ with_all_common
   pub common-ordered : IsOrdered made
   common-ordered = subst IsOrdered (sym is) (with_all_common-ordered s other Tip ok.with_hash (record { at_bits = refl; with_hash = refl }))
 
-  pub common-names : IsOrdered other → (xs ys : List (List ℕ)) → names_of s ≡ xs → names_of other ≡ ys → (n : List ℕ) →
-      names_in (names_of made) n ≡ (names_in xs n && names_in ys n)
+  pub common-names : IsOrdered other → (xs ys : List (List ℕ)) → trie_names s ≡ xs → trie_names other ≡ ys → (n : List ℕ) →
+      names_in (trie_names made) n ≡ (names_in xs n && names_in ys n)
   common-names other_ok xs ys seen more n =
-      ap (λ (m : Tree). names_in (names_of m) n) is ∙ with_all_common-names s other Tip ok.with_hash other_ok n
-      ∙ nothing (names_in (names_of s) n && names_in (names_of other) n)
-      ∙ ap (λ (l : List (List ℕ)). names_in l n && names_in (names_of other) n) seen
+      ap (λ (m : Tree). names_in (trie_names m) n) is ∙ with_all_common-names s other Tip ok.with_hash other_ok n
+      ∙ nothing (names_in (trie_names s) n && names_in (trie_names other) n)
+      ∙ ap (λ (l : List (List ℕ)). names_in l n && names_in (trie_names other) n) seen
       ∙ ap (λ (l : List (List ℕ)). names_in xs n && names_in l n) more
     where
       nothing : (b : Bool) → (b || false) ≡ b
@@ -428,19 +428,19 @@ module _ (s other made : Tree) (ok : IsOrdered s) (is : made ≡ with_all_common
       nothing false = refl
 
 -- where every name of the first is in the second, as where both are the same
-module _ (s other : Tree) (own : IsOrdered s) (ok : IsOrdered other) (xs ys : List (List ℕ)) (seen : names_of s ≡ xs) (more : names_of other ≡ ys)
+module _ (s other : Tree) (own : IsOrdered s) (ok : IsOrdered other) (xs ys : List (List ℕ)) (seen : trie_names s ≡ xs) (more : trie_names other ≡ ys)
     (kept : List (List ℕ)) (same : kept ≡ xs) (n : List ℕ) where
-  whole : names_in (names_of s) n ≡ (names_in (names_of s) n && names_in (names_of other) n) → names_in kept n ≡ (names_in xs n && names_in ys n)
+  whole : names_in (trie_names s) n ≡ (names_in (trie_names s) n && names_in (trie_names other) n) → names_in kept n ≡ (names_in xs n && names_in ys n)
   whole is =
       ap (λ (l : List (List ℕ)). names_in l n) (same ∙ sym seen) ∙ is
-      ∙ ap (λ (l : List (List ℕ)). names_in l n && names_in (names_of other) n) seen
+      ∙ ap (λ (l : List (List ℕ)). names_in l n && names_in (trie_names other) n) seen
       ∙ ap (λ (l : List (List ℕ)). names_in xs n && names_in l n) more
 
   pub whole-names : has_all s other ≡ true → names_in kept n ≡ (names_in xs n && names_in ys n)
   whole-names all = whole (has_all-names s other own.with_hash ok all n)
 
   pub same-names : is_same s other ≡ true → names_in kept n ≡ (names_in xs n && names_in ys n)
-  same-names alike = whole (itself (names_in (names_of s) n) ∙ ap (λ (l : List (List ℕ)). names_in (names_of s) n && names_in l n) (is_same-names s other alike))
+  same-names alike = whole (itself (names_in (trie_names s) n) ∙ ap (λ (l : List (List ℕ)). names_in (trie_names s) n && names_in l n) (is_same-names s other alike))
     where
       itself : (b : Bool) → b ≡ (b && b)
       itself true = refl

@@ -11,8 +11,8 @@ use Rattle.macro_expand.specs.declared.marked.Role.{Role}
 use Rattle.macro_expand.specs.declared.marked.Role.TheVariants.{Defined, FileName, LineNumber, Name, Ordinary}
 use Rattle.macro_defs.specs.MacroDefinition.{MacroDefinition}
 use Rattle.macro_expand.specs.Asking.{Failure, Work, Asking, give, fail, ask_definition, ask_file, ask_line, then_with}
-use Rattle.macro_expand.specs.Replacement.{Marked, Call, Part}
-use Rattle.macro_expand.specs.Expansion.{Expanded, ExpandedEach, Expander, put_out, call_replacement, go_on, charged, argument_expanded, arguments_expanded, counted, called, function_replaced, macro_replaced, name_replaced, built_in, role_of, role_expanded, expansion_step, expansion_within, expansion}
+use Rattle.macro_expand.specs.Replacement.{Marked, Call, BodyPart}
+use Rattle.macro_expand.specs.Expansion.{Expanded, ExpandedEach, Expander, put_out, call_replacement, go_on, charged, argument_expanded, arguments_expanded, counted, called, function_replaced, macro_replaced, name_replaced, built_in, head_role, role_expanded, expansion_step, expansion_within, expansion}
 use Rattle.macro_expand.specs.Laws.{SameTokens}
 
 -- The same questions, and then results in this relation, the same error, or no units left on one side.
@@ -78,7 +78,7 @@ module _ (a b : ℕ) (self other : Expander) (depth : ℕ)
   argument_expanded-alike true true t u v ts h = alike (suc depth) u v ts h
   argument_expanded-alike true false t u v ts h = both_fail _
 
-  arguments_expanded-alike : (t : Token) (parts : List Part) (i u v : ℕ) (args : List (List Marked)) → u + a ≡ v + b →
+  arguments_expanded-alike : (t : Token) (parts : List BodyPart) (i u v : ℕ) (args : List (List Marked)) → u + a ≡ v + b →
       Alike (SameLists a b) (arguments_expanded self depth t parts i u args) (arguments_expanded other depth t parts i v args)
   unfolding arguments_expanded
   arguments_expanded-alike t parts i u v [] h = both_give (record { lists = refl; units = h })
@@ -87,7 +87,7 @@ module _ (a b : ℕ) (self other : Expander) (depth : ℕ)
       Alike-then_with (SameLists a b) (SameLists a b) _ _ _ _ (arguments_expanded-alike t parts (suc i) x.units y.units rest r.units) (λ m n s.
       both_give (record { lists = cc (r.tokens, s.lists); units = s.units })))
 
-  counted-alike : (u v : ℕ) (t : Marked) (parts : List Part) (variable : Option ℕ) (call : Call) (written : Option (List (List Marked))) →
+  counted-alike : (u v : ℕ) (t : Marked) (parts : List BodyPart) (variable : Option ℕ) (call : Call) (written : Option (List (List Marked))) →
       u + a ≡ v + b →
       Alike (SameTokens a b) (counted self depth u t parts variable call written) (counted other depth v t parts variable call written)
   unfolding counted
@@ -150,7 +150,7 @@ expansion_within-alike a b zero m mode depth u v ts h = left_out _
 expansion_within-alike a b (suc n) zero mode depth u v ts h = right_out _
 expansion_within-alike a b (suc n) (suc m) mode depth u v [] h = both_give (record { tokens = refl; units = h })
 expansion_within-alike a b (suc n) (suc m) mode depth u v (t ∷ rest) h =
-    role_expanded-alike a b _ _ depth (λ d x y us e. expansion_within-alike a b n m mode d x y us e) u v t rest (role_of mode t rest) h
+    role_expanded-alike a b _ _ depth (λ d x y us e. expansion_within-alike a b n m mode d x y us e) u v t rest (head_role mode t rest) h
 
 -- The units decide only where an expansion ends for want of them.
 pub expansion-alike : (mode : Mode) (depth u v : ℕ) (ts : List Marked) →

@@ -5,7 +5,7 @@ use Rattle.macro_expand.specs.declared.outcome.Mode.{Mode}
 use Rattle.pp_tokens.specs.declared.Token.{Token}
 use Rattle.macro_defs.specs.MacroDefinition.{MacroDefinition}
 use Rattle.macro_expand.specs.Asking.{Failure, Asking, give, fail, ask_definition, ask_file, ask_line}
-use Rattle.macro_expand.specs.Replacement.{Marked, Part}
+use Rattle.macro_expand.specs.Replacement.{Marked, BodyPart}
 use Rattle.macro_expand.specs.Expansion.{Expanded, ExpandedEach, DEEPEST, expansion, charged, argument_expanded, arguments_expanded, Table, Place}
 
 -- an answer, and the state after the question
@@ -47,12 +47,12 @@ unfoldable pub after_result : {A B S : Type 0} → Result A Stop → S → (A �
 after_result (Ok x) s f = f x s
 after_result (Err e) s f = record { result = Err e; state = s }
 
-unfoldable pub and_then : {A B S : Type 0} → Answered A S → (A → S → Answered B S) → Answered B S
-and_then a f = after_result a.result a.state f
+unfoldable pub answered_and_then : {A B S : Type 0} → Answered A S → (A → S → Answered B S) → Answered B S
+answered_and_then a f = after_result a.result a.state f
 
 -- tokens before a result's
 unfoldable pub before : {S : Type 0} → List Marked → Answered Expanded S → Answered Expanded S
-before ts a = and_then a (λ e s. record { result = Ok (record e { tokens = ts ++ e.tokens }); state = s })
+before ts a = answered_and_then a (λ e s. record { result = Ok (record e { tokens = ts ++ e.tokens }); state = s })
 
 -- expansion where this answerer answers
 unfoldable pub expanded_for : {S : Type 0} → Answerer S → S → Mode → ℕ → ℕ → List Marked → Answered Expanded S
@@ -67,7 +67,7 @@ unfoldable pub argument_for : {S : Type 0} → Answerer S → S → Mode → ℕ
 argument_for w s mode depth t alone units a = answered w s (argument_expanded (expansion mode) depth alone (nat_lt depth DEEPEST) t units a)
 
 -- the arguments of a call, expanded by themselves
-unfoldable pub arguments_for : {S : Type 0} → Answerer S → S → Mode → ℕ → Token → List Part → ℕ → ℕ → List (List Marked) → Answered ExpandedEach S
+unfoldable pub arguments_for : {S : Type 0} → Answerer S → S → Mode → ℕ → Token → List BodyPart → ℕ → ℕ → List (List Marked) → Answered ExpandedEach S
 arguments_for w s mode depth t parts i units args = answered w s (arguments_expanded (expansion mode) depth t parts i units args)
 
 -- A table at a place, whatever the state.

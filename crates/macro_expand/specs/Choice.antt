@@ -22,8 +22,8 @@ abbrev pub IsDistinct : Sets → Type 0
 IsDistinct sets = (name : List ℕ) → HasNoRepeat (sets name)
 
 -- The definitions of some sets are among those of others.
-abbrev pub IsPart : Sets → Sets → Type 0
-IsPart sets other = (name : List ℕ) (d : MacroDefinition) → Contains (sets name) d → Contains (other name) d
+abbrev pub AreAmong : Sets → Sets → Type 0
+AreAmong sets other = (name : List ℕ) (d : MacroDefinition) → Contains (sets name) d → Contains (other name) d
 
 -- An answer for a name that has definitions: leave it, or replace it by one of them.
 abbrev pub Choice : Type 0
@@ -43,8 +43,8 @@ pub record Run (A : Type 0) : Type 0 where
 abbrev pub after_choice : {A : Type 0} → Choice → Run A → Run A
 after_choice c r = record r { choices = c ∷ r.choices }
 
-abbrev pub ended : {A : Type 0} → Ending A → Run A
-ended e = record { choices = []; ending = e }
+abbrev pub run_ended : {A : Type 0} → Ending A → Run A
+run_ended e = record { choices = []; ending = e }
 
 -- the runs where a name is left or replaced by one of these
 abbrev pub runs_of : {A : Type 0} → (Choice → List (Run A)) → List MacroDefinition → List (Run A)
@@ -53,12 +53,12 @@ runs_of next (d ∷ ds) = flat_map (λ c. map (after_choice c) (next c)) (None �
 
 -- the runs of all complete lists of choices; `file` is the presumed name, where it is known
 unfoldable pub complete_runs : {A : Type 0} → Sets → Option (List ℕ) → Asking A → List (Run A)
-complete_runs sets file (give x) = ended (Gave x) ∷ []
-complete_runs sets file (fail e) = ended (Failed e) ∷ []
+complete_runs sets file (give x) = run_ended (Gave x) ∷ []
+complete_runs sets file (fail e) = run_ended (Failed e) ∷ []
 complete_runs sets file (ask_definition name next) = runs_of (λ c. complete_runs sets file (next c)) (sets name)
 complete_runs sets file (ask_file next) =
-    elim file [ None ↦ ended Presumed ∷ [] | Some name ↦ complete_runs sets file (next name) ]
-complete_runs sets file (ask_line line next) = ended Presumed ∷ []
+    elim file [ None ↦ run_ended Presumed ∷ [] | Some name ↦ complete_runs sets file (next name) ]
+complete_runs sets file (ask_line line next) = run_ended Presumed ∷ []
 
 -- the choice that a table's answer is
 abbrev pub with_taken : {A : Type 0} → List MacroDefinition → Choice → Run A → Run A
@@ -72,22 +72,22 @@ taken_before (d ∷ ds) c cs = c ∷ cs
 
 -- the run along the answers that a table gives
 unfoldable pub taken_run : {A : Type 0} → Sets → Option (List ℕ) → Table → Asking A → Run A
-taken_run sets file table (give x) = ended (Gave x)
-taken_run sets file table (fail e) = ended (Failed e)
+taken_run sets file table (give x) = run_ended (Gave x)
+taken_run sets file table (fail e) = run_ended (Failed e)
 taken_run sets file table (ask_definition name next) =
     with_taken (sets name) (table name) (taken_run sets file table (next (table name)))
 taken_run sets file table (ask_file next) =
-    elim file [ None ↦ ended Presumed | Some name ↦ taken_run sets file table (next name) ]
-taken_run sets file table (ask_line line next) = ended Presumed
+    elim file [ None ↦ run_ended Presumed | Some name ↦ taken_run sets file table (next name) ]
+taken_run sets file table (ask_line line next) = run_ended Presumed
 
 -- the answers that a table gives to the names that have definitions in the sets, in the order in which they are asked for
-unfoldable pub taken : {A : Type 0} → Sets → Table → Place → Asking A → List Choice
-taken sets table here (give x) = []
-taken sets table here (fail e) = []
-taken sets table here (ask_definition name next) =
-    taken_before (sets name) (table name) (taken sets table here (next (table name)))
-taken sets table here (ask_file next) = taken sets table here (next here.name)
-taken sets table here (ask_line line next) = taken sets table here (next (signed_decimal (pos line +ℤ here.shift)))
+unfoldable pub choices_taken : {A : Type 0} → Sets → Table → Place → Asking A → List Choice
+choices_taken sets table here (give x) = []
+choices_taken sets table here (fail e) = []
+choices_taken sets table here (ask_definition name next) =
+    taken_before (sets name) (table name) (choices_taken sets table here (next (table name)))
+choices_taken sets table here (ask_file next) = choices_taken sets table here (next here.name)
+choices_taken sets table here (ask_line line next) = choices_taken sets table here (next (signed_decimal (pos line +ℤ here.shift)))
 
 -- the run that a list of choices gives, and the choices that it doesn't use; none where the list is too short
 pub record Started (A : Type 0) : Type 0 where

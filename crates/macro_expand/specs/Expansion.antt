@@ -13,7 +13,7 @@ use Rattle.macro_expand.specs.declared.marked.Role.{Role}
 use Rattle.macro_expand.specs.declared.marked.Role.TheVariants.{Defined, FileName, LineNumber, Name, Ordinary}
 use Rattle.pp_tokens.specs.Marks.{is_identifier, is_open, is_close, is_word}
 use Rattle.macro_expand.specs.Asking.{Failure, Count, Unclosed, Deep, Work, Asking, give, fail, ask_definition, ask_file, ask_line, then_with}
-use Rattle.macro_expand.specs.Replacement.{with_name, common_names, Marked, Call, call_in, after_open, arguments_of, Part, parts_of, object_parts, stands_alone, replacement}
+use Rattle.macro_expand.specs.Replacement.{with_name, common_names, Marked, Call, call_in, after_open, arguments_of, BodyPart, body_parts, object_parts, stands_alone, replacement}
 
 -- Expanded tokens, and the units of work left.
 pub record Expanded : Type 0 where
@@ -41,7 +41,7 @@ abbrev pub variable_of : List (List ℕ) → Bool → Option ℕ
 variable_of params variadic = if variadic then Some (length params - 1) else None
 
 -- what a call is replaced by: its name hides what both the name and the `)` hide, and itself (6.10.3.4)
-unfoldable pub call_replacement : Marked → List Part → Option ℕ → Call → List (List Marked) → List (List Marked) →
+unfoldable pub call_replacement : Marked → List BodyPart → Option ℕ → Call → List (List Marked) → List (List Marked) →
     Result (List Marked) Failure
 call_replacement t parts variable call written expanded =
     replacement t.token (with_name t.token.text (common_names t.hidden call.close.hidden)) parts
@@ -80,7 +80,7 @@ module _ (self : Expander) (depth : ℕ) where
   argument_expanded true false t units a = fail (Deep t.line)
 
   -- the arguments of a call of `t`, from number `i` on, from left to right (6.10.3.1)
-  unfoldable pub arguments_expanded : Token → List Part → ℕ → ℕ → List (List Marked) → Asking ExpandedEach
+  unfoldable pub arguments_expanded : Token → List BodyPart → ℕ → ℕ → List (List Marked) → Asking ExpandedEach
   arguments_expanded t parts i units [] = give (record { lists = []; units = units })
   arguments_expanded t parts i units (a ∷ rest) =
       then_with (argument_expanded (stands_alone i None parts) (nat_lt depth DEEPEST) t units a) (λ e.
@@ -88,7 +88,7 @@ module _ (self : Expander) (depth : ℕ) where
       give (record { lists = e.tokens ∷ more.lists; units = more.units })))
 
   -- a call whose arguments were counted
-  unfoldable pub counted : ℕ → Marked → List Part → Option ℕ → Call → Option (List (List Marked)) → Asking Expanded
+  unfoldable pub counted : ℕ → Marked → List BodyPart → Option ℕ → Call → Option (List (List Marked)) → Asking Expanded
   counted units t parts variable call None = fail (Count t.token.text t.token.line)
   counted units t parts variable call (Some written) =
       then_with (arguments_expanded t.token parts 0 units written) (λ e.
@@ -98,7 +98,7 @@ module _ (self : Expander) (depth : ℕ) where
   unfoldable pub called : ℕ → Marked → List (List ℕ) → Bool → List Token → Option Call → Asking Expanded
   called units t params variadic body None = fail (Unclosed t.token.text t.token.line)
   called units t params variadic body (Some call) =
-      counted units t (parts_of params body) (variable_of params variadic) call
+      counted units t (body_parts params body) (variable_of params variadic) call
       (arguments_of (length params) variadic call.within)
 
   -- a function-like macro's name and the tokens after it, or those after a `(` that follows
@@ -141,8 +141,8 @@ abbrev pub has_operand : List Marked → Bool
 has_operand ts = is_some_tokens (operand_of_defined ts).0
 
 -- what a token at the head of the list is, before the rest; a `defined` without an operand is a name as any other
-unfoldable pub role_of : Mode → Marked → List Marked → Role
-role_of mode t rest =
+unfoldable pub head_role : Mode → Marked → List Marked → Role
+head_role mode t rest =
     if not (is_identifier t.token) then Ordinary
     else (if (elim mode [ Text ↦ false | Condition ↦ true ]) && (is_word (codes "defined") t.token && has_operand rest) then Defined
     else (if t.hidden t.token.text then Ordinary
@@ -165,7 +165,7 @@ role_expanded self depth units t rest Name =
 -- One step of expansion, over a way to expand what comes of it.
 unfoldable pub expansion_step : Mode → Expander → Expander
 expansion_step mode self depth units [] = give (record { tokens = []; units = units })
-expansion_step mode self depth units (t ∷ rest) = role_expanded self depth units t rest (role_of mode t rest)
+expansion_step mode self depth units (t ∷ rest) = role_expanded self depth units t rest (head_role mode t rest)
 
 -- Expansion by at most so many steps one inside another.
 unfoldable pub expansion_within : ℕ → Mode → Expander

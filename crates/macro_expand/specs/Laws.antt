@@ -8,9 +8,9 @@ use Rattle.macro_defs.specs.MacroDefinition.{MacroDefinition}
 use Rattle.macro_expand.specs.declared.outcome.Mode.{Mode}
 use Rattle.macro_expand.specs.declared.marked.Role.TheVariants.{Defined, FileName, LineNumber, Name, Ordinary}
 use Rattle.macro_expand.specs.Asking.{Failure, Count, Unclosed, Deep, Work, Asking, give, fail, ask_definition, ask_file, ask_line, then_with}
-use Rattle.macro_expand.specs.Replacement.{Marked, Part, Call, call_in, after_open, arguments_of, parts_of, stands_alone}
-use Rattle.macro_expand.specs.Expansion.{DEEPEST, Expanded, ExpandedEach, expansion, expansion_step, role_of, operand_of_defined, replaced_token, object_replacement, call_replacement, variable_of, charged, arguments_expanded, Table, Place, by_table, expanded_by}
-use Rattle.macro_expand.specs.Choice.{Sets, IsWithin, Ending, Gave, Failed, Presumed, complete_runs, taken_run, taken, run_by}
+use Rattle.macro_expand.specs.Replacement.{Marked, BodyPart, Call, call_in, after_open, arguments_of, body_parts, stands_alone}
+use Rattle.macro_expand.specs.Expansion.{DEEPEST, Expanded, ExpandedEach, expansion, expansion_step, head_role, operand_of_defined, replaced_token, object_replacement, call_replacement, variable_of, charged, arguments_expanded, Table, Place, by_table, expanded_by}
+use Rattle.macro_expand.specs.Choice.{Sets, IsWithin, Ending, Gave, Failed, Presumed, complete_runs, taken_run, choices_taken, run_by}
 
 -- Steps.
 
@@ -37,7 +37,7 @@ unfoldable pub charged_by : Table → Place → Mode → ℕ → ℕ → Result 
 charged_by table here mode depth units r rest = by_table table here (charged (expansion mode) depth units r rest)
 
 -- the arguments of a call of `t`, from number `i` on, expanded by themselves where a table answers (6.10.3.1)
-unfoldable pub arguments_by : Table → Place → Mode → ℕ → Token → List Part → ℕ → ℕ → List (List Marked) → Result ExpandedEach Failure
+unfoldable pub arguments_by : Table → Place → Mode → ℕ → Token → List BodyPart → ℕ → ℕ → List (List Marked) → Result ExpandedEach Failure
 arguments_by table here mode depth t parts i units args = by_table table here (arguments_expanded (expansion mode) depth t parts i units args)
 
 -- a table answers the first part, and then what follows its result
@@ -69,12 +69,12 @@ pub record FunctionExpands (table : Table) (here : Place) (mode : Mode) (depth u
       after_open rest ≡ Some within → call_in 0 within ≡ Some call →
       arguments_of (length params) variadic call.within ≡ Some written →
       expanded_by table here mode depth units (t ∷ rest)
-      ≡ after_ok (arguments_by table here mode depth t.token (parts_of params body) 0 units written) (λ e.
+      ≡ after_ok (arguments_by table here mode depth t.token (body_parts params body) 0 units written) (λ e.
       charged_by table here mode depth e.units
-      (call_replacement t (parts_of params body) (variable_of params variadic) call written e.lists) call.after)
+      (call_replacement t (body_parts params body) (variable_of params variadic) call written e.lists) call.after)
 
 -- What becomes of the arguments of a call of `t`, where a table answers (6.10.3.1).
-pub record ArgumentsExpand (table : Table) (here : Place) (mode : Mode) (depth : ℕ) (t : Token) (parts : List Part) : Type 0 where
+pub record ArgumentsExpand (table : Table) (here : Place) (mode : Mode) (depth : ℕ) (t : Token) (parts : List BodyPart) : Type 0 where
   pub nil : (i units : ℕ) → arguments_by table here mode depth t parts i units [] ≡ Ok (record { lists = []; units = units })
   -- an argument that is only spelled or pasted isn't expanded
   pub skipped : (i units : ℕ) (a : List Marked) (rest : List (List Marked)) → stands_alone i None parts ≡ false →
@@ -91,30 +91,30 @@ pub record ArgumentsExpand (table : Table) (here : Place) (mode : Mode) (depth :
 pub record TableExpands (table : Table) (here : Place) (mode : Mode) (depth units : ℕ) : Type 0 where
   pub nil : expanded_by table here mode depth units [] ≡ Ok (record { tokens = []; units = units })
   -- what is no macro's name is put out
-  pub ordinary : (t : Marked) (rest : List Marked) → role_of mode t rest ≡ Ordinary →
+  pub ordinary : (t : Marked) (rest : List Marked) → head_role mode t rest ≡ Ordinary →
       expanded_by table here mode depth units (t ∷ rest) ≡ put_before (t ∷ []) (expanded_by table here mode depth units rest)
   -- `defined` and its operand are put out (6.10.1)
-  pub defined_operand : (t : Marked) (rest : List Marked) → role_of mode t rest ≡ Defined →
+  pub defined_operand : (t : Marked) (rest : List Marked) → head_role mode t rest ≡ Defined →
       expanded_by table here mode depth units (t ∷ rest)
       ≡ put_before (t ∷ (operand_of_defined rest).0) (expanded_by table here mode depth units (operand_of_defined rest).1)
   -- `__FILE__` and `__LINE__` become one token, for two units (6.10.8.1)
-  pub file_name : (t : Marked) (rest : List Marked) (left : ℕ) → role_of mode t rest ≡ FileName → left + 2 ≡ units →
+  pub file_name : (t : Marked) (rest : List Marked) (left : ℕ) → head_role mode t rest ≡ FileName → left + 2 ≡ units →
       expanded_by table here mode depth units (t ∷ rest)
       ≡ put_before (replaced_token t Str (34 ∷ here.name ++ 34 ∷ []) ∷ []) (expanded_by table here mode depth left rest)
-  pub line_number : (t : Marked) (rest : List Marked) (left : ℕ) → role_of mode t rest ≡ LineNumber → left + 2 ≡ units →
+  pub line_number : (t : Marked) (rest : List Marked) (left : ℕ) → head_role mode t rest ≡ LineNumber → left + 2 ≡ units →
       expanded_by table here mode depth units (t ∷ rest)
       ≡ put_before (replaced_token t Number (signed_decimal (pos t.token.line +ℤ here.shift)) ∷ []) (expanded_by table here mode depth left rest)
-  pub built_in_out : (t : Marked) (rest : List Marked) → (role_of mode t rest ≡ FileName) ⊎ (role_of mode t rest ≡ LineNumber) → units ≤ 1 →
+  pub built_in_out : (t : Marked) (rest : List Marked) → (head_role mode t rest ≡ FileName) ⊎ (head_role mode t rest ≡ LineNumber) → units ≤ 1 →
       expanded_by table here mode depth units (t ∷ rest) ≡ Err Work
   -- a name without a definition is put out
-  pub undefined : (t : Marked) (rest : List Marked) → role_of mode t rest ≡ Name → table t.token.text ≡ None →
+  pub undefined : (t : Marked) (rest : List Marked) → head_role mode t rest ≡ Name → table t.token.text ≡ None →
       expanded_by table here mode depth units (t ∷ rest) ≡ put_before (t ∷ []) (expanded_by table here mode depth units rest)
   -- an object-like macro is replaced, and the rest is read again with its replacement (6.10.3 p9, 6.10.3.4)
   pub object : (t : Marked) (rest : List Marked) (d : MacroDefinition) →
-      role_of mode t rest ≡ Name → table t.token.text ≡ Some d → d.shape ≡ Object →
+      head_role mode t rest ≡ Name → table t.token.text ≡ Some d → d.shape ≡ Object →
       expanded_by table here mode depth units (t ∷ rest) ≡ charged_by table here mode depth units (object_replacement t d.body) rest
   pub function : (t : Marked) (rest : List Marked) (d : MacroDefinition) (params : List (List ℕ)) (variadic : Bool) →
-      role_of mode t rest ≡ Name → table t.token.text ≡ Some d → d.shape ≡ Function params variadic →
+      head_role mode t rest ≡ Name → table t.token.text ≡ Some d → d.shape ≡ Function params variadic →
       FunctionExpands table here mode depth units t rest d.body params variadic
   -- a replacement costs one unit and one for each token that it puts in
   pub paid : (ts rest : List Marked) (left : ℕ) → left + length ts + 1 ≡ units →
@@ -126,7 +126,7 @@ abbrev pub ExpandsByTable : Type 0
 ExpandsByTable = (table : Table) (here : Place) (mode : Mode) (depth units : ℕ) → TableExpands table here mode depth units
 
 abbrev pub ArgumentsExpandByTable : Type 0
-ArgumentsExpandByTable = (table : Table) (here : Place) (mode : Mode) (depth : ℕ) (t : Token) (parts : List Part) →
+ArgumentsExpandByTable = (table : Table) (here : Place) (mode : Mode) (depth : ℕ) (t : Token) (parts : List BodyPart) →
     ArgumentsExpand table here mode depth t parts
 
 -- Units.
@@ -180,8 +180,8 @@ Knows (Some name) here = name ≡ here.name
 pub record GoesAlike (sets : Sets) (file : Option (List ℕ)) (table : Table) (here : Place) (mode : Mode) (units work : ℕ) (ts : List Marked) : Type 0 where
   pub ends : SameEnd (SameTokens work units) (expanded_by table here mode 0 units ts)
       (taken_run sets file table (expansion mode 0 work ts)).ending
-  pub answers : taken sets table here (expansion mode 0 units ts) ≡ (taken_run sets file table (expansion mode 0 work ts)).choices
-  pub uses : run_by sets file (taken sets table here (expansion mode 0 units ts)) (expansion mode 0 work ts)
+  pub answers : choices_taken sets table here (expansion mode 0 units ts) ≡ (taken_run sets file table (expansion mode 0 work ts)).choices
+  pub uses : run_by sets file (choices_taken sets table here (expansion mode 0 units ts)) (expansion mode 0 work ts)
       ≡ Some (record { ending = (taken_run sets file table (expansion mode 0 work ts)).ending; unused = [] })
 
 -- The choice fact. The run along the table's answers is a complete run of the sets, and one of three things holds: the

@@ -67,43 +67,43 @@ argument_with t [] = (t ∷ []) ∷ []
 argument_with t (a ∷ rest) = (t ∷ a) ∷ rest
 
 -- the tokens, cut at the first `cuts` commas that stand outside parentheses
-unfoldable pub cut_at_commas : ℕ → ℕ → List Marked → List (List Marked)
-cut_at_commas cuts nesting [] = [] ∷ []
-cut_at_commas cuts nesting (t ∷ ts) =
+unfoldable pub cut_at_outer_commas : ℕ → ℕ → List Marked → List (List Marked)
+cut_at_outer_commas cuts nesting [] = [] ∷ []
+cut_at_outer_commas cuts nesting (t ∷ ts) =
     elim (mark_of t.token) [
-      | Opening ↦ argument_with t (cut_at_commas cuts (suc nesting) ts)
-      | Closing ↦ argument_with t (cut_at_commas cuts (nesting - 1) ts)
+      | Opening ↦ argument_with t (cut_at_outer_commas cuts (suc nesting) ts)
+      | Closing ↦ argument_with t (cut_at_outer_commas cuts (nesting - 1) ts)
       | Comma ↦ elim (if nesting == 0 then cuts else 0) [
-        | zero ↦ argument_with t (cut_at_commas cuts nesting ts)
-        | suc less ↦ [] ∷ cut_at_commas less nesting ts
+        | zero ↦ argument_with t (cut_at_outer_commas cuts nesting ts)
+        | suc less ↦ [] ∷ cut_at_outer_commas less nesting ts
       ]
-      | _ ↦ argument_with t (cut_at_commas cuts nesting ts)
+      | _ ↦ argument_with t (cut_at_outer_commas cuts nesting ts)
     ]
 
 -- the arguments of a macro that has `count` parameters; where it is variadic, the last is all that follows the others, with its
 -- commas, and may be left out. None where their number is wrong.
 unfoldable pub arguments_of : ℕ → Bool → List Marked → Option (List (List Marked))
 arguments_of count true within =
-    let pieces = cut_at_commas (count - 1) 0 within in
+    let pieces = cut_at_outer_commas (count - 1) 0 within in
     (if length pieces == count then Some pieces
     else (if suc (length pieces) == count then Some (pieces ++ [] ∷ []) else None))
 arguments_of zero false within = elim within [ [] ↦ Some [] | t ∷ ts ↦ None ]
 arguments_of (suc count) false within =
-    let pieces = cut_at_commas (length within) 0 within in
+    let pieces = cut_at_outer_commas (length within) 0 within in
     if length pieces == suc count then Some pieces else None
 
 -- Parts of a replacement list.
 
 -- What a token of a replacement list stands for: itself, an argument (with the space of its parameter), the spelling of an
 -- argument (`#`), or a join (`##`).
-pub data Part : Type 0 where
-  Plain : Token → Part
-  Argument : ℕ → Bool → Part
-  Spelling : ℕ → Bool → Part
-  Join : Part
+pub data BodyPart : Type 0 where
+  Plain : Token → BodyPart
+  Argument : ℕ → Bool → BodyPart
+  Spelling : ℕ → Bool → BodyPart
+  Join : BodyPart
 
 -- what stands for the tokens of a function-like macro's replacement list; `hash` is the space of a `#` that stands right before
-unfoldable pub parts_after : Option Bool → List (List ℕ) → List Token → List Part
+unfoldable pub parts_after : Option Bool → List (List ℕ) → List Token → List BodyPart
 parts_after hash names [] = []
 parts_after None names (t ∷ ts) =
     elim (mark_of t) [
@@ -115,35 +115,35 @@ parts_after (Some space) names (t ∷ ts) =
     (elim (argument_named names t) [ None ↦ Plain t | Some i ↦ Spelling i space ]) ∷ parts_after None names ts
 
 -- the parts of an object-like macro's replacement list
-abbrev pub object_parts : List Token → List Part
+abbrev pub object_parts : List Token → List BodyPart
 object_parts = map (λ t. elim (mark_of t) [ Pasting ↦ Join | _ ↦ Plain t ])
 
-abbrev pub is_join : Option Part → Bool
+abbrev pub is_join : Option BodyPart → Bool
 is_join None = false
 is_join (Some p) = elim p [ Join ↦ true | _ ↦ false ]
 
-abbrev pub first_part : List Part → Option Part
-first_part [] = None
-first_part (p ∷ ps) = Some p
+abbrev pub first_body_part : List BodyPart → Option BodyPart
+first_body_part [] = None
+first_body_part (p ∷ ps) = Some p
 
 -- the parts with `##` several times in a row as one; `joined` says that one stands right before them (6.10.3.3)
-unfoldable pub one_joins : Bool → List Part → List Part
+unfoldable pub one_joins : Bool → List BodyPart → List BodyPart
 one_joins joined [] = []
 one_joins joined (p ∷ ps) = (if joined && is_join (Some p) then [] else p ∷ []) ++ one_joins (is_join (Some p)) ps
 
 -- the parts of a function-like macro's replacement list, by its parameters' names
-abbrev pub parts_of : List (List ℕ) → List Token → List Part
-parts_of names body = one_joins false (parts_after None names body)
+abbrev pub body_parts : List (List ℕ) → List Token → List BodyPart
+body_parts names body = one_joins false (parts_after None names body)
 
 -- whether this part, between these, is argument `i` beside no `##`, so that it is expanded by itself (6.10.3.1)
-abbrev pub is_alone : ℕ → Option Part → Part → List Part → Bool
+abbrev pub is_alone : ℕ → Option BodyPart → BodyPart → List BodyPart → Bool
 is_alone i left (Plain t) right = false
-is_alone i left (Argument j space) right = (i == j) && not (is_join left) && not (is_join (first_part right))
+is_alone i left (Argument j space) right = (i == j) && not (is_join left) && not (is_join (first_body_part right))
 is_alone i left (Spelling j space) right = false
 is_alone i left Join right = false
 
 -- whether argument `i` stands alone somewhere in these parts, after this one
-unfoldable pub stands_alone : ℕ → Option Part → List Part → Bool
+unfoldable pub stands_alone : ℕ → Option BodyPart → List BodyPart → Bool
 stands_alone i left [] = false
 stands_alone i left (p ∷ ps) = is_alone i left p ps || stands_alone i (Some p) ps
 
@@ -186,7 +186,7 @@ pub record Arguments : Type 0 where
   -- the number of the variable argument
   pub variable : Option ℕ
 
-abbrev pub is_variable : Arguments → Option Part → Bool
+abbrev pub is_variable : Arguments → Option BodyPart → Bool
 is_variable args None = false
 is_variable args (Some p) =
     elim p [
@@ -194,11 +194,11 @@ is_variable args (Some p) =
       | _ ↦ false
     ]
 
-abbrev pub is_comma_part : Option Part → Bool
+abbrev pub is_comma_part : Option BodyPart → Bool
 is_comma_part None = false
 is_comma_part (Some p) = elim p [ Plain t ↦ is_comma t | _ ↦ false ]
 
-abbrev pub rest_parts : List Part → List Part
+abbrev pub rest_parts : List BodyPart → List BodyPart
 rest_parts [] = []
 rest_parts (p ∷ ps) = ps
 
@@ -210,33 +210,33 @@ is_empty_argument args =
     elim args.variable [ None ↦ false | Some v ↦ elim (argument_at v args.written) [ [] ↦ true | t ∷ ts ↦ false ] ]
 
 -- the pieces of one part that stands between these; `, ## V` drops the comma where V has no tokens, and joins nothing (GNU)
-abbrev pub pieces_of_part : Arguments → Option Part → Part → List Part → List Piece
+abbrev pub pieces_of_part : Arguments → Option BodyPart → BodyPart → List BodyPart → List Piece
 pieces_of_part args left (Plain t) right =
-    if is_comma t && is_join (first_part right) && is_variable args (first_part (rest_parts right)) && is_empty_argument args
+    if is_comma t && is_join (first_body_part right) && is_variable args (first_body_part (rest_parts right)) && is_empty_argument args
     then [] else Real (unmarked t) ∷ []
 pieces_of_part args left (Argument i space) right =
-    if is_join left || is_join (first_part right) then as_pieces (with_space space (argument_at i args.written))
+    if is_join left || is_join (first_body_part right) then as_pieces (with_space space (argument_at i args.written))
     else map Real (with_space space (argument_at i args.expanded))
 pieces_of_part args left (Spelling i space) right = Real (stringized space (argument_at i args.written)) ∷ []
 pieces_of_part args left Join right =
-    if is_comma_part left && is_variable args (first_part right) then [] else Joining ∷ []
+    if is_comma_part left && is_variable args (first_body_part right) then [] else Joining ∷ []
 
-unfoldable pub pieces_of : Arguments → Option Part → List Part → List Piece
+unfoldable pub pieces_of : Arguments → Option BodyPart → List BodyPart → List Piece
 pieces_of args left [] = []
 pieces_of args left (p ∷ ps) = pieces_of_part args left p ps ++ pieces_of args (Some p) ps
 
 -- Pasting (6.10.3.3).
 
 -- a token or a placemarker
-abbrev pub Operand : Type 0
-Operand = Option Marked
+abbrev pub PasteOperand : Type 0
+PasteOperand = Option Marked
 
-abbrev pub operand_tokens : Operand → List Marked
+abbrev pub operand_tokens : PasteOperand → List Marked
 operand_tokens None = []
 operand_tokens (Some t) = t ∷ []
 
 -- what `##` makes of its two sides, or the two spellings that it can't paste
-unfoldable pub pasted : Operand → Operand → Result Operand (List ℕ × List ℕ)
+unfoldable pub pasted : PasteOperand → PasteOperand → Result PasteOperand (List ℕ × List ℕ)
 pasted None right = Ok right
 pasted (Some a) None = Ok (Some a)
 pasted (Some a) (Some b) =
@@ -248,18 +248,18 @@ pasted (Some a) (Some b) =
       }))
     ]
 
-abbrev pub before_joined : Operand → Result (List Marked) (List ℕ × List ℕ) → Result (List Marked) (List ℕ × List ℕ)
+abbrev pub before_joined : PasteOperand → Result (List Marked) (List ℕ × List ℕ) → Result (List Marked) (List ℕ × List ℕ)
 before_joined left (Ok ts) = Ok (operand_tokens left ++ ts)
 before_joined left (Err e) = Err e
 
 -- the pieces with their joins made from left to right; `joining` says that a `##` stands right after `left`
-unfoldable pub joined : Operand → Bool → List Piece → Result (List Marked) (List ℕ × List ℕ)
-joined left joining [] = Ok (operand_tokens left)
-joined left joining (Joining ∷ ps) = joined left true ps
-joined left false (Real t ∷ ps) = before_joined left (joined (Some t) false ps)
-joined left false (Placemarker ∷ ps) = before_joined left (joined None false ps)
-joined left true (Placemarker ∷ ps) = joined left false ps
-joined left true (Real t ∷ ps) = elim (pasted left (Some t)) [ Ok made ↦ joined made false ps | Err e ↦ Err e ]
+unfoldable pub joins_made : PasteOperand → Bool → List Piece → Result (List Marked) (List ℕ × List ℕ)
+joins_made left joining [] = Ok (operand_tokens left)
+joins_made left joining (Joining ∷ ps) = joins_made left true ps
+joins_made left false (Real t ∷ ps) = before_joined left (joins_made (Some t) false ps)
+joins_made left false (Placemarker ∷ ps) = before_joined left (joins_made None false ps)
+joins_made left true (Placemarker ∷ ps) = joins_made left false ps
+joins_made left true (Real t ∷ ps) = elim (pasted left (Some t)) [ Ok made ↦ joins_made made false ps | Err e ↦ Err e ]
 
 -- The tokens as they are put in for the name `t`: its line, its space on the first, and the hide set (6.10.3.4).
 abbrev pub put_in_for : Token → Names → List Marked → List Marked
@@ -270,9 +270,9 @@ put_in_for t hidden ts =
     }) ts)
 
 -- what the name `t` is replaced by, or its paste error
-unfoldable pub replacement : Token → Names → List Part → Arguments → Result (List Marked) Failure
+unfoldable pub replacement : Token → Names → List BodyPart → Arguments → Result (List Marked) Failure
 replacement t hidden parts args =
-    elim (joined None false (pieces_of args None parts)) [
+    elim (joins_made None false (pieces_of args None parts)) [
       | Ok ts ↦ Ok (put_in_for t hidden ts)
       | Err pair ↦ Err (Paste pair.0 pair.1 t.line)
     ]

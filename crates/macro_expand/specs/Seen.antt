@@ -16,7 +16,7 @@ use Rattle.macro_expand.specs.Asking.{Failure, Count, Unclosed, Paste, Deep, Wor
 use Rattle.std.specs.declared.alloc.Global.{Global}
 use Rattle.macro_expand.specs.declared.outcome.Mode.{Mode}
 use Rattle.pp_tokens.specs.declared.Token.{Token}
-use Rattle.macro_expand.specs.Replacement.{Operand, Piece, Real, Placemarker, Joining, Marked, Call, call_in, arguments_of, Part, Plain, Argument, Spelling, Join}
+use Rattle.macro_expand.specs.Replacement.{PasteOperand, Piece, Real, Placemarker, Joining, Marked, Call, call_in, arguments_of, BodyPart, Plain, Argument, Spelling, Join}
 use Rattle.macro_expand.specs.Expansion.{Expanded, Place, call_replacement}
 use Rattle.macro_expand.specs.Answered.{Answerer, Answered, ByFailure, ByPresumed, before, expanded_for}
 
@@ -66,24 +66,24 @@ RefusesCall PresumedError t count variadic ts = ⊥
 RefusesCall Memory t count variadic ts = Unit {0}
 
 -- what a call that was read is replaced by
-abbrev pub call_replaced_by : Kept → List Part → Option ℕ → List (List Marked) → Marked → List (List Marked) → Result (List Marked) Failure
+abbrev pub call_replaced_by : Kept → List BodyPart → Option ℕ → List (List Marked) → Marked → List (List Marked) → Result (List Marked) Failure
 call_replaced_by t parts variable written close expanded =
     call_replacement (marked_of t) parts variable (record { within = []; close = close; after = [] }) written expanded
 
 -- what is kept of arguments as written gives the same replacements as all of them
-abbrev pub KeepsWritten : List Part → List (List Marked) → List (List Marked) → Type 0
+abbrev pub KeepsWritten : List BodyPart → List (List Marked) → List (List Marked) → Type 0
 KeepsWritten parts written kept =
     (t : Kept) (variable : Option ℕ) (close : Marked) (expanded : List (List Marked)) →
     call_replaced_by t parts variable kept close expanded ≡ call_replaced_by t parts variable written close expanded
 
 -- the parts that code keeps
-abbrev pub part_seen : KeptPart → Part
+abbrev pub part_seen : KeptPart → BodyPart
 part_seen (KeptPlain t) = Plain (without_line t.now)
 part_seen (KeptArgument i space) = Argument i space
 part_seen (KeptSpelling i space) = Spelling i space
 part_seen KeptJoin = Join
 
-abbrev pub parts_seen : List KeptPart → List Part
+abbrev pub parts_seen : List KeptPart → List BodyPart
 parts_seen = map part_seen
 
 -- a run that was stopped by an error of code, in this state; want of memory says nothing
@@ -97,8 +97,8 @@ Stops PresumedError s a = a ≡ record { result = Err ByPresumed; state = s }
 Stops Memory s a = Unit {0}
 
 -- what was put out, before what the head and the pending tokens become, is the same after a step
-abbrev pub GoesOn : {S : Type 0} → Answerer S → Mode → ℕ → S → ℕ → List Kept → Kept → List Kept → S → ℕ → List Kept → List Kept → Type 0
-GoesOn w mode depth s units out t pending u left out' pending' =
+abbrev pub StepKeepsResult : {S : Type 0} → Answerer S → Mode → ℕ → S → ℕ → List Kept → Kept → List Kept → S → ℕ → List Kept → List Kept → Type 0
+StepKeepsResult w mode depth s units out t pending u left out' pending' =
     before (map marked_of out) (expanded_for w s mode depth units (marked_of t ∷ map marked_of pending))
     ≡ before (map marked_of out') (expanded_for w u mode depth left (map marked_of pending'))
 
@@ -108,12 +108,12 @@ piece_of (KeptReal m) = Real (marked_of m)
 piece_of KeptPlacemarker = Placemarker
 piece_of KeptJoining = Joining
 
-abbrev pub operand_of : Option Kept → Operand
-operand_of None = None
-operand_of (Some m) = Some (marked_of m)
+abbrev pub paste_operand : Option Kept → PasteOperand
+paste_operand None = None
+paste_operand (Some m) = Some (marked_of m)
 
 -- what two tokens are pasted to, where their spellings make this one token or none
-abbrev pub pasted_as : Kept → Kept → Option Kept → Result Operand (List ℕ × List ℕ)
+abbrev pub pasted_as : Kept → Kept → Option Kept → Result PasteOperand (List ℕ × List ℕ)
 pasted_as left right None = Err (left.token.text, right.token.text)
 pasted_as left right (Some m) = Ok (Some (marked_of m))
 
@@ -128,9 +128,9 @@ ReportsPaste PresumedError l r = ⊥
 ReportsPaste Memory l r = Unit {0}
 
 -- a result with these tokens, whatever their hide sets, and these units left
-abbrev pub Gives : Result Expanded Failure → List Token → ℕ → Type 0
-Gives (Ok e) ts left = (map (λ m. m.token) e.tokens ≡ ts) × (e.units ≡ left)
-Gives (Err f) ts left = ⊥
+abbrev pub GivesTokens : Result Expanded Failure → List Token → ℕ → Type 0
+GivesTokens (Ok e) ts left = (map (λ m. m.token) e.tokens ≡ ts) × (e.units ≡ left)
+GivesTokens (Err f) ts left = ⊥
 
 -- a run that gave these tokens, whatever their hide sets, with these units left, in this state
 abbrev pub HasTokens : {S : Type 0} → Answered Expanded S → List Token → ℕ → S → Type 0

@@ -13,7 +13,7 @@ use Rattle.macro_expand.specs.declared.stream.Standing.TheVariants.{Going, Ended
 use Rattle.macro_expand.specs.Asking.{Failure}
 use Rattle.macro_expand.specs.declared.answers.TablePlace.{TablePlace}
 use Rattle.macro_expand.specs.declared.marked.Role.TheVariants.{Name, Ordinary}
-use Rattle.macro_expand.specs.Expansion.{Expanded, Table, expanded_by, role_of}
+use Rattle.macro_expand.specs.Expansion.{Expanded, Table, expanded_by, head_role}
 use Rattle.macro_expand.specs.Answered.{before, expanded_for, table_answerer}
 use Rattle.macro_expand.specs.Seen.{marked_of, kept_token, place_of}
 
@@ -69,21 +69,21 @@ StandsAfter Work new = (new ≡ Refused Work) ⊎ (new ≡ NoMemory)
 StandsAfter Memory new = new ≡ NoMemory
 
 -- how it stands after an answer; the end and want of memory stay, and another error stays or turns into want of memory
-abbrev pub IsAnswer : Standing → Result (Option Token) ExpandError → Standing → Type 0
-IsAnswer Going (Ok (Some t)) new = new ≡ Going
-IsAnswer Going (Ok None) new = new ≡ Ended
-IsAnswer Going (Err e) new = StandsAfter e new
-IsAnswer Ended r new = (r ≡ Ok None) × (new ≡ Ended)
-IsAnswer (Refused e) r new = ((r ≡ Err e) × (new ≡ Refused e)) ⊎ ((r ≡ Err Memory) × (new ≡ NoMemory))
-IsAnswer NoMemory r new = (r ≡ Err Memory) × (new ≡ NoMemory)
+abbrev pub StandsAfterAnswer : Standing → Result (Option Token) ExpandError → Standing → Type 0
+StandsAfterAnswer Going (Ok (Some t)) new = new ≡ Going
+StandsAfterAnswer Going (Ok None) new = new ≡ Ended
+StandsAfterAnswer Going (Err e) new = StandsAfter e new
+StandsAfterAnswer Ended r new = (r ≡ Ok None) × (new ≡ Ended)
+StandsAfterAnswer (Refused e) r new = ((r ≡ Err e) × (new ≡ Refused e)) ⊎ ((r ≡ Err Memory) × (new ≡ NoMemory))
+StandsAfterAnswer NoMemory r new = (r ≡ Err Memory) × (new ≡ NoMemory)
 
 -- Steps under a table.
 
 -- a token is put out as it is: an ordinary one, or a name without a definition
 abbrev pub StaysAsItIs : Table → Mode → Kept → List Kept → Type 0
 StaysAsItIs table mode t rest =
-    (role_of mode (marked_of t) (map marked_of rest) ≡ Ordinary)
-    ⊎ ((role_of mode (marked_of t) (map marked_of rest) ≡ Name) × (table t.token.text ≡ None))
+    (head_role mode (marked_of t) (map marked_of rest) ≡ Ordinary)
+    ⊎ ((head_role mode (marked_of t) (map marked_of rest) ≡ Name) × (table t.token.text ≡ None))
 
 -- these pending tokens become those that were put out, before what the later ones become
 abbrev pub Becomes : Table → TablePlace → Mode → ℕ → List Kept → List Kept → TablePlace → ℕ → List Kept → Type 0

@@ -2,9 +2,9 @@
 ghost use Rattle.std.specs.Prelude.{◌≡◌, ◌⊎◌, ◌+◌, ◌≤◌, ◌++◌, ◌∷◌, [], map, length, Some, None, IfOk, IfErr, OnOk};
 ghost use Rattle.std.specs.Option.{option_map};
 ghost use Rattle.macro_expand.specs.declared.marked.Role.TheVariants.{FileName, LineNumber};
-ghost use Rattle.macro_expand.specs.Expansion.{role_of, replaced_token, in_quotes};
+ghost use Rattle.macro_expand.specs.Expansion.{head_role, replaced_token, in_quotes};
 ghost use Rattle.macro_expand.specs.Answered.{expanded_for};
-ghost use Rattle.macro_expand.specs.Seen.{marked_of, GoesOn, Stops};
+ghost use Rattle.macro_expand.specs.Seen.{marked_of, StepKeepsResult, Stops};
 
 use crate::answers::Answers;
 use crate::expansion::{charge, put};
@@ -27,8 +27,8 @@ pub(crate) fn expand_file_name<'s, S, A: Answers<S>>(
     pending: &mut Pending<'s>,
     work: &mut Work,
 ) -> Result<(), RunError>
-    requires role { role_of mode (marked_of t) (map marked_of pending.old) ≡ FileName }
-    ensures ok { OnOk result (GoesOn (A.answerer source.now) mode depth answers.old work.old.left out.old.items t.entry pending.old
+    requires role { head_role mode (marked_of t) (map marked_of pending.old) ≡ FileName }
+    ensures ok { OnOk result (StepKeepsResult (A.answerer source.now) mode depth answers.old work.old.left out.old.items t.entry pending.old
         answers.new work.new.left out.new.items pending.new) }
     ensures spends { work.new.left ≤ work.old.left }
     ensures shorter { OnOk result (work.new.left + length pending.new ≤ work.old.left + length pending.old) }
@@ -52,8 +52,8 @@ pub(crate) fn expand_line_number<'s, S, A: Answers<S>>(
     pending: &mut Pending<'s>,
     work: &mut Work,
 ) -> Result<(), RunError>
-    requires role { role_of mode (marked_of t) (map marked_of pending.old) ≡ LineNumber }
-    ensures ok { OnOk result (GoesOn (A.answerer source.now) mode depth answers.old work.old.left out.old.items t.entry pending.old
+    requires role { head_role mode (marked_of t) (map marked_of pending.old) ≡ LineNumber }
+    ensures ok { OnOk result (StepKeepsResult (A.answerer source.now) mode depth answers.old work.old.left out.old.items t.entry pending.old
         answers.new work.new.left out.new.items pending.new) }
     ensures spends { work.new.left ≤ work.old.left }
     ensures shorter { OnOk result (work.new.left + length pending.new ≤ work.old.left + length pending.old) }

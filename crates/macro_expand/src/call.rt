@@ -4,7 +4,7 @@ ghost use Rattle.std.specs.VecDeque.{deque_len};
 ghost use Rattle.macro_expand.specs.Replacement as spec;
 ghost use Rattle.macro_expand.specs.Replacement.{Marked as MarkedToken, after_open, arguments_of, call_in};
 ghost use Rattle.macro_expand.specs.parts.Reading as reading;
-ghost use Rattle.macro_expand.specs.parts.Reading.{call_read, arguments_seen, cut_from};
+ghost use Rattle.macro_expand.specs.parts.Reading.{call_read, read_arguments, cut_from};
 ghost use Rattle.std.specs.List.{list_any};
 ghost use Rattle.macro_expand.specs.parts.Parts.{takes_written};
 ghost use Rattle.macro_expand.specs.Seen.{marked_of, lists_of, part_seen, parts_seen, ReadsCall, RefusesCall, KeepsWritten};
@@ -213,7 +213,7 @@ fn arguments<'a>(
     variadic: bool,
     within: VecDeque<Marked<'a>>,
 ) -> Result<Option<Vec<Vec<Marked<'a>>>>, AllocError>
-    ensures { IfOk result (λ o. arguments_seen o ≡ arguments_of count variadic (map marked_of within.entry.items)) }
+    ensures { IfOk result (λ o. read_arguments o ≡ arguments_of count variadic (map marked_of within.entry.items)) }
 {
     if variadic {
         return variable_arguments(alloc, count, within);
@@ -231,7 +231,7 @@ fn variable_arguments<'a>(
     count: usize,
     within: VecDeque<Marked<'a>>,
 ) -> Result<Option<Vec<Vec<Marked<'a>>>>, AllocError>
-    ensures { IfOk result (λ o. arguments_seen o ≡ arguments_of count true (map marked_of within.entry.items)) }
+    ensures { IfOk result (λ o. read_arguments o ≡ arguments_of count true (map marked_of within.entry.items)) }
 {
     let mut pieces = cut_at_commas(alloc, count.saturating_sub(1), within)?;
     if pieces.len() == count {
@@ -250,7 +250,7 @@ fn no_arguments<'a>(
     alloc: Global,
     within: VecDeque<Marked<'a>>,
 ) -> Result<Option<Vec<Vec<Marked<'a>>>>, AllocError>
-    ensures { IfOk result (λ o. arguments_seen o ≡ arguments_of 0 false (map marked_of within.entry.items)) }
+    ensures { IfOk result (λ o. read_arguments o ≡ arguments_of 0 false (map marked_of within.entry.items)) }
 {
     if within.is_empty() {
         return Ok(Some(Vec::new(alloc)));
@@ -265,7 +265,7 @@ fn counted_arguments<'a>(
     within: VecDeque<Marked<'a>>,
 ) -> Result<Option<Vec<Vec<Marked<'a>>>>, AllocError>
     requires { 0 < count }
-    ensures { IfOk result (λ o. arguments_seen o ≡ arguments_of count false (map marked_of within.entry.items)) }
+    ensures { IfOk result (λ o. read_arguments o ≡ arguments_of count false (map marked_of within.entry.items)) }
 {
     let pieces = cut_at_commas(alloc, within.len(), within)?;
     if pieces.len() == count {
@@ -326,7 +326,7 @@ fn cut_at_commas<'a>(
     cuts: usize,
     mut within: VecDeque<Marked<'a>>,
 ) -> Result<Vec<Vec<Marked<'a>>>, AllocError>
-    ensures { IfOk result (λ pieces. lists_of pieces.items ≡ spec.cut_at_commas cuts 0 (map marked_of within.entry.items)) }
+    ensures { IfOk result (λ pieces. lists_of pieces.items ≡ spec.cut_at_outer_commas cuts 0 (map marked_of within.entry.items)) }
 {
     let mut cutting = Cutting {
         pieces: Vec::new(alloc),

@@ -8,10 +8,10 @@
 ghost use Rattle.std.specs.Prelude.{◌≡◌, ◌⊎◌, ◌+◌, ◌<◌, ◌≤◌, ◌++◌, ◌∷◌, [], map, length, Ok, IfOk, IfErr, OnOk};
 ghost use Rattle.macro_expand.specs.declared.marked.Role.TheVariants.{Name};
 ghost use Rattle.macro_expand.specs.Replacement.{unmarked};
-ghost use Rattle.macro_expand.specs.Expansion.{role_of};
+ghost use Rattle.macro_expand.specs.Expansion.{head_role};
 ghost use Rattle.macro_expand.specs.Answered.{argument_for, arguments_for, expanded_for};
 ghost use Rattle.macro_expand.specs.parts.Naming.{StandAlone, called_for};
-ghost use Rattle.macro_expand.specs.Seen.{marked_of, kept_token, parts_seen, lists_of, GoesOn, Stops, public_of, HasTokens};
+ghost use Rattle.macro_expand.specs.Seen.{marked_of, kept_token, parts_seen, lists_of, StepKeepsResult, Stops, public_of, HasTokens};
 
 use crate::answers::Answers;
 use crate::builtin::{expand_file_name, expand_line_number};
@@ -30,9 +30,9 @@ use std::collections::VecDeque;
 // How deep arguments are expanded.
 const DEEPEST: u32 = 400;
 
-#[tactic(auto, unfolding(crate::specs::Expansion::role_of))]
+#[tactic(auto, unfolding(crate::specs::Expansion::head_role))]
 pub(crate) fn role(mode: Mode, t: &Marked, rest: &Pending) -> Role
-    ensures { result ≡ role_of mode (marked_of t.now) (map marked_of rest.now) }
+    ensures { result ≡ head_role mode (marked_of t.now) (map marked_of rest.now) }
 {
     if !t.token.is_identifier() {
         return Role::Ordinary;
@@ -221,8 +221,8 @@ fn expand_name<'s, S, A: Answers<S>>(
     work: &mut Work,
 ) -> Result<(), RunError>
     requires shallow { depth ≤ 400 }
-    requires role { role_of mode (marked_of t) (map marked_of pending.old) ≡ Name }
-    ensures ok { OnOk result (GoesOn (A.answerer source.now) mode depth answers.old work.old.left out.old.items t.entry pending.old
+    requires role { head_role mode (marked_of t) (map marked_of pending.old) ≡ Name }
+    ensures ok { OnOk result (StepKeepsResult (A.answerer source.now) mode depth answers.old work.old.left out.old.items t.entry pending.old
         answers.new work.new.left out.new.items pending.new) }
     ensures spends { work.new.left ≤ work.old.left }
     ensures shorter { OnOk result (work.new.left + length pending.new ≤ work.old.left + length pending.old) }
@@ -253,7 +253,7 @@ pub(crate) fn expand_head<'s, S, A: Answers<S>>(
     work: &mut Work,
 ) -> Result<(), RunError>
     requires { depth ≤ 400 }
-    ensures ok { OnOk result (GoesOn (A.answerer source.now) mode depth answers.old work.old.left out.old.items t.entry pending.old
+    ensures ok { OnOk result (StepKeepsResult (A.answerer source.now) mode depth answers.old work.old.left out.old.items t.entry pending.old
         answers.new work.new.left out.new.items pending.new) }
     ensures spends { work.new.left ≤ work.old.left }
     ensures shorter { OnOk result (work.new.left + length pending.new ≤ work.old.left + length pending.old) }

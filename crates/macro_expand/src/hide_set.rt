@@ -4,7 +4,7 @@
 // so much for each name of the smaller set. What the model keeps is `IsOrdered`: every name is met on its way.
 ghost use Rattle.std.specs.Prelude.{◌≡◌, IfOk};
 ghost use Rattle.macro_expand.specs.parts.Tries as tries;
-ghost use Rattle.macro_expand.specs.parts.Tries.{name_hash, Branch, tree_of, found, with_leaf, with_common, with_all_common};
+ghost use Rattle.macro_expand.specs.parts.Tries.{name_hash, Branch, trie_of, found, with_leaf, with_common, with_all_common};
 
 use base_types::Bytes;
 use std::alloc::{AllocError, Global};
@@ -47,13 +47,13 @@ struct Node {
 
 impl Model for HideSet {
     ghost use Rattle.std.specs.Prelude.{ℕ, List};
-    ghost use Rattle.macro_expand.specs.parts.Tries.{tree_of, names_of, IsOrdered};
+    ghost use Rattle.macro_expand.specs.parts.Tries.{trie_of, trie_names, IsOrdered};
 
     ghost Value = { List (List ℕ) };
 
-    ghost view = { λ s. names_of (tree_of s.names) };
+    ghost view = { λ s. trie_names (trie_of s.names) };
 
-    ghost invariant = { λ s. IsOrdered (tree_of s.names) };
+    ghost invariant = { λ s. IsOrdered (trie_of s.names) };
 }
 
 impl HideSet {
@@ -185,7 +185,7 @@ fn hash_of(name: &[u8]) -> u64
 
 // Whether a name is met on the way that its key says, which is what is left of its hash.
 fn finds(trie: &Trie, name: &[u8], hash: u64, key: u64) -> bool
-    ensures { result ≡ found name.now hash key (tree_of trie.now) }
+    ensures { result ≡ found name.now hash key (trie_of trie.now) }
 {
     let Trie::Fork(node) = trie else {
         return false;
@@ -208,7 +208,7 @@ fn is_same_name(name: &[u8], hash: u64, other: &Rc<Bytes>, other_hash: u64) -> b
 
 // The same trie, shared.
 fn shared(trie: &Trie) -> Result<Trie, AllocError>
-    ensures { IfOk result (λ t. tree_of t ≡ tree_of trie.now) }
+    ensures { IfOk result (λ t. trie_of t ≡ trie_of trie.now) }
 {
     match trie {
         Trie::Empty => Ok(Trie::Empty),
@@ -223,7 +223,7 @@ fn fork(
     zero: Trie,
     one: Trie,
 ) -> Result<Trie, AllocError>
-    ensures { IfOk result (λ t. tree_of t ≡ Branch name.now.value hash (tree_of zero) (tree_of one)) }
+    ensures { IfOk result (λ t. trie_of t ≡ Branch name.now.value hash (trie_of zero) (trie_of one)) }
 {
     let node = Node {
         name: name.clone()?,
@@ -242,7 +242,7 @@ fn added(
     hash: u64,
     key: u64,
 ) -> Result<Trie, AllocError>
-    ensures { IfOk result (λ t. tree_of t ≡ with_leaf name.now.value hash key (tree_of trie.now)) }
+    ensures { IfOk result (λ t. trie_of t ≡ with_leaf name.now.value hash key (trie_of trie.now)) }
 {
     let Trie::Fork(node) = trie else {
         return fork(alloc, name, hash, Trie::Empty, Trie::Empty);
@@ -260,7 +260,7 @@ fn added(
 
 // The set with one more name, which it doesn't have.
 fn grown(alloc: Global, set: Growing, name: &Rc<Bytes>, hash: u64) -> Result<Growing, AllocError>
-    ensures { IfOk result (λ s. tree_of s.names ≡ with_leaf name.now.value hash hash (tree_of set.names)) }
+    ensures { IfOk result (λ s. trie_of s.names ≡ with_leaf name.now.value hash hash (trie_of set.names)) }
 {
     Ok(Growing {
         names: added(alloc, &set.names, name, hash, hash)?,
@@ -275,7 +275,7 @@ fn newly_added(
     name: &Rc<Bytes>,
     hash: u64,
 ) -> Result<Growing, AllocError>
-    ensures { IfOk result (λ s. tree_of s.names ≡ tries.with_new name.now.value hash (tree_of set.names)) }
+    ensures { IfOk result (λ s. trie_of s.names ≡ tries.with_new name.now.value hash (trie_of set.names)) }
 {
     if finds(&set.names, name.as_slice(), hash, hash) {
         return Ok(set);
@@ -285,7 +285,7 @@ fn newly_added(
 
 // The set with all names of a trie.
 fn all_added(alloc: Global, set: Growing, more: &Trie) -> Result<Growing, AllocError>
-    ensures { IfOk result (λ s. tree_of s.names ≡ tries.with_all (tree_of more.now) (tree_of set.names)) }
+    ensures { IfOk result (λ s. trie_of s.names ≡ tries.with_all (trie_of more.now) (trie_of set.names)) }
 {
     let Trie::Fork(node) = more else {
         return Ok(set);
@@ -303,7 +303,7 @@ fn commonly_added(
     hash: u64,
     other: &Trie,
 ) -> Result<Growing, AllocError>
-    ensures { IfOk result (λ s. tree_of s.names ≡ with_common name.now.value hash (tree_of other.now) (tree_of set.names)) }
+    ensures { IfOk result (λ s. trie_of s.names ≡ with_common name.now.value hash (trie_of other.now) (trie_of set.names)) }
 {
     if finds(other, name.as_slice(), hash, hash) {
         return grown(alloc, set, name, hash);
@@ -318,7 +318,7 @@ fn common_added(
     names: &Trie,
     other: &Trie,
 ) -> Result<Growing, AllocError>
-    ensures { IfOk result (λ s. tree_of s.names ≡ with_all_common (tree_of names.now) (tree_of other.now) (tree_of set.names)) }
+    ensures { IfOk result (λ s. trie_of s.names ≡ with_all_common (trie_of names.now) (trie_of other.now) (trie_of set.names)) }
 {
     let Trie::Fork(node) = names else {
         return Ok(set);
@@ -330,7 +330,7 @@ fn common_added(
 
 // Whether a trie has all names of another.
 fn has_all(trie: &Trie, names: &Trie) -> bool
-    ensures { result ≡ tries.has_all (tree_of names.now) (tree_of trie.now) }
+    ensures { result ≡ tries.has_all (trie_of names.now) (trie_of trie.now) }
 {
     let Trie::Fork(node) = names else {
         return true;
@@ -342,7 +342,7 @@ fn has_all(trie: &Trie, names: &Trie) -> bool
 
 // Whether two tries have the same names at the same places, as copies of one set have.
 fn is_same(a: &Trie, b: &Trie) -> bool
-    ensures { result ≡ tries.is_same (tree_of a.now) (tree_of b.now) }
+    ensures { result ≡ tries.is_same (trie_of a.now) (trie_of b.now) }
 {
     match (a, b) {
         (Trie::Empty, Trie::Empty) => true,

@@ -1,7 +1,7 @@
 // What a name stands for, by the definition that it has (ISO C 6.10.3).
 ghost use Rattle.std.specs.Prelude.{◌≡◌, ◌≤◌, map, length, Some, IfOk, IfErr};
 ghost use Rattle.macro_defs.specs.Arguments.{parameters_in};
-ghost use Rattle.macro_expand.specs.Replacement.{parts_of};
+ghost use Rattle.macro_expand.specs.Replacement.{body_parts};
 ghost use Rattle.macro_expand.specs.Expansion.{variable_of};
 ghost use Rattle.macro_expand.specs.Seen.{lists_of, parts_seen, KeepsWritten};
 ghost use Rattle.macro_expand.specs.parts.Naming.{StandAlone, ReadsName, KnowsAlone, NameStops};
@@ -46,7 +46,7 @@ fn macro_call<'d>(
     read: ReadCall<'d>,
 ) -> Result<(Vec<Vec<Marked<'d>>>, MacroCall<'d>), AllocError>
     ensures written { IfOk result (λ r. lists_of r.0.items ≡ lists_of read.entry.written.items) }
-    ensures parts { IfOk result (λ r. parts_seen r.1.parts.items ≡ parts_of (parameters_in d.now.shape) d.now.body) }
+    ensures parts { IfOk result (λ r. parts_seen r.1.parts.items ≡ body_parts (parameters_in d.now.shape) d.now.body) }
     ensures alone { IfOk result (λ r. StandAlone r.1.alone.items (length read.entry.written.items) (parts_seen r.1.parts.items)) }
     ensures variable { IfOk result (λ r. r.1.variable ≡ variable_of params.now variadic) }
     ensures close { IfOk result (λ r. r.1.read.close ≡ read.entry.close) }

@@ -4,9 +4,9 @@ ghost use Rattle.macro_expand.specs.declared.marked.Role.TheVariants.{Defined};
 ghost use Rattle.pp_tokens.specs.Marks.{is_identifier, is_mark};
 ghost use Rattle.macro_expand.specs.parts.Reading.{holds_at, begins_with_name_in_parentheses};
 ghost use Rattle.macro_expand.specs.Expansion as spec;
-ghost use Rattle.macro_expand.specs.Expansion.{role_of, operand_of_defined};
+ghost use Rattle.macro_expand.specs.Expansion.{head_role, operand_of_defined};
 ghost use Rattle.macro_expand.specs.Answered.{expanded_for};
-ghost use Rattle.macro_expand.specs.Seen.{marked_of, GoesOn, Stops};
+ghost use Rattle.macro_expand.specs.Seen.{marked_of, StepKeepsResult, Stops};
 
 use crate::answers::Answers;
 use crate::expansion::put;
@@ -74,8 +74,8 @@ pub(crate) fn expand_defined<'s, S, A: Answers<S>>(
     pending: &mut Pending<'s>,
     work: &mut Work,
 ) -> Result<(), RunError>
-    requires role { role_of mode (marked_of t) (map marked_of pending.old) ≡ Defined }
-    ensures ok { OnOk result (GoesOn (A.answerer source.now) mode depth answers.old work.old.left out.old.items t.entry pending.old
+    requires role { head_role mode (marked_of t) (map marked_of pending.old) ≡ Defined }
+    ensures ok { OnOk result (StepKeepsResult (A.answerer source.now) mode depth answers.old work.old.left out.old.items t.entry pending.old
         answers.new work.new.left out.new.items pending.new) }
     ensures spends { work.new.left ≤ work.old.left }
     ensures shorter { OnOk result (work.new.left + length pending.new ≤ work.old.left + length pending.old) }

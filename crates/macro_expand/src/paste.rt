@@ -1,8 +1,8 @@
 // Pasting (ISO C 6.10.3.3).
 ghost use Rattle.std.specs.Prelude.{◌≡◌, ◌⊎◌, ◌++◌, ◌∷◌, [], map, true, false, Ok, Some, None, IfOk, IfErr, OnOk, List};
 ghost use Rattle.pp_tokens.specs.Grammar.{kind_of};
-ghost use Rattle.macro_expand.specs.Replacement.{Piece as MarkedPiece, Real, Placemarker, joined, pasted, operand_tokens};
-ghost use Rattle.macro_expand.specs.Seen.{marked_of, piece_of, operand_of, pasted_as, ReportsPaste};
+ghost use Rattle.macro_expand.specs.Replacement.{Piece as MarkedPiece, Real, Placemarker, joins_made, pasted, operand_tokens};
+ghost use Rattle.macro_expand.specs.Seen.{marked_of, piece_of, paste_operand, pasted_as, ReportsPaste};
 ghost use Rattle.macro_expand.specs.parts.Pasting.{joined_from};
 
 use crate::expansion::put;
@@ -20,8 +20,8 @@ fn paste<'t>(
     left: Option<Marked<'t>>,
     right: Marked<'t>,
 ) -> Result<Marked<'t>, RunError>
-    ensures ok { IfOk result (λ m. pasted (operand_of left.entry) (Some (marked_of right.entry)) ≡ Ok (Some (marked_of m))) }
-    ensures err { IfErr result (λ e. ReportsPaste e t.now.token.line (pasted (operand_of left.entry) (Some (marked_of right.entry)))) }
+    ensures ok { IfOk result (λ m. pasted (paste_operand left.entry) (Some (marked_of right.entry)) ≡ Ok (Some (marked_of m))) }
+    ensures err { IfErr result (λ e. ReportsPaste e t.now.token.line (pasted (paste_operand left.entry) (Some (marked_of right.entry)))) }
 {
     match left {
         None => Ok(right),
@@ -105,7 +105,7 @@ fn paste_two<'t>(
 
 // Puts out the operand on the left, where there is one.
 fn put_operand<'t>(out: &mut Vec<Marked<'t>>, left: Option<Marked<'t>>) -> Result<(), RunError>
-    ensures ok { OnOk result (map marked_of out.new.items ≡ map marked_of out.old.items ++ operand_tokens (operand_of left.entry)) }
+    ensures ok { OnOk result (map marked_of out.new.items ≡ map marked_of out.old.items ++ operand_tokens (paste_operand left.entry)) }
     ensures err { IfErr result (λ e. e ≡ RunError.Memory) }
 {
     match left {
@@ -191,8 +191,8 @@ pub(crate) fn join_pieces<'t>(
     t: &Marked,
     pieces: Vec<Piece<'t>>,
 ) -> Result<Vec<Marked<'t>>, RunError>
-    ensures ok { IfOk result (λ ts. joined None false (map piece_of pieces.entry.items) ≡ Ok (map marked_of ts.items)) }
-    ensures err { IfErr result (λ e. ReportsPaste e t.now.token.line (joined None false (map piece_of pieces.entry.items))) }
+    ensures ok { IfOk result (λ ts. joins_made None false (map piece_of pieces.entry.items) ≡ Ok (map marked_of ts.items)) }
+    ensures err { IfErr result (λ e. ReportsPaste e t.now.token.line (joins_made None false (map piece_of pieces.entry.items))) }
 {
     let mut joining = Joining {
         out: Vec::new(alloc),

@@ -4,7 +4,7 @@ ghost use Rattle.std.specs.Option.{option_map, option_copied};
 ghost use Rattle.macro_defs.specs.MacroDefinition.{without_line};
 ghost use Rattle.pp_tokens.specs.Marks.{is_comma};
 ghost use Rattle.macro_expand.specs.Replacement as spec;
-ghost use Rattle.macro_expand.specs.Replacement.{unmarked, with_space, as_pieces, argument_at, is_variable, is_comma_part, is_join, first_part, rest_parts, is_empty_argument, pieces_of_part, pieces_of, Real};
+ghost use Rattle.macro_expand.specs.Replacement.{unmarked, with_space, as_pieces, argument_at, is_variable, is_comma_part, is_join, first_body_part, rest_parts, is_empty_argument, pieces_of_part, pieces_of, Real};
 ghost use Rattle.macro_expand.specs.parts.Pieces.{arguments_seen, spaced_at};
 ghost use Rattle.macro_expand.specs.Seen.{marked_of, piece_of, part_seen, parts_seen, lists_of};
 
@@ -46,7 +46,7 @@ fn is_variable(arguments: &Arguments, p: &Part) -> bool
 
 // Whether the variable argument stands first.
 fn begins_with_variable(arguments: &Arguments, parts: &[Part]) -> bool
-    ensures { result ≡ is_variable (arguments_seen arguments.now) (first_part (parts_seen parts.now)) }
+    ensures { result ≡ is_variable (arguments_seen arguments.now) (first_body_part (parts_seen parts.now)) }
 {
     if parts.is_empty() {
         return false;
@@ -56,7 +56,7 @@ fn begins_with_variable(arguments: &Arguments, parts: &[Part]) -> bool
 
 // Whether the variable argument stands second.
 fn second_is_variable(arguments: &Arguments, parts: &[Part]) -> bool
-    ensures { result ≡ is_variable (arguments_seen arguments.now) (first_part (rest_parts (parts_seen parts.now))) }
+    ensures { result ≡ is_variable (arguments_seen arguments.now) (first_body_part (rest_parts (parts_seen parts.now))) }
 {
     if parts.len() < 2 {
         return false;
@@ -76,8 +76,8 @@ fn has_empty_variable(arguments: &Arguments) -> bool
 
 // Whether a comma is dropped: `##` and an empty variable argument follow it (GNU).
 fn drops_comma(arguments: &Arguments, t: &Token, rest: &[Part]) -> bool
-    ensures { result ≡ (is_comma t.now && is_join (first_part (parts_seen rest.now))
-        && is_variable (arguments_seen arguments.now) (first_part (rest_parts (parts_seen rest.now)))
+    ensures { result ≡ (is_comma t.now && is_join (first_body_part (parts_seen rest.now))
+        && is_variable (arguments_seen arguments.now) (first_body_part (rest_parts (parts_seen rest.now)))
         && is_empty_argument (arguments_seen arguments.now)) }
 {
     t.is_mark(b",".as_slice())

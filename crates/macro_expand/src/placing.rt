@@ -3,7 +3,7 @@ ghost use Rattle.std.specs.Prelude.{◌≡◌, map, length, IfOk, IfSome, OnOk};
 ghost use Rattle.macro_expand.specs.Sets.{names_in};
 ghost use Rattle.macro_expand.specs.Replacement.{with_space, put_in_for};
 ghost use Rattle.macro_expand.specs.Seen.{marked_of};
-ghost use Rattle.macro_expand.specs.parts.Placing.{placed, IsUnion, KnowsUnion};
+ghost use Rattle.macro_expand.specs.parts.Placing.{placed, HasNamesOfBoth, KnowsUnion};
 
 use crate::hide_set::HideSet;
 use crate::marked::Marked;
@@ -24,7 +24,7 @@ fn kept_union(
     hidden: &HideSet,
 ) -> Result<Option<HideSet>, AllocError>
     requires { KnowsUnion hidden.now last.now }
-    ensures { IfOk result (λ kept. IfSome kept (λ all. IsUnion all own.now hidden.now)) }
+    ensures { IfOk result (λ kept. IfSome kept (λ all. HasNamesOfBoth all own.now hidden.now)) }
 {
     let Some(united) = last else {
         return Ok(None);
@@ -42,7 +42,7 @@ fn unite(
     own: &HideSet,
     hidden: &HideSet,
 ) -> Result<HideSet, AllocError>
-    ensures ok { IfOk result (λ all. IsUnion all own.now hidden.now) }
+    ensures ok { IfOk result (λ all. HasNamesOfBoth all own.now hidden.now) }
     ensures known { OnOk result (KnowsUnion hidden.now last.new) }
 {
     let all = own.all(alloc, hidden)?;
@@ -61,7 +61,7 @@ fn union_with(
     hidden: &HideSet,
 ) -> Result<HideSet, AllocError>
     requires { KnowsUnion hidden.now last.old }
-    ensures ok { IfOk result (λ all. IsUnion all own.now hidden.now) }
+    ensures ok { IfOk result (λ all. HasNamesOfBoth all own.now hidden.now) }
     ensures known { OnOk result (KnowsUnion hidden.now last.new) }
 {
     // Tokens of the replacement list have no names of their own, and stand between those of arguments.

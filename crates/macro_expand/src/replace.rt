@@ -2,8 +2,8 @@
 ghost use Rattle.std.specs.Prelude.{◌≡◌, ◌≤◌, ◌<◌, ℕ, List, Some, None, Ok, Err, map, length, get_or, false, ◌++◌, ◌∷◌, [], ◌&&◌, if◌then◌else◌, IfOk, IfErr, OnOk};
 ghost use Rattle.macro_defs.specs.MacroDefinition.{without_line};
 ghost use Rattle.macro_defs.specs.Arguments.{parameters_in};
-ghost use Rattle.macro_expand.specs.Replacement.{parts_after, parts_of, one_joins, stands_alone, object_parts, is_join, first_part, with_name, common_names, replacement};
-ghost use Rattle.macro_expand.specs.parts.Parts.{operand_part, part_of, begins_spelling, object_part, Marks};
+ghost use Rattle.macro_expand.specs.Replacement.{parts_after, body_parts, one_joins, stands_alone, object_parts, is_join, first_body_part, with_name, common_names, replacement};
+ghost use Rattle.macro_expand.specs.parts.Parts.{operand_part, body_part, begins_spelling, object_part, Marks};
 ghost use Rattle.macro_expand.specs.parts.Pieces.{arguments_seen};
 ghost use Rattle.macro_expand.specs.Sets.{names_in};
 ghost use Rattle.macro_expand.specs.Expansion.{object_replacement, variable_of};
@@ -46,7 +46,7 @@ fn operand_at<'d>(hash: Option<bool>, t: &'d Token, parameter: Option<usize>) ->
 
 // What a token stands for that no `#` stands before.
 fn unhashed_part<'d>(t: &'d Token, parameter: Option<usize>) -> Part<'d>
-    ensures { part_seen result ≡ part_of None (without_line t.now) parameter }
+    ensures { part_seen result ≡ body_part None (without_line t.now) parameter }
 {
     if t.is_pasting() {
         return Part::Join;
@@ -57,7 +57,7 @@ fn unhashed_part<'d>(t: &'d Token, parameter: Option<usize>) -> Part<'d>
 // What a token of a function-like macro's replacement list stands for, by the parameter that it names; `hash` is the space of
 // a `#` right before it.
 fn part_at<'d>(hash: Option<bool>, t: &'d Token, parameter: Option<usize>) -> Part<'d>
-    ensures { part_seen result ≡ part_of hash (without_line t.now) parameter }
+    ensures { part_seen result ≡ body_part hash (without_line t.now) parameter }
 {
     match hash {
         None => unhashed_part(t, parameter),
@@ -95,7 +95,7 @@ fn read_each_part<'d>(alloc: Global, d: &'d Definition) -> Result<Vec<Part<'d>>,
 
 // The parts of a function-like macro's replacement list, with `##` several times in a row as one.
 pub(crate) fn read_parts<'d>(alloc: Global, d: &'d Definition) -> Result<Vec<Part<'d>>, AllocError>
-    ensures { IfOk result (λ parts. parts_seen parts.items ≡ parts_of (parameters_in d.now.shape) d.now.body) }
+    ensures { IfOk result (λ parts. parts_seen parts.items ≡ body_parts (parameters_in d.now.shape) d.now.body) }
 {
     let each = read_each_part(alloc, d)?;
     with_one_joins(alloc, each.as_slice())
@@ -158,7 +158,7 @@ fn is_join(p: &Part) -> bool
 
 // Whether `##` stands first.
 pub(crate) fn begins_with_join(parts: &[Part]) -> bool
-    ensures { result ≡ is_join (first_part (parts_seen parts.now)) }
+    ensures { result ≡ is_join (first_body_part (parts_seen parts.now)) }
 {
     matches!(parts, [Part::Join, ..])
 }

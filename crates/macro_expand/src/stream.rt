@@ -4,9 +4,9 @@ ghost use Rattle.macro_defs.specs.Table.{lookup};
 ghost use Rattle.macro_expand.specs.Replacement.{unmarked};
 ghost use Rattle.macro_expand.specs.Expansion.{expanded_by};
 ghost use Rattle.macro_expand.specs.Answered.{expanded_for, table_answerer};
-ghost use Rattle.macro_expand.specs.Seen.{marked_of, kept_plain, place_of, Gives, Stops, ReportsResult};
+ghost use Rattle.macro_expand.specs.Seen.{marked_of, kept_plain, place_of, GivesTokens, Stops, ReportsResult};
 ghost use Rattle.macro_expand.specs.parts.Pending.{run_tokens};
-ghost use Rattle.macro_expand.specs.Stream.{to_come, at_hand, FirstReady, GivesNext, StandsAfter, IsAnswer, StaysAsItIs, Becomes};
+ghost use Rattle.macro_expand.specs.Stream.{to_come, at_hand, FirstReady, GivesNext, StandsAfter, StandsAfterAnswer, StaysAsItIs, Becomes};
 
 use crate::answers::{Presumed, TablePlace};
 use crate::expansion::{expand_head, public_error, role};
@@ -98,7 +98,7 @@ impl<'a> Expander<'a> {
     pub fn next(&mut self, work: &mut Work) -> Result<Option<TokenCow<'a>>, ExpandError>
         ensures gives { self.old.standing ≡ Standing.Going → IfOk result (λ o. GivesNext o self.old work.old.left self.new work.new.left) }
         ensures err { self.old.standing ≡ Standing.Going → IfErr result (λ e. ReportsResult e (to_come self.old work.old.left)) }
-        ensures stands { IsAnswer self.old.standing result self.new.standing }
+        ensures stands { StandsAfterAnswer self.old.standing result self.new.standing }
         ensures spends { work.new.left ≤ work.old.left }
         ensures few { IfOk result (λ o. IfSome o (λ t. at_hand self.new + work.new.left < at_hand self.old + work.old.left)) }
     {
@@ -121,7 +121,7 @@ impl<'a> Expander<'a> {
         requires { self.old.standing ≡ Standing.Going }
         ensures gives { IfOk result (λ o. GivesNext o self.old work.old.left self.new work.new.left) }
         ensures err { IfErr result (λ e. ReportsResult e (to_come self.old work.old.left)) }
-        ensures stands { IsAnswer Standing.Going result self.new.standing }
+        ensures stands { StandsAfterAnswer Standing.Going result self.new.standing }
         ensures spends { work.new.left ≤ work.old.left }
         ensures few { IfOk result (λ o. IfSome o (λ t. at_hand self.new + work.new.left < at_hand self.old + work.old.left)) }
     {
@@ -149,7 +149,7 @@ impl<'a> Expander<'a> {
         requires empty { self.old.ready ≡ [] }
         ensures gives { IfOk result (λ o. GivesNext o self.old work.old.left self.new work.new.left) }
         ensures err { IfErr result (λ e. ReportsResult e (to_come self.old work.old.left)) }
-        ensures stands { IsAnswer Standing.Going result self.new.standing }
+        ensures stands { StandsAfterAnswer Standing.Going result self.new.standing }
         ensures spends { work.new.left ≤ work.old.left }
         ensures few { IfOk result (λ o. IfSome o (λ t. at_hand self.new + work.new.left < at_hand self.old + work.old.left)) }
     {
@@ -274,7 +274,7 @@ pub fn expand(
     mode: Mode,
     work: &mut Work,
 ) -> Result<List<Token>, ExpandError>
-    ensures ok { IfOk result (λ out. Gives (expanded_by (lookup table.now) (place_of here.now) mode 0 work.old.left (map unmarked run.now))
+    ensures ok { IfOk result (λ out. GivesTokens (expanded_by (lookup table.now) (place_of here.now) mode 0 work.old.left (map unmarked run.now))
         out work.new.left) }
     ensures spends { work.new.left ≤ work.old.left }
     ensures err { IfErr result (λ e. ReportsResult e

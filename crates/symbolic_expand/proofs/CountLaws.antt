@@ -4,7 +4,7 @@ use Rattle.std.proofs.lemmas.List.{length-append, length-map}
 use Rattle.std.specs.List.{flat_map, Contains}
 use Rattle.macro_defs.specs.MacroDefinition.{MacroDefinition}
 use Rattle.macro_expand.specs.Asking.{Asking, give, fail, ask_definition, ask_file, ask_line}
-use Rattle.macro_expand.specs.Choice.{HasNoRepeat, Sets, IsDistinct, IsPart, Choice, Run, after_choice, runs_of, complete_runs}
+use Rattle.macro_expand.specs.Choice.{HasNoRepeat, Sets, IsDistinct, AreAmong, Choice, Run, after_choice, runs_of, complete_runs}
 use Rattle.macro_expand.proofs.ChoiceLaws.{contains_first, contains_later}
 
 total : {A : Type 0} → (A → ℕ) → List A → ℕ
@@ -93,7 +93,7 @@ runs_through-more f g (d ∷ ds) (e ∷ es) smaller once within =
     omega (arith, h, t)
 
 -- larger sets, without repeats, have at least as many complete runs
-pub complete_runs-more : {A : Type 0} (sets other : Sets) → IsDistinct sets → IsPart sets other →
+pub complete_runs-more : {A : Type 0} (sets other : Sets) → IsDistinct sets → AreAmong sets other →
     (file : Option (List ℕ)) (t : Asking A) → length (complete_runs sets file t) ≤ length (complete_runs other file t)
 unfolding complete_runs
 complete_runs-more sets other once within file (give x) = omega arith

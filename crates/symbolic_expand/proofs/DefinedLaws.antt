@@ -8,7 +8,7 @@ use Rattle.std.proofs.lemmas.Cmp.{nat_list_eq_equiv}
 use Rattle.std.proofs.lemmas.List.Elements.{Contains-append_left, Contains-append_cases}
 use Rattle.indexmap.specs.IndexMap.{insert_entry}
 use Rattle.macro_defs.specs.MacroDefinition.{MacroDefinition}
-use Rattle.macro_expand.specs.Choice.{HasNoRepeat, IsDistinct, IsPart}
+use Rattle.macro_expand.specs.Choice.{HasNoRepeat, IsDistinct, AreAmong}
 use Rattle.macro_expand.proofs.ChoiceLaws.{contains_first, contains_later}
 use Rattle.symbolic_expand.specs.Defined.{Defined, sets_of, Adds}
 use Rattle.symbolic_expand.specs.parts.Stored.{with_more, seen}
@@ -158,7 +158,7 @@ pub lacks : (ds es : Definitions) (d : MacroDefinition) → ds ≡ es → (IsTru
 lacks ds es d is not_there c = absurd (true≢false (sym (not_there.1 (subst (λ w. Contains w d) (sym is) c))))
 
 -- more definitions
-pub adds_part : (old : Defined) (k : List ℕ) (d : MacroDefinition) (b : Bool) (new : Defined) → Adds old k d b new → IsPart (sets_of old) (sets_of new)
+pub adds_part : (old : Defined) (k : List ℕ) (d : MacroDefinition) (b : Bool) (new : Defined) → Adds old k d b new → AreAmong (sets_of old) (sets_of new)
 adds_part old k d false new (there, is) n e c = subst (λ es. Contains (sets_of es n) e) (sym is) c
 adds_part old k d true new (apart, sets) n e c = subst (λ ds. Contains ds e) (sym (sets n)) (by (bytes_eq k n))
   where

@@ -10,7 +10,7 @@ use Rattle.macro_expand.specs.declared.outcome.Mode.TheVariants.{Text}
 use Rattle.macro_expand.specs.Asking.{Asking}
 use Rattle.macro_expand.specs.Replacement.{unmarked}
 use Rattle.macro_expand.specs.Expansion.{Expanded, expansion}
-use Rattle.macro_expand.specs.Choice.{HasNoRepeat, Sets, IsDistinct, IsPart, Run, RUN_WORK, complete_runs, met_names, computed_runs}
+use Rattle.macro_expand.specs.Choice.{HasNoRepeat, Sets, IsDistinct, AreAmong, Run, RUN_WORK, complete_runs, met_names, computed_runs}
 use Rattle.symbolic_expand.specs.Laws.{SameMembers, SupportDecides}
 use Rattle.symbolic_expand.proofs.MoreLaws.{more_runs}
 use Rattle.symbolic_expand.proofs.CountLaws.{complete_runs-more}
@@ -51,10 +51,10 @@ module _ {A : Type 0} (sets other : Sets) (file : Option (List ℕ)) (t : Asking
       go true = other_once n
       go false = once n
 
-  from_between : IsPart between sets
+  from_between : AreAmong between sets
   from_between n d k = (between-members n d).1 k
 
-  to_between : IsPart sets between
+  to_between : AreAmong sets between
   to_between n d k = (between-members n d).0 k
 
   between-is : (n : List ℕ) → Contains (met_names between file t) n → between n ≡ other n

@@ -3,7 +3,7 @@ use Rattle.std.proofs.Common.{◌≡◌, ℕ, zero, suc, List, [], ◌∷◌, ma
 use Rattle.std.specs.List.{Contains}
 use Rattle.macro_defs.specs.MacroDefinition.{MacroDefinition}
 use Rattle.macro_expand.specs.Asking.{Asking, give, fail, ask_definition, ask_file, ask_line}
-use Rattle.macro_expand.specs.Choice.{Sets, IsPart, Choice, Run, after_choice, runs_of, complete_runs}
+use Rattle.macro_expand.specs.Choice.{Sets, AreAmong, Choice, Run, after_choice, runs_of, complete_runs}
 use Rattle.macro_expand.proofs.ChoiceLaws.{contains_map, contains_first, contains_later, contains_flat_map}
 use Rattle.macro_expand.proofs.RunLaws.{contains_map_from, contains_flat_map_from}
 use Rattle.symbolic_expand.specs.parts.Enumeration.{choices_of}
@@ -60,7 +60,7 @@ more_behind f g (d ∷ ds) es r w each k =
     more_choice f g es r one.0 made.0 each (wider_choice (d ∷ ds) es one.0 w (choice_allowed (d ∷ ds) one.0 one.1)) made.1
     (ap (λ (u : Run _). u.ending) made.2)
 
-pub more_runs : {A : Type 0} (sets other : Sets) (file : Option (List ℕ)) (t : Asking A) (r : Run A) → IsPart sets other →
+pub more_runs : {A : Type 0} (sets other : Sets) (file : Option (List ℕ)) (t : Asking A) (r : Run A) → AreAmong sets other →
     Contains (complete_runs sets file t) r → (s : Run A) × (Contains (complete_runs other file t) s) × (s.ending ≡ r.ending)
 unfolding complete_runs
 more_runs sets other file (give x) r part k = (r, k, refl)

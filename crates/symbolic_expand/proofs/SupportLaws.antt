@@ -4,7 +4,7 @@ use Rattle.std.specs.Prelude.{codes}
 use Rattle.std.specs.List.{flat_map, Contains}
 use Rattle.macro_defs.specs.MacroDefinition.{MacroDefinition}
 use Rattle.macro_expand.specs.Asking.{Asking, give, fail, ask_definition, ask_file, ask_line}
-use Rattle.macro_expand.specs.Choice.{Sets, IsPart, Choice, Run, after_choice, runs_of, complete_runs, met_names}
+use Rattle.macro_expand.specs.Choice.{Sets, AreAmong, Choice, Run, after_choice, runs_of, complete_runs, met_names}
 use Rattle.macro_expand.proofs.ChoiceLaws.{contains_first, contains_later, contains_flat_map}
 use Rattle.macro_expand.proofs.RunLaws.{contains_flat_map_from}
 use Rattle.symbolic_expand.proofs.MoreLaws.{IsAllowed, allowed_choice, choice_allowed}
@@ -94,7 +94,7 @@ in_front x xs ys n h (zero, below, is) = (0, omega arith, is)
 in_front x xs ys n h (suc k, below, is) = contains_later n x ys (h (k, omega arith, is))
 
 -- more definitions never take a met name away
-pub met_names-more : {A : Type 0} (sets other : Sets) (file : Option (List ℕ)) (t : Asking A) (n : List ℕ) → IsPart sets other →
+pub met_names-more : {A : Type 0} (sets other : Sets) (file : Option (List ℕ)) (t : Asking A) (n : List ℕ) → AreAmong sets other →
     Contains (met_names sets file t) n → Contains (met_names other file t) n
 unfolding met_names names_of
 met_names-more sets other file (give x) n part k = k

@@ -3,42 +3,42 @@ use Rattle.std.specs.Prelude.{◌≡◌, ℕ, ◌≤◌, ◌↔◌, List, length
 use Rattle.pp_tokens.specs.declared.Token.{Token}
 use Rattle.macro_defs.specs.MacroDefinition.{MacroDefinition}
 use Rattle.macro_expand.specs.Expansion.{Expanded}
-use Rattle.macro_expand.specs.Choice.{Sets, IsDistinct, IsPart, Run, computed_runs, MayName, HasManyRuns, HasLongRun, HasPresumedRun, Supports}
+use Rattle.macro_expand.specs.Choice.{Sets, IsDistinct, AreAmong, Run, computed_runs, MayName, HasManyRuns, HasLongRun, HasPresumedRun, Supports}
 
 -- More definitions.
 
 -- more definitions never take the end of a run away
 abbrev pub MoreKeepRuns : Type 0
-MoreKeepRuns = (sets other : Sets) (file : Option (List ℕ)) (ts : List Token) (r : Run Expanded) → IsPart sets other →
+MoreKeepRuns = (sets other : Sets) (file : Option (List ℕ)) (ts : List Token) (r : Run Expanded) → AreAmong sets other →
     Contains (computed_runs sets file ts) r →
     (s : Run Expanded) × (Contains (computed_runs other file ts) s) × (s.ending ≡ r.ending)
 
 -- nor a header, however headers are read
 abbrev pub MoreKeepHeaders : Type 0 → Type 0
-MoreKeepHeaders H = (reading : List Token → Option H) (sets other : Sets) (file : Option (List ℕ)) (ts : List Token) (h : H) → IsPart sets other →
+MoreKeepHeaders H = (reading : List Token → Option H) (sets other : Sets) (file : Option (List ℕ)) (ts : List Token) (h : H) → AreAmong sets other →
     MayName reading sets file ts h → MayName reading other file ts h
 
 -- nor a reason for which computed tokens aren't analysed
 abbrev pub MoreKeepLongRuns : Type 0
-MoreKeepLongRuns = (sets other : Sets) (file : Option (List ℕ)) (ts : List Token) → IsPart sets other →
+MoreKeepLongRuns = (sets other : Sets) (file : Option (List ℕ)) (ts : List Token) → AreAmong sets other →
     HasLongRun sets file ts → HasLongRun other file ts
 
 abbrev pub MoreKeepPresumedRuns : Type 0
-MoreKeepPresumedRuns = (sets other : Sets) (file : Option (List ℕ)) (ts : List Token) → IsPart sets other →
+MoreKeepPresumedRuns = (sets other : Sets) (file : Option (List ℕ)) (ts : List Token) → AreAmong sets other →
     HasPresumedRun sets file ts → HasPresumedRun other file ts
 
 abbrev pub MoreKeepManyRuns : Type 0
-MoreKeepManyRuns = (budget : ℕ) (sets other : Sets) (file : Option (List ℕ)) (ts : List Token) → IsDistinct sets → IsPart sets other →
+MoreKeepManyRuns = (budget : ℕ) (sets other : Sets) (file : Option (List ℕ)) (ts : List Token) → IsDistinct sets → AreAmong sets other →
     HasManyRuns budget sets file ts → HasManyRuns budget other file ts
 
 -- nor do they make fewer runs, where each definition stands once
 abbrev pub MoreMakeNoFewer : Type 0
-MoreMakeNoFewer = (sets other : Sets) (file : Option (List ℕ)) (ts : List Token) → IsDistinct sets → IsPart sets other →
+MoreMakeNoFewer = (sets other : Sets) (file : Option (List ℕ)) (ts : List Token) → IsDistinct sets → AreAmong sets other →
     length (computed_runs sets file ts) ≤ length (computed_runs other file ts)
 
 -- nor a name that the answer rests on
 abbrev pub MoreKeepSupport : Type 0
-MoreKeepSupport = (sets other : Sets) (file : Option (List ℕ)) (ts : List Token) (name : List ℕ) → IsPart sets other →
+MoreKeepSupport = (sets other : Sets) (file : Option (List ℕ)) (ts : List Token) (name : List ℕ) → AreAmong sets other →
     Supports sets file ts name → Supports other file ts name
 
 -- Supports.

@@ -32,7 +32,7 @@ impl DefSets {
     ghost use Rattle.std.specs.Prelude.{◌≡◌, ℕ, ◌+◌, List, [], IfOk, OnOk, OnErr};
     ghost use Rattle.std.specs.Option.{option_to_list};
     ghost use Rattle.macro_defs.specs.Table.{lookup};
-    ghost use Rattle.macro_expand.specs.Choice.{IsDistinct, IsPart};
+    ghost use Rattle.macro_expand.specs.Choice.{IsDistinct, AreAmong};
     ghost use Rattle.symbolic_expand.specs.Defined.{Adds, sets_of};
     ghost use Rattle.symbolic_expand.specs.parts.Stored.{HasBefore};
 
@@ -89,7 +89,7 @@ impl DefSets {
     ) -> Result<bool, AllocError>
         ensures ok { IfOk result (λ added. Adds self.old name.now definition.now added self.new) }
         ensures err { OnErr result (self.new ≡ self.old) }
-        ensures grows { IsPart (sets_of self.old) (sets_of self.new) }
+        ensures grows { AreAmong (sets_of self.old) (sets_of self.new) }
     {
         if has(self.get(name), definition) {
             return Ok(false);

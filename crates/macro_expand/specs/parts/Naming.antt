@@ -7,20 +7,20 @@ use Rattle.macro_expand.specs.declared.marked.Role.TheVariants.{Name}
 use Rattle.macro_expand.specs.declared.name.MacroCall.{MacroCall}
 use Rattle.macro_expand.specs.declared.name.ReadName.{ReadName}
 use Rattle.macro_expand.specs.declared.name.ReadName.TheVariants.{Itself, Object, Call}
-use Rattle.macro_expand.specs.Replacement.{Marked, Part, stands_alone}
-use Rattle.macro_expand.specs.Expansion.{Expanded, role_of}
-use Rattle.macro_expand.specs.Answered.{Answerer, Answered, and_then, before, expanded_for, charged_for, arguments_for}
+use Rattle.macro_expand.specs.Replacement.{Marked, BodyPart, stands_alone}
+use Rattle.macro_expand.specs.Expansion.{Expanded, head_role}
+use Rattle.macro_expand.specs.Answered.{Answerer, Answered, answered_and_then, before, expanded_for, charged_for, arguments_for}
 use Rattle.macro_expand.specs.Seen.{marked_of, lists_of, parts_seen, call_replaced_by, Stops}
 
 -- which of so many arguments stand alone somewhere
-abbrev pub StandAlone : List Bool → ℕ → List Part → Type 0
+abbrev pub StandAlone : List Bool → ℕ → List BodyPart → Type 0
 StandAlone alone count parts =
     (length alone ≡ count) × ((i : ℕ) → i < count → get_or alone i false ≡ stands_alone i None parts)
 
 -- what becomes of a call with these arguments and the tokens after it
 unfoldable pub called_for : {S : Type 0} → Answerer S → S → Mode → ℕ → ℕ → Kept → MacroCall → List (List Marked) → List Marked → Answered Expanded S
 called_for w s mode depth units t call written rest =
-    and_then (arguments_for w s mode depth t.token (parts_seen call.parts.items) 0 units written) (λ e u.
+    answered_and_then (arguments_for w s mode depth t.token (parts_seen call.parts.items) 0 units written) (λ e u.
     charged_for w u mode depth e.units
     (call_replaced_by t (parts_seen call.parts.items) call.variable (lists_of call.read.written.items) (marked_of call.read.close) e.lists) rest)
 
@@ -39,11 +39,11 @@ KnowsAlone (Call written call) = StandAlone call.alone.items (length written.ite
 -- a name that isn't hidden and the pending tokens become what was read becomes, with the tokens that are left
 abbrev pub ReadsName : {S : Type 0} → Answerer S → S → Kept → List Kept → ReadName → S → List Kept → Type 0
 ReadsName w s t pending name u rest =
-    (mode : Mode) (depth units : ℕ) → role_of mode (marked_of t) (map marked_of pending) ≡ Name →
+    (mode : Mode) (depth units : ℕ) → head_role mode (marked_of t) (map marked_of pending) ≡ Name →
     expanded_for w s mode depth units (marked_of t ∷ map marked_of pending) ≡ named_for w u mode depth units t name (map marked_of rest)
 
 -- a name that isn't hidden was stopped by this error, in this state
 abbrev pub NameStops : {S : Type 0} → Answerer S → S → Kept → List Kept → RunError → S → Type 0
 NameStops w s t pending e u =
-    (mode : Mode) (depth units : ℕ) → role_of mode (marked_of t) (map marked_of pending) ≡ Name →
+    (mode : Mode) (depth units : ℕ) → head_role mode (marked_of t) (map marked_of pending) ≡ Name →
     Stops e u (expanded_for w s mode depth units (marked_of t ∷ map marked_of pending))

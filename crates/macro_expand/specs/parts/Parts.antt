@@ -2,18 +2,18 @@
 use Rattle.std.specs.Prelude.{◌≡◌, ◌<◌, ℕ, Bool, true, false, ◌||◌, List, length, get_or, Option, Some, None, if◌then◌else◌}
 use Rattle.pp_tokens.specs.declared.Token.{Token}
 use Rattle.pp_tokens.specs.Marks.{Pasting, mark_of, is_hash}
-use Rattle.macro_expand.specs.Replacement.{Part, Plain, Argument, Spelling, Join, is_alone}
+use Rattle.macro_expand.specs.Replacement.{BodyPart, Plain, Argument, Spelling, Join, is_alone}
 
 -- a token that is no join, nor a `#` that begins a spelling
-abbrev pub operand_part : Option Bool → Token → Option ℕ → Part
+abbrev pub operand_part : Option Bool → Token → Option ℕ → BodyPart
 operand_part hash t None = Plain t
 operand_part (Some space) t (Some i) = Spelling i space
 operand_part None t (Some i) = Argument i t.space
 
 -- a token that is no `#`, by the argument that it names (6.10.3.2, 6.10.3.3); `hash` is the space of one that stands right before
-abbrev pub part_of : Option Bool → Token → Option ℕ → Part
-part_of (Some space) t named = operand_part (Some space) t named
-part_of None t named = elim (mark_of t) [ Pasting ↦ Join | _ ↦ operand_part None t named ]
+abbrev pub body_part : Option Bool → Token → Option ℕ → BodyPart
+body_part (Some space) t named = operand_part (Some space) t named
+body_part None t named = elim (mark_of t) [ Pasting ↦ Join | _ ↦ operand_part None t named ]
 
 -- whether a token is a `#` that no other stands right before (6.10.3.2)
 abbrev pub begins_spelling : Option Bool → Token → Bool
@@ -21,18 +21,18 @@ begins_spelling None t = is_hash t
 begins_spelling (Some space) t = false
 
 -- a token of an object-like macro's list, where only `##` is special (6.10.3.3)
-abbrev pub object_part : Token → Part
+abbrev pub object_part : Token → BodyPart
 object_part t = elim (mark_of t) [ Pasting ↦ Join | _ ↦ Plain t ]
 
 -- the arguments that are known to stand alone, with one more: the argument that this part is, beside no `##` (6.10.3.1)
-abbrev pub Marks : List Bool → List Bool → Bool → Part → List Part → Type 0
+abbrev pub Marks : List Bool → List Bool → Bool → BodyPart → List BodyPart → Type 0
 Marks old new joined p right =
     (length new ≡ length old)
     × ((i : ℕ) → i < length old →
     get_or new i false ≡ (get_or old i false || is_alone i (if joined then Some Join else None) p right))
 
 -- whether a part takes an argument as it is written, or may do so to the part beside it (6.10.3.2, 6.10.3.3)
-abbrev pub takes_written : Part → Bool
+abbrev pub takes_written : BodyPart → Bool
 takes_written (Plain t) = false
 takes_written (Argument i space) = false
 takes_written (Spelling i space) = true

@@ -9,10 +9,10 @@ abbrev pub placed : ℕ → Names → Marked → Marked
 placed line hidden m = record { token = record m.token { line = line }; hidden = all_names m.hidden hidden }
 
 -- a hide set has the names of two others
-abbrev pub IsUnion : List (List ℕ) → List (List ℕ) → List (List ℕ) → Type 0
-IsUnion all own hidden = (n : List ℕ) → names_in all n ≡ (names_in own n || names_in hidden n)
+abbrev pub HasNamesOfBoth : List (List ℕ) → List (List ℕ) → List (List ℕ) → Type 0
+HasNamesOfBoth all own hidden = (n : List ℕ) → names_in all n ≡ (names_in own n || names_in hidden n)
 
 -- what is kept of the last token's names is right
 abbrev pub KnowsUnion : List (List ℕ) → Option United → Type 0
 KnowsUnion hidden None = Unit {0}
-KnowsUnion hidden (Some u) = IsUnion u.all u.own hidden
+KnowsUnion hidden (Some u) = HasNamesOfBoth u.all u.own hidden

@@ -3,7 +3,7 @@ use Rattle.std.specs.Prelude.{ℕ, zero, suc, ◌-◌, Bool, false, ◌&&◌, Li
 use Rattle.std.specs.declared.alloc.Global.{Global}
 use Rattle.pp_tokens.specs.declared.Token.{Token}
 use Rattle.pp_tokens.specs.Marks.{is_identifier, is_open, is_close, is_comma, Opening, Closing, mark_of}
-use Rattle.macro_expand.specs.Replacement.{Marked, Call, call_with, argument_with, cut_at_commas}
+use Rattle.macro_expand.specs.Replacement.{Marked, Call, call_with, argument_with, cut_at_outer_commas}
 use Rattle.macro_expand.specs.declared.marked.Marked.{Marked as Kept}
 use Rattle.macro_expand.specs.declared.call.Within.{Within}
 use Rattle.macro_expand.specs.declared.call.Cutting.{Cutting}
@@ -43,9 +43,9 @@ call_read None after = None
 call_read (Some w) after = Some (record { within = map marked_of w.tokens.items; close = marked_of w.close; after = after })
 
 -- the arguments that code keeps, where their number is right
-abbrev pub arguments_seen : Option (Vec (Vec Kept Global) Global) → Option (List (List Marked))
-arguments_seen None = None
-arguments_seen (Some written) = Some (lists_of written.items)
+abbrev pub read_arguments : Option (Vec (Vec Kept Global) Global) → Option (List (List Marked))
+read_arguments None = None
+read_arguments (Some written) = Some (lists_of written.items)
 
 -- whether a token is a comma to cut at, where so many cuts are left (6.10.3 p11)
 abbrev pub is_cut : ℕ → ℕ → Token → Bool
@@ -53,4 +53,4 @@ is_cut cuts nesting t = nat_lt 0 cuts && (nesting == 0) && is_comma t
 
 -- the pieces that are whole, and what the growing piece and these tokens are cut into
 abbrev pub cut_from : Cutting → List Marked → List (List Marked)
-cut_from c ts = lists_of c.pieces.items ++ arguments_with (map marked_of c.piece.items) (cut_at_commas c.cuts c.nesting ts)
+cut_from c ts = lists_of c.pieces.items ++ arguments_with (map marked_of c.piece.items) (cut_at_outer_commas c.cuts c.nesting ts)

@@ -16,14 +16,14 @@ pub data Tree : Type 0 where
   Branch : List ℕ → ℕ → Tree → Tree → Tree
 
 -- the trie that code keeps
-abbrev pub tree_of : Trie → Tree
-tree_of Empty = Tip
-tree_of (Fork' p name hash zero_side one_side) = Branch name.value hash (tree_of zero_side) (tree_of one_side)
+abbrev pub trie_of : Trie → Tree
+trie_of Empty = Tip
+trie_of (Fork' p name hash zero_side one_side) = Branch name.value hash (trie_of zero_side) (trie_of one_side)
 
 -- the names in a trie
-abbrev pub names_of : Tree → List (List ℕ)
-names_of Tip = []
-names_of (Branch name hash z o) = name ∷ names_of z ++ names_of o
+abbrev pub trie_names : Tree → List (List ℕ)
+trie_names Tip = []
+trie_names (Branch name hash z o) = name ∷ trie_names z ++ trie_names o
 
 -- whether every name has this as the last bit of its key
 abbrev pub have_bit : (List ℕ → ℕ) → ℕ → List (List ℕ) → Bool
@@ -35,10 +35,10 @@ abbrev pub next_key : (List ℕ → ℕ) → List ℕ → ℕ
 next_key key name = key name / 2
 
 -- whether every name stands on the side that the bits of its key say
-abbrev pub placed : (List ℕ → ℕ) → Tree → Bool
-placed key Tip = true
-placed key (Branch name hash z o) =
-    (have_bit key 0 (names_of z) && placed (next_key key) z) && (have_bit key 1 (names_of o) && placed (next_key key) o)
+abbrev pub stand_by_keys : (List ℕ → ℕ) → Tree → Bool
+stand_by_keys key Tip = true
+stand_by_keys key (Branch name hash z o) =
+    (have_bit key 0 (trie_names z) && stand_by_keys (next_key key) z) && (have_bit key 1 (trie_names o) && stand_by_keys (next_key key) o)
 
 -- whether every name stands with its hash
 abbrev pub hashed : Tree → Bool
@@ -47,7 +47,7 @@ hashed (Branch name hash z o) = (hash == name_hash name) && (hashed z && hashed 
 
 -- a trie where every name is met on the way that its hash says
 pub record IsOrdered (t : Tree) : Type 0 where
-  pub at_bits : placed name_hash t ≡ true
+  pub at_bits : stand_by_keys name_hash t ≡ true
   pub with_hash : hashed t ≡ true
 
 -- whether two names with their hashes are the same

@@ -1,7 +1,7 @@
 use Rattle.std.proofs.Common.{ℕ, List, map, ap, sym, ◌∙◌, refl}
 use Rattle.std.proofs.lemmas.Result.{err_from_is_err_and}
 use Rattle.macro_defs.specs.Arguments.{parameters_in}
-use Rattle.macro_expand.specs.Replacement.{parts_of}
+use Rattle.macro_expand.specs.Replacement.{body_parts}
 use Rattle.macro_expand.specs.Expansion.{variable_of}
 use Rattle.macro_expand.specs.Seen.{marked_of, lists_of, parts_seen}
 use Rattle.macro_expand.proofs.NameLaws.{head_undefined, head_object, head_object_error, head_not_called, head_refused, head_called, stand_alone-same}
@@ -43,7 +43,7 @@ returns-in_ok-written-in-Function-clause-ok g c =
     (map marked_of c.take_open.new.self) (c.if-not-take_open.ensures.opened refl) (lists_of c.in_ok-read-in-Function.read.written.items) c.in_ok-read-in-Function.read.close
     (map marked_of c.read_call.new.pending) (rw c.as_slice-names.ensures at c.in_ok-read-in-Function.ensures.ok)
     c.in_ok-written-in-Function.call (lists_of c.in_ok-written-in-Function.written.items) made.written
-    (made.parts ∙ ap (λ s. parts_of (parameters_in s) c.in-Some.d.now.body) (sym c.shape.ensures ∙ c.in-Function.is))
+    (made.parts ∙ ap (λ s. body_parts (parameters_in s) c.in-Some.d.now.body) (sym c.shape.ensures ∙ c.in-Function.is))
     (made.variable ∙ ap (λ (ps : List (List ℕ)). variable_of ps c.in-Function.variadic) c.as_slice-names.ensures) made.close made.kept
 
 pub returns-in_ok-written-in-Function-clause-alone : goal.returns-in_ok-written-in-Function-clause-alone

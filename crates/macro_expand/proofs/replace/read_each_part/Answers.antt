@@ -4,7 +4,7 @@ use Rattle.pp_tokens.specs.declared.Token.{Token}
 use Rattle.macro_defs.specs.MacroDefinition.{without_line}
 use Rattle.macro_defs.specs.Arguments.{argument_named, parameters_in}
 use Rattle.macro_expand.specs.Replacement.{parts_after}
-use Rattle.macro_expand.specs.parts.Parts.{part_of}
+use Rattle.macro_expand.specs.parts.Parts.{body_part}
 use Rattle.macro_expand.specs.Seen.{parts_seen}
 use Rattle.macro_expand.proofs.PartLemmas.{named-at, read-hash, read-part, read-done}
 use Rattle.macro_expand.proofs.replace.read_each_part.Goals as goal
@@ -23,7 +23,7 @@ loop-place-preserved c =
           c.loop-place.hash c.loop-place.parts.items (parts_after None names (map without_line c.body-body.result.now)) c.loop-place.invariant
           w.part_at.result w.push.new.self.items
           (sym c.begins_spelling.ensures ∙ w.if-begins_spelling.false)
-          (w.part_at.ensures ∙ ap (part_of c.loop-place.hash (without_line c.index-body-place.result))
+          (w.part_at.ensures ∙ ap (body_part c.loop-place.hash (without_line c.index-body-place.result))
           (w.parameter_at.ensures ∙ ap (λ (ts : List Token). option_and_then (argument_named names) (slice_get ts c.loop-place.place)) (sym c.body-body.ensures)
           ∙ named-at names c.body-body.result.now c.loop-place.place c.index-body-place.result c.loop-place-test.true c.index-body-place.is))
           w.in_ok-push.ensures.items)
