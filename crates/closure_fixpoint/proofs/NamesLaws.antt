@@ -11,7 +11,7 @@ use Rattle.directive_scan.specs.HeaderNames.{header_named}
 use Rattle.macro_defs.specs.MacroDefinition.{MacroDefinition}
 use Rattle.macro_defs.specs.Defining.{Named}
 use Rattle.macro_expand.specs.Choice.{Sets, IsDistinct, AreAmong, Supports, HasManyRuns}
-use Rattle.symbolic_expand.specs.Defined.{Defined, Adds}
+use Rattle.symbolic_expand.specs.Defined.{Defined, AddsDefinition}
 use Rattle.symbolic_expand.specs.Defined as kept
 use Rattle.symbolic_expand.specs.Laws.{SupportDecides, SameAnswers, SameMembers}
 use Rattle.symbolic_expand.specs.Found.{NothingRefuses}
@@ -80,7 +80,7 @@ grew_both old mid new first second a b = record {
     right : (name : Text) → Member name b.more → Member name (a.more ++ b.more)
     right name m = drop_right zero a.more b.more name (omega arith) m
 
-pub grew_old : (old new : Grown) (name : Text) (d : MacroDefinition) → Adds old.sets name d false new.sets → AreAmong (kept.sets_of old.sets) (kept.sets_of new.sets) → new.log.items ≡ old.log.items
+pub grew_old : (old new : Grown) (name : Text) (d : MacroDefinition) → AddsDefinition old.sets name d false new.sets → AreAmong (kept.sets_of old.sets) (kept.sets_of new.sets) → new.log.items ≡ old.log.items
     → Grew old (named name d ∷ []) new
 grew_old old new name d adds part log = record {
   sets = just_more old.sets name d false new.sets adds part;
@@ -89,7 +89,7 @@ grew_old old new name d adds part log = record {
   same = λ n other. ap (λ (s : Defined). kept.sets_of s n) adds.1;
 }
 
-pub grew_new : (old new : Grown) (name : Text) (d : MacroDefinition) → Adds old.sets name d true new.sets → AreAmong (kept.sets_of old.sets) (kept.sets_of new.sets) → new.log.items ≡ old.log.items ++ name ∷ []
+pub grew_new : (old new : Grown) (name : Text) (d : MacroDefinition) → AddsDefinition old.sets name d true new.sets → AreAmong (kept.sets_of old.sets) (kept.sets_of new.sets) → new.log.items ≡ old.log.items ++ name ∷ []
     → Grew old (named name d ∷ []) new
 grew_new old new name d adds part log = record {
   sets = just_more old.sets name d true new.sets adds part;

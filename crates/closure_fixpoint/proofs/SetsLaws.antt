@@ -12,7 +12,7 @@ use Rattle.macro_defs.specs.MacroDefinition.{MacroDefinition}
 use Rattle.macro_defs.specs.Defining.{Named, are_distinct}
 use Rattle.macro_defs.specs.Table.{TableEntries, names_ever_defined, lookup, initial_entries}
 use Rattle.macro_expand.specs.Choice.{AreAmong}
-use Rattle.symbolic_expand.specs.Defined.{Defined, Adds}
+use Rattle.symbolic_expand.specs.Defined.{Defined, AddsDefinition}
 use Rattle.symbolic_expand.specs.Defined as kept
 use Rattle.tree_model.specs.Paths.{Text}
 use Rattle.tree_model.proofs.MemberLemmas.{Member-append_left, Member-append_right, Member-append, Member-filter_map, Member-map, list_any-true}
@@ -56,14 +56,14 @@ of_sets definitions name d c =
 
 -- ONE DEFINITION MORE
 
-has_now : (old : Defined) (name : Text) (d : MacroDefinition) (b : Bool) (new : Defined) → Adds old name d b new → Contains (kept.sets_of new name) d
+has_now : (old : Defined) (name : Text) (d : MacroDefinition) (b : Bool) (new : Defined) → AddsDefinition old name d b new → Contains (kept.sets_of new name) d
 has_now old name d false new (there, is) = subst (λ (s : Defined). Contains (kept.sets_of s name) d) (sym is) there
 has_now old name d true new (apart, sets) =
     subst (λ (ds : List MacroDefinition). Contains ds d)
     (sym (sets name ∙ ap (λ (b : Bool). if b then kept.sets_of old name ++ d ∷ [] else kept.sets_of old name) ((bytes_decides name name).1 refl)))
     (Contains-append_right (kept.sets_of old name) (d ∷ []) d (Contains-from_Member d (d ∷ []) (inl refl)))
 
-one_more : (old : Defined) (name : Text) (d : MacroDefinition) (b : Bool) (new : Defined) → Adds old name d b new → (n : Text) (e : MacroDefinition)
+one_more : (old : Defined) (name : Text) (d : MacroDefinition) (b : Bool) (new : Defined) → AddsDefinition old name d b new → (n : Text) (e : MacroDefinition)
     → Contains (kept.sets_of new n) e → Contains (kept.sets_of old n) e ⊎ ((name ≡ n) × (d ≡ e))
 one_more old name d false new (there, is) n e c = inl (subst (λ (s : Defined). Contains (kept.sets_of s n) e) is c)
 one_more old name d true new (apart, sets) n e c = go (bytes_eq name n) refl (subst (λ (ds : List MacroDefinition). Contains ds e) (sets n) c)
@@ -76,7 +76,7 @@ one_more old name d true new (apart, sets) n e c = go (bytes_eq name n) refl (su
     go false other k = inl k
     go true same k = last ((bytes_decides name n).0 same) (Contains-append_cases (kept.sets_of old n) (d ∷ []) e k)
 
-pub just_more : (old : Defined) (name : Text) (d : MacroDefinition) (b : Bool) (new : Defined) → Adds old name d b new → AreAmong (kept.sets_of old) (kept.sets_of new)
+pub just_more : (old : Defined) (name : Text) (d : MacroDefinition) (b : Bool) (new : Defined) → AddsDefinition old name d b new → AreAmong (kept.sets_of old) (kept.sets_of new)
     → (before : List Named) → HasJust old before → HasJust new (before ++ named name d ∷ [])
 just_more old name d b new adds part before just n e = (to, from)
   where
@@ -97,7 +97,7 @@ just_more old name d b new adds part before just n e = (to, from)
         go (inr (inr never)) = absurd never
 
 -- names that an addition leaves alone
-pub others_same : (old : Defined) (name : Text) (d : MacroDefinition) (new : Defined) → Adds old name d true new → (n : Text) → (name ≡ n → ⊥) → kept.sets_of new n ≡ kept.sets_of old n
+pub others_same : (old : Defined) (name : Text) (d : MacroDefinition) (new : Defined) → AddsDefinition old name d true new → (n : Text) → (name ≡ n → ⊥) → kept.sets_of new n ≡ kept.sets_of old n
 others_same old name d new (apart, sets) n other = sets n ∙ go (bytes_eq name n) refl
   where
     go : (b : Bool) → bytes_eq name n ≡ b → (if b then kept.sets_of old n ++ d ∷ [] else kept.sets_of old n) ≡ kept.sets_of old n
@@ -187,11 +187,11 @@ word_none sets word name is before just =
     subst (λ (w : MacroWord). HasJust sets (before ++ option_to_list (word_definition w))) (sym is) (subst (HasJust sets) (sym (append-nil before)) just)
 
 -- a word that defines
-pub word_some : (old new : Defined) (word : MacroWord) (name said : Text) (d : MacroDefinition) (b : Bool) → word ≡ words.Define name d → said ≡ name → Adds old said d b new → AreAmong (kept.sets_of old) (kept.sets_of new)
+pub word_some : (old new : Defined) (word : MacroWord) (name said : Text) (d : MacroDefinition) (b : Bool) → word ≡ words.Define name d → said ≡ name → AddsDefinition old said d b new → AreAmong (kept.sets_of old) (kept.sets_of new)
     → (before : List Named) → HasJust old before → HasJust new (before ++ option_to_list (word_definition word))
 word_some old new word name said d b is same adds part before just =
     subst (λ (w : MacroWord). HasJust new (before ++ option_to_list (word_definition w))) (sym is)
-    (just_more old name d b new (subst (λ (n : Text). Adds old n d b new) same adds) part before just)
+    (just_more old name d b new (subst (λ (n : Text). AddsDefinition old n d b new) same adds) part before just)
 
 -- one word more of some
 pub words_more : (start : List Named) (old new : Defined) (ws : List MacroWord) (i : ℕ) (w : MacroWord) → i < length ws → w ≡ get_or ws i w → HasJust old (start ++ filter_map word_definition (take i ws))

@@ -10,7 +10,7 @@ use Rattle.indexmap.specs.IndexMap.{insert_entry}
 use Rattle.macro_defs.specs.MacroDefinition.{MacroDefinition}
 use Rattle.macro_expand.specs.Choice.{HasNoRepeat, IsDistinct, AreAmong}
 use Rattle.macro_expand.proofs.ChoiceLaws.{contains_first, contains_later}
-use Rattle.symbolic_expand.specs.Defined.{Defined, sets_of, Adds}
+use Rattle.symbolic_expand.specs.Defined.{Defined, sets_of, AddsDefinition}
 use Rattle.symbolic_expand.specs.parts.Stored.{with_more, seen}
 use Rattle.symbolic_expand.proofs.Elements.{contains_tail, contains_none}
 
@@ -150,7 +150,7 @@ more_distinct es k d distinct apart n =
     by false other = distinct n
 
 pub more_adds : (es : Defined) (k : List ℕ) (d : MacroDefinition) (new : Defined) → (Contains (sets_of es k) d → ⊥) → new ≡ with_more es k d →
-    Adds es k d true new
+    AddsDefinition es k d true new
 more_adds es k d new apart is = (apart, λ n. ap (λ w. sets_of w n) is ∙ more_sets es k d n)
 
 -- a definition that isn't found
@@ -158,7 +158,7 @@ pub lacks : (ds es : Definitions) (d : MacroDefinition) → ds ≡ es → (IsTru
 lacks ds es d is not_there c = absurd (true≢false (sym (not_there.1 (subst (λ w. Contains w d) (sym is) c))))
 
 -- more definitions
-pub adds_part : (old : Defined) (k : List ℕ) (d : MacroDefinition) (b : Bool) (new : Defined) → Adds old k d b new → AreAmong (sets_of old) (sets_of new)
+pub adds_part : (old : Defined) (k : List ℕ) (d : MacroDefinition) (b : Bool) (new : Defined) → AddsDefinition old k d b new → AreAmong (sets_of old) (sets_of new)
 adds_part old k d false new (there, is) n e c = subst (λ es. Contains (sets_of es n) e) (sym is) c
 adds_part old k d true new (apart, sets) n e c = subst (λ ds. Contains ds e) (sym (sets n)) (by (bytes_eq k n))
   where

@@ -7,7 +7,7 @@ use Rattle.std.proofs.lemmas.List.{length-map}
 use Rattle.macro_defs.specs.MacroDefinition.{MacroDefinition}
 use Rattle.macro_expand.specs.Asking.{Asking, give, fail, ask_definition, ask_file, ask_line}
 use Rattle.macro_expand.specs.Choice.{Sets, Choice}
-use Rattle.symbolic_expand.specs.parts.Enumeration.{Visit, meets, choices_of, choice_at, visits_of, visits, Numbered, raised, next_numbers, At, run_at, From, visits_from, rest_of}
+use Rattle.symbolic_expand.specs.parts.Enumeration.{Visit, meets, choices_of, choice_at, visits_of, visits, Numbered, raised_number, next_numbers, At, run_at, From, visits_from, results_of}
 
 from_nil : {A : Type 0} (f : Choice → List ℕ → List (Visit A)) (all : Choice → List (Visit A)) (ds : List MacroDefinition) →
     ((c : Choice) → f c [] ≡ all c) → From f all ds [] ≡ visits_of all ds
@@ -33,18 +33,18 @@ drop_choice (suc k) (c ∷ cs) h = drop_choice k cs (omega arith)
 
 -- a first run and those of the next list, where each meets one name more
 map_rest : {X Y : Type 0} (g : X → Y) (x : X) (f : List ℕ → List X) (o : Option (List ℕ)) →
-    map g (x ∷ rest_of f o) ≡ g x ∷ rest_of (λ q. map g (f q)) o
+    map g (x ∷ results_of f o) ≡ g x ∷ results_of (λ q. map g (f q)) o
 map_rest g x f None = refl
 map_rest g x f (Some q) = refl
 
 -- One name, over what follows each choice: the runs from a list on, the run of a list, all runs.
 module _ {A : Type 0} (f : Choice → List ℕ → List (Visit A)) (r : Choice → List ℕ → Numbered A) (all : Choice → List (Visit A)) where
   module _ (start : (c : Choice) → f c [] ≡ all c)
-      (step : (c : Choice) (ks : List ℕ) → f c ks ≡ (r c ks).visit ∷ rest_of (f c) (next_numbers (r c ks).numbers)) where
+      (step : (c : Choice) (ks : List ℕ) → f c ks ≡ (r c ks).visit ∷ results_of (f c) (next_numbers (r c ks).numbers)) where
     -- the runs after the last of one choice
     others : (d : MacroDefinition) (ds : List MacroDefinition) (k : ℕ) (b : Bool) → nat_lt (suc k) (suc (suc (length ds))) ≡ b →
         flat_map all (drop (suc k) (choices_of (d ∷ ds)))
-        ≡ rest_of (From f all (d ∷ ds)) (elim b [ true ↦ Some (suc k ∷ []) | false ↦ None ])
+        ≡ results_of (From f all (d ∷ ds)) (elim b [ true ↦ Some (suc k ∷ []) | false ↦ None ])
     others d ds k true e =
         let below : suc k < suc (suc (length ds)) = ltb-true _ _ e in
         let inside : suc k < length (choices_of (d ∷ ds)) = omega (arith, length-map ds (λ (x : MacroDefinition). Some x)) in
@@ -57,14 +57,14 @@ module _ {A : Type 0} (f : Choice → List ℕ → List (Visit A)) (r : Choice �
         ap (flat_map all) (drop_of_length-le (choices_of (d ∷ ds)) outside)
 
     one_choice : (d : MacroDefinition) (ds : List MacroDefinition) (k : ℕ) (x : Visit A) (o : Option (List ℕ)) →
-        (x ∷ rest_of (f (choice_at (choices_of (d ∷ ds)) k)) o)
+        (x ∷ results_of (f (choice_at (choices_of (d ∷ ds)) k)) o)
         ++ flat_map all (drop (suc k) (choices_of (d ∷ ds)))
-        ≡ x ∷ rest_of (From f all (d ∷ ds)) (raised k (suc (suc (length ds))) o)
+        ≡ x ∷ results_of (From f all (d ∷ ds)) (raised_number k (suc (suc (length ds))) o)
     one_choice d ds k x (Some q) = refl
     one_choice d ds k x None =
         ap (λ w. x ∷ w) (others d ds k (nat_lt (suc k) (suc (suc (length ds)))) refl)
 
-    at_name : (ds : List MacroDefinition) (ks : List ℕ) → From f all ds ks ≡ (At r ds ks).visit ∷ rest_of (From f all ds) (next_numbers (At r ds ks).numbers)
+    at_name : (ds : List MacroDefinition) (ks : List ℕ) → From f all ds ks ≡ (At r ds ks).visit ∷ results_of (From f all ds) (next_numbers (At r ds ks).numbers)
     unfolding next_numbers
     at_name [] ks = step None ks
     at_name (d ∷ ds) (k ∷ q) =
@@ -78,7 +78,7 @@ module _ {A : Type 0} (f : Choice → List ℕ → List (Visit A)) (r : Choice �
 -- The runs from a list on are its own run and the runs from the next list on.
 pub visits_from-step : {A : Type 0} (sets : Sets) (file : Option (List ℕ)) (t : Asking A) (ks : List ℕ) →
     visits_from sets file t ks
-    ≡ (run_at sets file t ks).visit ∷ rest_of (visits_from sets file t) (next_numbers (run_at sets file t ks).numbers)
+    ≡ (run_at sets file t ks).visit ∷ results_of (visits_from sets file t) (next_numbers (run_at sets file t ks).numbers)
 unfolding visits_from run_at next_numbers
 visits_from-step sets file (give x) ks = refl
 visits_from-step sets file (fail e) ks = refl

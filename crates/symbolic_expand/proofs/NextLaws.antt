@@ -1,7 +1,7 @@
 -- The next list of numbers, from the end.
 use Rattle.std.proofs.Common.{◌≡◌, ℕ, suc, ◌<◌, ◌≤◌, ◌+◌, Bool, true, false, List, [], ◌∷◌, ◌++◌, map, refl, ap, ◌∙◌, Option, Some, None, arith, nat_lt}
 use Rattle.std.proofs.lemmas.Bool.{le-ltb, lt-ltb}
-use Rattle.symbolic_expand.specs.parts.Enumeration.{raised, next_numbers}
+use Rattle.symbolic_expand.specs.parts.Enumeration.{raised_number, next_numbers}
 
 -- the numbers alone
 abbrev pub numbers_of : List (ℕ × ℕ) → List ℕ
@@ -11,10 +11,10 @@ last_raised : List (ℕ × ℕ) → ℕ × ℕ → Bool → Option (List ℕ)
 last_raised ns n true = Some (numbers_of ns ++ suc n.0 ∷ [])
 last_raised ns n false = next_numbers ns
 
-raised-last : (m n : ℕ × ℕ) (ns : List (ℕ × ℕ)) (b : Bool) → raised m.0 m.1 (last_raised ns n b) ≡ last_raised (m ∷ ns) n b
+raised_number-last : (m n : ℕ × ℕ) (ns : List (ℕ × ℕ)) (b : Bool) → raised_number m.0 m.1 (last_raised ns n b) ≡ last_raised (m ∷ ns) n b
 unfolding last_raised next_numbers
-raised-last m n ns true = refl
-raised-last m n ns false = refl
+raised_number-last m n ns true = refl
+raised_number-last m n ns false = refl
 
 next-last : (ns : List (ℕ × ℕ)) (n : ℕ × ℕ) → next_numbers (ns ++ n ∷ []) ≡ last_raised ns n (nat_lt (suc n.0) n.1)
 unfolding next_numbers last_raised
@@ -23,7 +23,7 @@ next-last [] n = go (nat_lt (suc n.0) n.1)
     go : (b : Bool) → (elim b [ true ↦ Some (suc n.0 ∷ []) | false ↦ None ]) ≡ last_raised [] n b
     go true = refl
     go false = refl
-next-last (m ∷ ns) n = ap (raised m.0 m.1) (next-last ns n) ∙ raised-last m n ns (nat_lt (suc n.0) n.1)
+next-last (m ∷ ns) n = ap (raised_number m.0 m.1) (next-last ns n) ∙ raised_number-last m n ns (nat_lt (suc n.0) n.1)
 
 -- the last number rises
 pub next_is : (whole : List (ℕ × ℕ)) (before ns : List (ℕ × ℕ)) (n : ℕ × ℕ) → next_numbers whole ≡ next_numbers before → before ≡ ns ++ n ∷ [] → n.0 + 1 < n.1 →

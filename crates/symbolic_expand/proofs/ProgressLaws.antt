@@ -14,8 +14,8 @@ use Rattle.macro_expand.proofs.ChoiceLaws.{contains_first}
 use Rattle.symbolic_expand.specs.declared.outcome.SymError.{SymError}
 use Rattle.symbolic_expand.specs.declared.outcome.SymError.TheVariants.{Budget, Long, Presumed as PresumedNames, Memory}
 use Rattle.symbolic_expand.specs.Texts.{all_inserted}
-use Rattle.symbolic_expand.specs.parts.Enumeration.{Visit, visits, run_at, visits_from, rest_of, next_numbers}
-use Rattle.symbolic_expand.specs.Found.{Refuses}
+use Rattle.symbolic_expand.specs.parts.Enumeration.{Visit, visits, run_at, visits_from, results_of, next_numbers}
+use Rattle.symbolic_expand.specs.Found.{RefusalHolds}
 use Rattle.symbolic_expand.specs.parts.Search.{computed, EndsWith, RefusesRun, FoundAll, with_header, header_at}
 use Rattle.symbolic_expand.proofs.Elements.{contains_tail, contains_none}
 use Rattle.symbolic_expand.proofs.EnumerationLaws.{visits_from-nil, visits_from-step}
@@ -50,7 +50,7 @@ module _ (sets : Sets) (file : Option (List ℕ)) (ts : List Token) (ks : List �
   This = (run_at sets file (computed ts) ks).visit
 
   -- this run is one of all
-  this_split : so_far.done ++ This ∷ rest_of (visits_from sets file (computed ts)) (next_numbers (run_at sets file (computed ts) ks).numbers)
+  this_split : so_far.done ++ This ∷ results_of (visits_from sets file (computed ts)) (next_numbers (run_at sets file (computed ts) ks).numbers)
       ≡ visits sets file (computed ts)
   unfolding This
   this_split = ap (λ w. so_far.done ++ w) (sym (visits_from-step sets file (computed ts) ks)) ∙ so_far.split
@@ -61,7 +61,7 @@ module _ (sets : Sets) (file : Option (List ℕ)) (ts : List Token) (ks : List �
   this_run : (e : Ending Expanded) → This.ending ≡ e → (r : Run Expanded) × (Contains (complete_runs sets file (computed ts)) r) × (r.ending ≡ e)
   this_run e is = let r = run_of_visit sets file (computed ts) This this_visit in (r.0, r.1, r.2 ∙ is)
 
-  pub run_refuses : (budget : ℕ) (e : SymError) → RefusesRun e (run_at sets file (computed ts) ks) → Refuses e budget sets file ts
+  pub run_refuses : (budget : ℕ) (e : SymError) → RefusesRun e (run_at sets file (computed ts) ks) → RefusalHolds e budget sets file ts
   unfolding This
   run_refuses budget Budget h = absurd h
   run_refuses budget Long h = this_run (Failed Work) h
@@ -71,9 +71,9 @@ module _ (sets : Sets) (file : Option (List ℕ)) (ts : List Token) (ks : List �
   -- no more runs than counted would be too few
   pub budget_passed : (budget : ℕ) → budget ≤ count → HasManyRuns budget sets file ts
   budget_passed budget h =
-      let e : length so_far.done + suc (length (rest_of (visits_from sets file (computed ts)) (next_numbers (run_at sets file (computed ts) ks).numbers)))
+      let e : length so_far.done + suc (length (results_of (visits_from sets file (computed ts)) (next_numbers (run_at sets file (computed ts) ks).numbers)))
       ≡ length (visits sets file (computed ts))
-      = sym (length-append so_far.done (This ∷ rest_of (visits_from sets file (computed ts)) (next_numbers (run_at sets file (computed ts) ks).numbers))) ∙ ap length this_split in
+      = sym (length-append so_far.done (This ∷ results_of (visits_from sets file (computed ts)) (next_numbers (run_at sets file (computed ts) ks).numbers))) ∙ ap length this_split in
       omega (arith, e, visits-count sets file (computed ts), so_far.counted, h)
 
   module _ (h : Option HeaderName) (taken : List (ℕ × ℕ)) (met' : List (List ℕ)) (ends : EndsWith (run_at sets file (computed ts) ks) h taken met met')
@@ -106,7 +106,7 @@ module _ (sets : Sets) (file : Option (List ℕ)) (ts : List Token) (ks : List �
     progress_next q count' counts next = record {
       done = so_far.done ++ This ∷ [];
       split = append_assoc so_far.done (This ∷ []) _
-          ∙ ap (λ o. so_far.done ++ This ∷ rest_of (visits_from sets file (computed ts)) o) (sym (ap next_numbers ends.took ∙ next)) ∙ this_split;
+          ∙ ap (λ o. so_far.done ++ This ∷ results_of (visits_from sets file (computed ts)) o) (sym (ap next_numbers ends.took ∙ next)) ∙ this_split;
       counted = length-append so_far.done (This ∷ []) ∙ omega (arith, so_far.counted, counts);
       quoted_is = one_more false quoted quoted' so_far.quoted_is put_quoted;
       angled_is = one_more true angled angled' so_far.angled_is put_angled;
@@ -117,7 +117,7 @@ module _ (sets : Sets) (file : Option (List ℕ)) (ts : List Token) (ks : List �
     module _ (budget : ℕ) (count' : ℕ) (counts : count' ≡ count + 1) (within : count' ≤ budget) (ended : next_numbers taken ≡ None) where
       all_done : so_far.done ++ This ∷ [] ≡ visits sets file (computed ts)
       unfolding This
-      all_done = ap (λ o. so_far.done ++ This ∷ rest_of (visits_from sets file (computed ts)) o) (sym (ap next_numbers ends.took ∙ ended)) ∙ this_split
+      all_done = ap (λ o. so_far.done ++ This ∷ results_of (visits_from sets file (computed ts)) o) (sym (ap next_numbers ends.took ∙ ended)) ∙ this_split
 
       in_all : (angle : Bool) (n : List ℕ) → Names angle (so_far.done ++ This ∷ []) n → MayName header_named sets file ts (header_at angle n)
       in_all angle n (v, c, e) =

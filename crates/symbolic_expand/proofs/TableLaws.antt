@@ -11,7 +11,7 @@ use Rattle.std.proofs.Math.Bool.{or-false, or-true}
 use Rattle.macro_defs.specs.MacroDefinition.{MacroDefinition}
 use Rattle.macro_defs.specs.Table.{TableEntries, names_ever_defined, lookup}
 use Rattle.macro_expand.proofs.ChoiceLaws.{contains_first}
-use Rattle.symbolic_expand.specs.Defined.{Defined, sets_of, Adds}
+use Rattle.symbolic_expand.specs.Defined.{Defined, sets_of, AddsDefinition}
 use Rattle.symbolic_expand.specs.parts.Stored.{HasBefore, one_where}
 use Rattle.symbolic_expand.proofs.Elements.{contains_none}
 
@@ -55,7 +55,7 @@ has_none table place e sets is none h n = h n ∙ go (bytes_eq n e.0) refl
 
 -- a name that is defined, whose definition was added
 pub has_one : (table : TableEntries) (place : ℕ) (e : List ℕ × Option MacroDefinition) (d : MacroDefinition) (old new : Defined) (added : Bool) →
-    Some e ≡ slice_get table place → lookup table e.0 ≡ Some d → Adds old e.0 d added new → HasBefore table place old → HasBefore table (place + 1) new
+    Some e ≡ slice_get table place → lookup table e.0 ≡ Some d → AddsDefinition old e.0 d added new → HasBefore table place old → HasBefore table (place + 1) new
 has_one table place e d old new false is some (there, same) h n = ap (λ s. sets_of s n) same ∙ h n ∙ go (bytes_eq n e.0) refl
   where
     known : (b : Bool) → before table place e.0 ≡ b → before table place e.0 ≡ true

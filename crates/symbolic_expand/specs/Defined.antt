@@ -15,7 +15,7 @@ sets_of (e ∷ es) name = if bytes_eq name e.0 then e.1 else sets_of es name
 
 -- what an addition does: a definition that its name lacks goes behind the name's others, and all other names keep theirs;
 -- one that the name has changes nothing
-abbrev pub Adds : Defined → List ℕ → MacroDefinition → Bool → Defined → Type 0
-Adds old name d true new = (Contains (sets_of old name) d → ⊥)
+abbrev pub AddsDefinition : Defined → List ℕ → MacroDefinition → Bool → Defined → Type 0
+AddsDefinition old name d true new = (Contains (sets_of old name) d → ⊥)
     × ((n : List ℕ) → sets_of new n ≡ (if bytes_eq name n then sets_of old n ++ d ∷ [] else sets_of old n))
-Adds old name d false new = Contains (sets_of old name) d × (new ≡ old)
+AddsDefinition old name d false new = Contains (sets_of old name) d × (new ≡ old)

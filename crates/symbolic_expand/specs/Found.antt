@@ -25,9 +25,9 @@ abbrev pub header_cmp : HeaderName → HeaderName → Ordering
 header_cmp a b = ordering_then (form_cmp a.angle b.angle) (text_cmp a.name b.name)
 
 -- the presumed name of a file, where no `#line` changes it (6.10.4)
-abbrev pub known_name : List ℕ → Bool → Option (List ℕ)
-known_name file true = None
-known_name file false = Some file
+abbrev pub name_unless_changed : List ℕ → Bool → Option (List ℕ)
+name_unless_changed file true = None
+name_unless_changed file false = Some file
 
 -- Nothing refuses: no more complete lists of choices than the budget, none of them without work, and none with a presumed line or
 -- name that isn't known.
@@ -44,8 +44,8 @@ pub record NamesExactly (sets : Sets) (file : Option (List ℕ)) (ts : List Toke
   pub support_ordered : IsStrictlySortedBy text_cmp support
 
 -- a refusal that holds
-abbrev pub Refuses : SymError → ℕ → Sets → Option (List ℕ) → List Token → Type 0
-Refuses Budget budget sets file ts = HasManyRuns budget sets file ts
-Refuses Long budget sets file ts = HasLongRun sets file ts
-Refuses PresumedNames budget sets file ts = HasPresumedRun sets file ts
-Refuses Memory budget sets file ts = Unit {0}
+abbrev pub RefusalHolds : SymError → ℕ → Sets → Option (List ℕ) → List Token → Type 0
+RefusalHolds Budget budget sets file ts = HasManyRuns budget sets file ts
+RefusalHolds Long budget sets file ts = HasLongRun sets file ts
+RefusalHolds PresumedNames budget sets file ts = HasPresumedRun sets file ts
+RefusalHolds Memory budget sets file ts = Unit {0}

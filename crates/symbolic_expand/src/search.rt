@@ -3,7 +3,7 @@ ghost use Rattle.std.specs.Prelude.{◌≡◌, IfOk, IfErr};
 ghost use Rattle.std.specs.Option.{option_copied};
 ghost use Rattle.macro_expand.specs.Choice.{IsDistinct};
 ghost use Rattle.symbolic_expand.specs.Defined.{sets_of};
-ghost use Rattle.symbolic_expand.specs.Found.{NamesExactly, NothingRefuses, Refuses, known_name};
+ghost use Rattle.symbolic_expand.specs.Found.{NamesExactly, NothingRefuses, RefusalHolds, name_unless_changed};
 ghost use Rattle.symbolic_expand.specs.parts.Search.{FoundAll};
 
 use crate::found::{Found, headers_in_order, put_header, texts_in_order};
@@ -40,9 +40,9 @@ pub fn names(
     has_line: bool,
     budget: u32,
 ) -> Result<Names, SymError>
-    ensures ok { IfOk result (λ n. NamesExactly (sets_of sets.now) (known_name file.now has_line) tokens.now n.headers n.support) }
-    ensures only { IfOk result (λ n. NothingRefuses budget (sets_of sets.now) (known_name file.now has_line) tokens.now) }
-    ensures err { IfErr result (λ e. Refuses e budget (sets_of sets.now) (known_name file.now has_line) tokens.now) }
+    ensures ok { IfOk result (λ n. NamesExactly (sets_of sets.now) (name_unless_changed file.now has_line) tokens.now n.headers n.support) }
+    ensures only { IfOk result (λ n. NothingRefuses budget (sets_of sets.now) (name_unless_changed file.now has_line) tokens.now) }
+    ensures err { IfErr result (λ e. RefusalHolds e budget (sets_of sets.now) (name_unless_changed file.now has_line) tokens.now) }
     ensures distinct { IsDistinct (sets_of sets.now) }
 {
     sets.see_distinct();
@@ -53,7 +53,7 @@ pub fn names(
 }
 
 fn known_name<'f>(file: &'f [u8], has_line: bool) -> Option<&'f [u8]>
-    ensures { option_copied result ≡ known_name file.now has_line }
+    ensures { option_copied result ≡ name_unless_changed file.now has_line }
 {
     if has_line { None } else { Some(file) }
 }
@@ -67,7 +67,7 @@ fn find_all(
     budget: u32,
 ) -> Result<FoundMet, SymError>
     ensures ok { IfOk result (λ f. FoundAll budget (sets_of sets.now) (option_copied file.entry) tokens.now f.found.quoted f.found.angled f.met) }
-    ensures err { IfErr result (λ e. Refuses e budget (sets_of sets.now) (option_copied file.entry) tokens.now) }
+    ensures err { IfErr result (λ e. RefusalHolds e budget (sets_of sets.now) (option_copied file.entry) tokens.now) }
 {
     let mut found = Found {
         quoted: TextSet::new(alloc),

@@ -33,7 +33,7 @@ impl DefSets {
     ghost use Rattle.std.specs.Option.{option_to_list};
     ghost use Rattle.macro_defs.specs.Table.{lookup};
     ghost use Rattle.macro_expand.specs.Choice.{IsDistinct, AreAmong};
-    ghost use Rattle.symbolic_expand.specs.Defined.{Adds, sets_of};
+    ghost use Rattle.symbolic_expand.specs.Defined.{AddsDefinition, sets_of};
     ghost use Rattle.symbolic_expand.specs.parts.Stored.{HasBefore};
 
     /// Sets in which no name has a definition.
@@ -87,7 +87,7 @@ impl DefSets {
         name: &[u8],
         definition: &Definition,
     ) -> Result<bool, AllocError>
-        ensures ok { IfOk result (λ added. Adds self.old name.now definition.now added self.new) }
+        ensures ok { IfOk result (λ added. AddsDefinition self.old name.now definition.now added self.new) }
         ensures err { OnErr result (self.new ≡ self.old) }
         ensures grows { AreAmong (sets_of self.old) (sets_of self.new) }
     {

@@ -53,13 +53,13 @@ abbrev pub unnumbered : {A : Type 0} → Ending A → Numbered A
 unnumbered e = record { numbers = []; visit = ended_so e }
 
 -- the next list of numbers: the last that can rise rises, and what follows it is cut off
-abbrev pub raised : ℕ → ℕ → Option (List ℕ) → Option (List ℕ)
-raised k n (Some q) = Some (k ∷ q)
-raised k n None = elim (nat_lt (suc k) n) [ true ↦ Some (suc k ∷ []) | false ↦ None ]
+abbrev pub raised_number : ℕ → ℕ → Option (List ℕ) → Option (List ℕ)
+raised_number k n (Some q) = Some (k ∷ q)
+raised_number k n None = elim (nat_lt (suc k) n) [ true ↦ Some (suc k ∷ []) | false ↦ None ]
 
 unfoldable pub next_numbers : List (ℕ × ℕ) → Option (List ℕ)
 next_numbers [] = None
-next_numbers (n ∷ ns) = raised n.0 n.1 (next_numbers ns)
+next_numbers (n ∷ ns) = raised_number n.0 n.1 (next_numbers ns)
 
 -- at one name: the run of a list of numbers, with 0 after its end
 abbrev pub At : {A : Type 0} → (Choice → List ℕ → Numbered A) → List MacroDefinition → List ℕ → Numbered A
@@ -94,6 +94,6 @@ visits_from sets file (ask_file next) ks =
 visits_from sets file (ask_line line next) ks = meets (codes "__LINE__") (ended_so Presumed) ∷ []
 
 -- what a list, if there is one, gives
-abbrev pub rest_of : {X : Type 0} → (List ℕ → List X) → Option (List ℕ) → List X
-rest_of f None = []
-rest_of f (Some q) = f q
+abbrev pub results_of : {X : Type 0} → (List ℕ → List X) → Option (List ℕ) → List X
+results_of f None = []
+results_of f (Some q) = f q
