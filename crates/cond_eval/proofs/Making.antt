@@ -10,7 +10,7 @@ use Rattle.cond_eval.specs.declared.pending.Pending.TheVariants.{InParentheses, 
 use Rattle.cond_eval.specs.declared.seen.Seen.{Seen}
 use Rattle.cond_eval.specs.Making.{Making}
 use Rattle.cond_eval.specs.Expressions.{Expression, constant, enclosed, unary, binary, conditional, depth, is_unsigned, bits_of}
-use Rattle.cond_eval.specs.Reading.{Operand, Progress, due, read, wrong, binding_of_open, completed, ended, prefix_of, at_colon, at_closing, at_prefix, at_due, at_read, next_lexeme, read_on, alone, whole_of, made_of, open_behind, binding, expressions}
+use Rattle.cond_eval.specs.Reading.{Operand, ReadSoFar, due, read, wrong, binding_of_open, completed, ended, prefix_of, at_colon, at_closing, at_prefix, at_due, at_read, next_lexeme, read_on, alone, whole_of, made_of, open_behind, binding, expressions}
 use Rattle.cond_eval.specs.parts.Seen.{values, seen_of, seen_enclosed, seen_unary, seen_binary, seen_conditional, capped, deeper}
 
 -- one way of making follows another
@@ -32,7 +32,7 @@ module _ (A B : Type 0) (h : A → B) where
   abbrev pub mapped_operand : Operand A → Operand B
   mapped_operand o = record { around = map mapped o.around; value = h o.value }
 
-  abbrev pub mapped_progress : Progress A → Progress B
+  abbrev pub mapped_progress : ReadSoFar A → ReadSoFar B
   mapped_progress (due ps) = due (map mapped ps)
   mapped_progress (read o) = read (mapped_operand o)
   mapped_progress wrong = wrong
@@ -105,12 +105,12 @@ module _ (A B : Type 0) (h : A → B) where
     read-mapped o Colon = ap at_colon (ended-mapped 1 o.around o.value) ∙ colon-mapped (ended m 1 o.around o.value).around (ended m 1 o.around o.value).value
     read-mapped o Closing = ap (at_closing n) (ended-mapped 1 o.around o.value) ∙ closing-mapped (ended m 1 o.around o.value).around (ended m 1 o.around o.value).value
 
-    next-mapped : (p : Progress A) (l : Lexeme) → next_lexeme n (mapped_progress p) l ≡ mapped_progress (next_lexeme m p l)
+    next-mapped : (p : ReadSoFar A) (l : Lexeme) → next_lexeme n (mapped_progress p) l ≡ mapped_progress (next_lexeme m p l)
     next-mapped (due ps) l = due-mapped ps l
     next-mapped (read o) l = read-mapped o l
     next-mapped wrong l = refl
 
-    on-mapped : (p : Progress A) (ls : List Lexeme) → read_on n (mapped_progress p) ls ≡ mapped_progress (read_on m p ls)
+    on-mapped : (p : ReadSoFar A) (ls : List Lexeme) → read_on n (mapped_progress p) ls ≡ mapped_progress (read_on m p ls)
     unfolding read_on
     on-mapped p [] = refl
     on-mapped p (l ∷ ls) = ap (λ q. read_on n q ls) (next-mapped p l) ∙ on-mapped (next_lexeme m p l) ls
@@ -122,7 +122,7 @@ module _ (A B : Type 0) (h : A → B) where
         go [] = refl
         go (p ∷ ps) = refl
 
-    whole-mapped : (p : Progress A) → whole_of n (mapped_progress p) ≡ option_map h (whole_of m p)
+    whole-mapped : (p : ReadSoFar A) → whole_of n (mapped_progress p) ≡ option_map h (whole_of m p)
     whole-mapped (due ps) = refl
     whole-mapped wrong = refl
     whole-mapped (read o) = ap (alone n) (ended-mapped 1 o.around o.value) ∙ alone-mapped (ended m 1 o.around o.value)

@@ -9,12 +9,12 @@ use Rattle.cond_eval.specs.declared.lexeme.Lexeme.TheVariants.{Constant, Infix, 
 use Rattle.cond_eval.specs.declared.pending.Pending.{Pending}
 use Rattle.cond_eval.specs.declared.pending.Pending.TheVariants.{InParentheses, BehindPrefix, BehindOperator, BehindQuestion, BehindColon}
 use Rattle.cond_eval.specs.Expressions.{Expression}
-use Rattle.cond_eval.specs.Reading.{Operand, Progress, due, read, wrong, binding, ended, at_colon, at_closing, at_prefix, at_due, at_read, next_lexeme, read_on, alone, whole_of, made_of, spelled_expression, expressions}
+use Rattle.cond_eval.specs.Reading.{Operand, ReadSoFar, due, read, wrong, binding, ended, at_colon, at_closing, at_prefix, at_due, at_read, next_lexeme, read_on, alone, whole_of, made_of, spelled_expression, expressions}
 use Rattle.cond_eval.specs.Grammar.{prefix_lexeme, spelling, IsOfLevel, Spells}
 use Rattle.cond_eval.proofs.Levels.{level_due, level_due_most, question_due, binding_least, binding_most, Nests, around_spelling, IsEnded, is_ended}
 
 -- what was read so far is the front of the lexemes, and an operand is of every level
-abbrev pub IsSound : Progress Expression → List Lexeme → Type 0
+abbrev pub IsSound : ReadSoFar Expression → List Lexeme → Type 0
 IsSound (due ps) front = (around_spelling ps ≡ front) × Nests ps
 IsSound (read o) front = (around_spelling o.around ++ spelling o.value ≡ front) × Nests o.around × ((level : ℕ) → IsOfLevel level o.value)
 IsSound wrong front = Unit {0}
@@ -141,12 +141,12 @@ read_sound o Closing front h =
     closing_sound (ended expressions 1 o.around o.value).around (ended expressions 1 o.around o.value).value front (is.same ∙ h.0) is.nests is.level
 read_sound o Foreign front h = tt
 
-next_sound : (p : Progress Expression) (l : Lexeme) (front : List Lexeme) → IsSound p front → IsSound (next_lexeme expressions p l) (front ++ l ∷ [])
+next_sound : (p : ReadSoFar Expression) (l : Lexeme) (front : List Lexeme) → IsSound p front → IsSound (next_lexeme expressions p l) (front ++ l ∷ [])
 next_sound (due ps) l front h = due_sound ps l front h
 next_sound (read o) l front h = read_sound o l front h
 next_sound wrong l front h = tt
 
-on_sound : (p : Progress Expression) (ls front : List Lexeme) → IsSound p front → IsSound (read_on expressions p ls) (front ++ ls)
+on_sound : (p : ReadSoFar Expression) (ls front : List Lexeme) → IsSound p front → IsSound (read_on expressions p ls) (front ++ ls)
 unfolding read_on
 on_sound p [] front h = subst (IsSound p) (sym (append-nil front)) h
 on_sound p (l ∷ ls) front h =
@@ -158,7 +158,7 @@ alone_spells : (ps : List (Pending Expression)) (v e : Expression) (ls : List Le
 alone_spells [] v e ls same level is = let only : v ≡ e = cc in subst (Spells ls) only (same, level)
 alone_spells (p ∷ ps) v e ls same level is = absurd (cc)
 
-whole_spells : (p : Progress Expression) (ls : List Lexeme) (e : Expression) → IsSound p ls → whole_of expressions p ≡ Some e → Spells ls e
+whole_spells : (p : ReadSoFar Expression) (ls : List Lexeme) (e : Expression) → IsSound p ls → whole_of expressions p ≡ Some e → Spells ls e
 whole_spells (due ps) ls e h is = absurd (cc)
 whole_spells wrong ls e h is = absurd (cc)
 whole_spells (read o) ls e h is =

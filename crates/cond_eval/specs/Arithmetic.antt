@@ -9,8 +9,8 @@ use Rattle.cond_eval.specs.declared.operator.Binary.{Binary}
 use Rattle.cond_eval.specs.declared.operator.Binary.TheVariants as op
 
 -- the number that bits stand for
-abbrev pub number_of : Bool → ℕ → ℤ
-number_of unsigned bits = if unsigned then pos bits else cast_signed w64 bits
+abbrev pub number_of_bits : Bool → ℕ → ℤ
+number_of_bits unsigned bits = if unsigned then pos bits else cast_signed w64 bits
 
 -- a truth value
 abbrev pub truth : Bool → ℕ
@@ -75,12 +75,12 @@ binary_bits op.Divide u v a b = where_divisible b (quotient (u || v) a b)
 binary_bits op.Remainder u v a b = where_divisible b (remainder (u || v) a b)
 binary_bits op.Add u v a b = Some ((a + b) % modulus)
 binary_bits op.Subtract u v a b = Some ((a + (modulus - b)) % modulus)
-binary_bits op.ShiftLeft u v a b = Some (left_by u a (number_of v b))
-binary_bits op.ShiftRight u v a b = Some (right_by u a (number_of v b))
-binary_bits op.Less u v a b = Some (truth (int_lt (number_of (u || v) a) (number_of (u || v) b)))
-binary_bits op.Greater u v a b = Some (truth (int_lt (number_of (u || v) b) (number_of (u || v) a)))
-binary_bits op.LessOrEqual u v a b = Some (truth (not (int_lt (number_of (u || v) b) (number_of (u || v) a))))
-binary_bits op.GreaterOrEqual u v a b = Some (truth (not (int_lt (number_of (u || v) a) (number_of (u || v) b))))
+binary_bits op.ShiftLeft u v a b = Some (left_by u a (number_of_bits v b))
+binary_bits op.ShiftRight u v a b = Some (right_by u a (number_of_bits v b))
+binary_bits op.Less u v a b = Some (truth (int_lt (number_of_bits (u || v) a) (number_of_bits (u || v) b)))
+binary_bits op.Greater u v a b = Some (truth (int_lt (number_of_bits (u || v) b) (number_of_bits (u || v) a)))
+binary_bits op.LessOrEqual u v a b = Some (truth (not (int_lt (number_of_bits (u || v) b) (number_of_bits (u || v) a))))
+binary_bits op.GreaterOrEqual u v a b = Some (truth (not (int_lt (number_of_bits (u || v) a) (number_of_bits (u || v) b))))
 binary_bits op.Equal u v a b = Some (truth (a == b))
 binary_bits op.NotEqual u v a b = Some (truth (not (a == b)))
 binary_bits op.BitAnd u v a b = Some (bit_and a b)

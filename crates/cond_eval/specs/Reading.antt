@@ -47,20 +47,20 @@ pub record Operand (A : Type 0) : Type 0 where
   pub value : A
 
 -- how far an expression was read: an operand is due, or one was read, or it is none
-pub data Progress (A : Type 0) : Type 0 where
-  due : List (Pending A) → Progress A
-  read : Operand A → Progress A
-  wrong : Progress A
+pub data ReadSoFar (A : Type 0) : Type 0 where
+  due : List (Pending A) → ReadSoFar A
+  read : Operand A → ReadSoFar A
+  wrong : ReadSoFar A
 
 -- a `:` behind an operand, which ends that of a `?`
-abbrev pub at_colon : {A : Type 0} → Operand A → Progress A
+abbrev pub at_colon : {A : Type 0} → Operand A → ReadSoFar A
 at_colon o = elim o.around [
   | [] ↦ wrong
   | p ∷ ps ↦ elim p [ BehindQuestion c ↦ due (BehindColon c o.value ∷ ps) | _ ↦ wrong ]
 ]
 
 -- an operator behind an operand
-abbrev pub open_behind : {A : Type 0} → (A → Pending A) → Operand A → Progress A
+abbrev pub open_behind : {A : Type 0} → (A → Pending A) → Operand A → ReadSoFar A
 open_behind opening o = due (opening o.value ∷ o.around)
 
 -- the operator that a lexeme is where an operand is due; `+` and `-` are unary there (6.5.3.3)
@@ -86,23 +86,23 @@ module _ {A : Type 0} (made : Making A) where
   ended tight (p ∷ ps) e = if nat_le tight (binding_of_open p) then ended tight ps (completed p e) else record { around = p ∷ ps; value = e }
 
   -- a `)` behind an operand
-  abbrev pub at_closing : Operand A → Progress A
+  abbrev pub at_closing : Operand A → ReadSoFar A
   at_closing o = elim o.around [
     | [] ↦ wrong
     | p ∷ ps ↦ elim p [ InParentheses ↦ read (record { around = ps; value = made.of_enclosed o.value }) | _ ↦ wrong ]
   ]
 
-  abbrev pub at_prefix : List (Pending A) → Option Unary → Progress A
+  abbrev pub at_prefix : List (Pending A) → Option Unary → ReadSoFar A
   at_prefix ps None = wrong
   at_prefix ps (Some u) = due (BehindPrefix u ∷ ps)
 
-  abbrev pub at_due : List (Pending A) → Lexeme → Progress A
+  abbrev pub at_due : List (Pending A) → Lexeme → ReadSoFar A
   at_due ps (Constant n) = read (record { around = ps; value = made.of_constant n })
   at_due ps Opening = due (InParentheses ∷ ps)
   at_due ps l = at_prefix ps (prefix_of l)
 
   -- the next lexeme, behind an operand
-  abbrev pub at_read : Operand A → Lexeme → Progress A
+  abbrev pub at_read : Operand A → Lexeme → ReadSoFar A
   at_read o (Infix b) = open_behind (BehindOperator b) (ended (binding b) o.around o.value)
   at_read o Question = open_behind BehindQuestion (ended 2 o.around o.value)
   at_read o Colon = at_colon (ended 1 o.around o.value)
@@ -113,12 +113,12 @@ module _ {A : Type 0} (made : Making A) where
   at_read o Opening = wrong
   at_read o Foreign = wrong
 
-  abbrev pub next_lexeme : Progress A → Lexeme → Progress A
+  abbrev pub next_lexeme : ReadSoFar A → Lexeme → ReadSoFar A
   next_lexeme (due ps) l = at_due ps l
   next_lexeme (read o) l = at_read o l
   next_lexeme wrong l = wrong
 
-  unfoldable pub read_on : Progress A → List Lexeme → Progress A
+  unfoldable pub read_on : ReadSoFar A → List Lexeme → ReadSoFar A
   read_on p [] = p
   read_on p (l ∷ ls) = read_on (next_lexeme p l) ls
 
@@ -126,7 +126,7 @@ module _ {A : Type 0} (made : Making A) where
   abbrev pub alone : Operand A → Option A
   alone o = elim o.around [ [] ↦ Some o.value | p ∷ ps ↦ None ]
 
-  abbrev pub whole_of : Progress A → Option A
+  abbrev pub whole_of : ReadSoFar A → Option A
   whole_of (due ps) = None
   whole_of (read o) = alone (ended 1 o.around o.value)
   whole_of wrong = None

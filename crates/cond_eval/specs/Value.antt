@@ -38,14 +38,14 @@ value_read (Err e) = Err e
 value_read (Ok ls) = value_in (spelled_expression ls)
 
 -- the value of an expression of these tokens, or the first error
-unfoldable pub value_of : List Token → Result Num CondError
-value_of ts = value_read (lexemes_of ts)
+unfoldable pub expression_value : List Token → Result Num CondError
+expression_value ts = value_read (lexemes_of ts)
 
 -- an error of the code tells this reading; want of memory tells nothing
-abbrev pub Refuses : {A : Type 0} → CondError → Result A CondError → Type 0
-Refuses Memory r = Unit {0}
-Refuses Syntax r = r ≡ Err Syntax
-Refuses ZeroDivisor r = r ≡ Err ZeroDivisor
-Refuses NotInteger r = r ≡ Err NotInteger
-Refuses TooWide r = r ≡ Err TooWide
-Refuses TooDeep r = r ≡ Err TooDeep
+abbrev pub RefusesCondition : {A : Type 0} → CondError → Result A CondError → Type 0
+RefusesCondition Memory r = Unit {0}
+RefusesCondition Syntax r = r ≡ Err Syntax
+RefusesCondition ZeroDivisor r = r ≡ Err ZeroDivisor
+RefusesCondition NotInteger r = r ≡ Err NotInteger
+RefusesCondition TooWide r = r ≡ Err TooWide
+RefusesCondition TooDeep r = r ≡ Err TooDeep

@@ -1,6 +1,6 @@
 // The operators of controlling expressions on 64 bits (ISO C 6.5.3.3, 6.5.5 to 6.5.12).
 ghost use Rattle.std.specs.Prelude.{◌≡◌, ◌<◌, ◌||◌, Some, None, false, int_lt};
-ghost use Rattle.cond_eval.specs.Arithmetic.{number_of, truth, quotient, remainder, left_by, right_by, shifted_left, shifted_right, sign_bits, where_divisible, unary_bits, binary_bits, unary_unsigned, binary_unsigned};
+ghost use Rattle.cond_eval.specs.Arithmetic.{number_of_bits, truth, quotient, remainder, left_by, right_by, shifted_left, shifted_right, sign_bits, where_divisible, unary_bits, binary_bits, unary_unsigned, binary_unsigned};
 
 use crate::operator::{Binary, Unary};
 
@@ -35,7 +35,7 @@ pub fn unary_unsigned(operator: Unary, unsigned: bool) -> bool
 
 // Whether the number that bits stand for is less than another's.
 fn is_less(unsigned: bool, left: u64, right: u64) -> bool
-    ensures { result ≡ int_lt (number_of unsigned left) (number_of unsigned right) }
+    ensures { result ≡ int_lt (number_of_bits unsigned left) (number_of_bits unsigned right) }
 {
     if unsigned {
         left < right
@@ -121,7 +121,7 @@ fn shifted_right(unsigned: bool, bits: u64, count: u64) -> u64
 
 // Bits shifted to the left by the number that a count's bits stand for, to the right where it is negative.
 fn shift_left(unsigned: bool, bits: u64, count_unsigned: bool, count: u64) -> u64
-    ensures { result ≡ left_by unsigned bits (number_of count_unsigned count) }
+    ensures { result ≡ left_by unsigned bits (number_of_bits count_unsigned count) }
 {
     if count_unsigned {
         return shifted_left(bits, count);
@@ -134,7 +134,7 @@ fn shift_left(unsigned: bool, bits: u64, count_unsigned: bool, count: u64) -> u6
 
 // The same to the right.
 fn shift_right(unsigned: bool, bits: u64, count_unsigned: bool, count: u64) -> u64
-    ensures { result ≡ right_by unsigned bits (number_of count_unsigned count) }
+    ensures { result ≡ right_by unsigned bits (number_of_bits count_unsigned count) }
 {
     if count_unsigned {
         return shifted_right(unsigned, bits, count);

@@ -1,7 +1,7 @@
 // The value of a controlling expression.
 ghost use Rattle.std.specs.Prelude.{◌≡◌, ◌++◌, ◌∷◌, [], Ok, IfOk, IfErr, OnOk};
 ghost use Rattle.cond_eval.specs.Value as spec;
-ghost use Rattle.cond_eval.specs.Value.{value_of, value_in, Refuses};
+ghost use Rattle.cond_eval.specs.Value.{expression_value, value_in, RefusesCondition};
 ghost use Rattle.cond_eval.specs.Reading.{spelled_expression};
 
 use crate::lexeme::{Lexeme, lexeme_of};
@@ -18,10 +18,10 @@ use std::alloc::Global;
 /// smallest number divided by -1 is itself, a shift by 64 or more leaves nothing but the sign of a negative number, and a
 /// negative count shifts the other way. Operands that `&&`, `||` and `?:` don't evaluate divide by nothing. Time is linear in
 /// the tokens and their spellings, and however deep the expression nests, it takes no more of the program's stack.
-#[tactic(auto, unfolding(crate::specs::Value::value_of))]
+#[tactic(auto, unfolding(crate::specs::Value::expression_value))]
 pub fn value(alloc: Global, tokens: &[Token]) -> Result<Num, CondError>
-    ensures ok { IfOk result (λ n. value_of tokens.now ≡ Ok n) }
-    ensures err { IfErr result (λ e. Refuses e (value_of tokens.now)) }
+    ensures ok { IfOk result (λ n. expression_value tokens.now ≡ Ok n) }
+    ensures err { IfErr result (λ e. RefusesCondition e (expression_value tokens.now)) }
 {
     match lexemes_of(alloc, tokens) {
         Ok(lexemes) => value_in(alloc, &lexemes),
@@ -32,7 +32,7 @@ pub fn value(alloc: Global, tokens: &[Token]) -> Result<Num, CondError>
 // What each token is.
 fn lexemes_of(alloc: Global, tokens: &[Token]) -> Result<Vec<Lexeme>, CondError>
     ensures ok { IfOk result (λ lexemes. spec.lexemes_of tokens.now ≡ Ok lexemes.items) }
-    ensures err { IfErr result (λ e. Refuses e (spec.lexemes_of tokens.now)) }
+    ensures err { IfErr result (λ e. RefusesCondition e (spec.lexemes_of tokens.now)) }
 {
     let mut lexemes = Vec::new(alloc);
     for token in tokens {
@@ -57,7 +57,7 @@ fn put(lexemes: &mut Vec<Lexeme>, lexeme: Lexeme) -> Result<(), CondError>
 // The value of the expression that lexemes spell.
 fn value_in(alloc: Global, lexemes: &[Lexeme]) -> Result<Num, CondError>
     ensures ok { IfOk result (λ n. value_in (spelled_expression lexemes.now) ≡ Ok n) }
-    ensures err { IfErr result (λ e. Refuses e (value_in (spelled_expression lexemes.now))) }
+    ensures err { IfErr result (λ e. RefusesCondition e (value_in (spelled_expression lexemes.now))) }
 {
     match seen_of(alloc, lexemes) {
         Ok(seen) => judged(seen),

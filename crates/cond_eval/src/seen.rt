@@ -2,7 +2,7 @@
 ghost use Rattle.std.specs.Prelude.{◌≡◌, ◌==◌, not, max, option_map, option_and_then};
 ghost use Rattle.cond_eval.specs.Arithmetic.{unary_bits, binary_bits, truth};
 ghost use Rattle.cond_eval.specs.Expressions.{logical_and, logical_or, one_of, evaluated};
-ghost use Rattle.cond_eval.specs.parts.Seen.{seen_constant, seen_enclosed, seen_unary, seen_binary, seen_conditional, deeper, judged};
+ghost use Rattle.cond_eval.specs.parts.Seen.{seen_constant, seen_enclosed, seen_unary, seen_binary, seen_conditional, deeper, checked_value};
 
 use crate::arithmetic::{binary_bits, binary_unsigned, unary_bits, unary_unsigned};
 use crate::operator::{Binary, Unary};
@@ -176,7 +176,7 @@ pub fn seen_conditional(condition: Seen, then: Seen, other: Seen) -> Seen
 
 /// Its value, where it doesn't nest too deep and divides by 0 nowhere.
 pub fn judged(seen: Seen) -> Result<Num, CondError>
-    ensures { result ≡ judged seen }
+    ensures { result ≡ checked_value seen }
 {
     if DEEPEST < seen.depth {
         return Err(CondError::TooDeep);

@@ -14,7 +14,7 @@ use Rattle.directive_scan.specs.declared.Piece.TheVariants.{Line}
 use Rattle.directive_scan.specs.declared.ConditionPart.{ConditionPart}
 use Rattle.directive_scan.specs.declared.ConditionPart.TheVariants.{Written, Probe}
 use Rattle.directive_scan.specs.Operands.{parts_of}
-use Rattle.cond_eval.specs.Value.{value_of}
+use Rattle.cond_eval.specs.Value.{expression_value}
 use Rattle.search_path.specs.Asks.{header_ask}
 use Rattle.search_path.specs.Search.{Hit}
 use Rattle.tree_model.specs.Paths.{Path, spelled}
@@ -42,10 +42,10 @@ then-leads old mid new main file f g r x s is first next = leads-then old mid ne
 -- ---- a line that was expanded ----
 
 pub free-leads : (kept : Kept) (main : Path) (file : Here) (at : ℕ) (probes : Bool) (tokens zeros : List Token) (r : Result Bool Stop) →
-    probes ≡ false → zeros ≡ map zeroed tokens → Leads kept kept main file (λ state. truth_of at (value_of zeros) state) r → Leads kept kept main file (λ state. probe_free at probes tokens state) r
+    probes ≡ false → zeros ≡ map zeroed tokens → Leads kept kept main file (λ state. truth_of at (expression_value zeros) state) r → Leads kept kept main file (λ state. probe_free at probes tokens state) r
 free-leads kept main file at probes tokens zeros r free are leads =
-    leads-same kept kept main file (λ state. truth_of at (value_of zeros) state) (λ state. probe_free at probes tokens state) r
-    (λ state shows. ap (λ (b : Bool). probe_free at b tokens state) free ∙ ap (λ (ts : List Token). truth_of at (value_of ts) state) (sym are)) leads
+    leads-same kept kept main file (λ state. truth_of at (expression_value zeros) state) (λ state. probe_free at probes tokens state) r
+    (λ state shows. ap (λ (b : Bool). probe_free at b tokens state) free ∙ ap (λ (ts : List Token). truth_of at (expression_value ts) state) (sym are)) leads
 
 pub expanded-leads : (kept : Kept) (main : Path) (file : Here) (at : ℕ) (tokens answered : List Token) (r : Result Bool Stop) → Some answered ≡ with_defined (is_defined (lookup kept.macros)) tokens →
     Leads kept kept main file (λ state. probe_free at (list_any (is_word (codes "__has_include")) answered) answered state) r → Leads kept kept main file (λ state. expanded_condition at tokens state) r

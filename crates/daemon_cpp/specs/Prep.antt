@@ -35,7 +35,7 @@ use Rattle.cond_eval.specs.declared.Num.{Num}
 use Rattle.cond_eval.specs.declared.CondError.{CondError}
 use Rattle.cond_eval.specs.declared.CondError.TheVariants as cond_error
 use Rattle.cond_eval.specs.Constants.{value_behind, is_digit_in}
-use Rattle.cond_eval.specs.Value.{value_of}
+use Rattle.cond_eval.specs.Value.{expression_value}
 use Rattle.cpp_output.specs.Layout.{Event, enter, back, mark, put, pragma, text_limit}
 use Rattle.cpp_output.specs.Laid.{Laid, begun, after_events, finished}
 use Rattle.tree_model.specs.Paths.{Text, Path, spelled, is_same_path}
@@ -398,7 +398,7 @@ truth_of at (Err error) state = refuse at (cond_complaint error) state
 -- an expanded line, whose `defined`s were answered: no `__has_include` may be left (6.10.1)
 abbrev pub probe_free : ℕ → Bool → List Token → State → Reached Bool
 probe_free at true tokens state = refuse at BadProbe state
-probe_free at false tokens state = truth_of at (value_of (map zeroed tokens)) state
+probe_free at false tokens state = truth_of at (expression_value (map zeroed tokens)) state
 
 abbrev pub defined_answered : ℕ → Option (List Token) → State → Reached Bool
 defined_answered at None state = refuse at BadExpression state

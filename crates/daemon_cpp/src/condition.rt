@@ -7,7 +7,7 @@ ghost use Rattle.pp_tokens.specs.declared.Token.{Token};
 ghost use Rattle.pp_tokens.specs.Marks.{is_word};
 ghost use Rattle.directive_scan.specs.Spots.{directive_seen, piece_seen};
 ghost use Rattle.tree_model.specs.Paths.{spelled};
-ghost use Rattle.cond_eval.specs.Value.{value_of};
+ghost use Rattle.cond_eval.specs.Value.{expression_value};
 ghost use Rattle.search_path.specs.Asks.{header_ask};
 ghost use Rattle.daemon_cpp.specs.declared.kept.Kept.{Kept};
 ghost use Rattle.daemon_cpp.specs.Prep.{world_of, piece_test, directive_test, condition, parts_condition, answer_parts, probe, probe_named, answered_condition, expanded_condition, probe_free, truth_of, cond_complaint, name_condition};
@@ -316,7 +316,7 @@ fn probe_free(alloc: Global, places: Places<'_>, at: u32, tokens: List<Token>) -
 
 // Whether an expression's value isn't 0.
 fn is_true(alloc: Global, places: Places<'_>, at: u32, tokens: &[Token]) -> Result<bool, Stop>
-    ensures leads { (kept : Kept) → Leads kept kept places.entry.source.now (here_seen places.entry) (λ state. truth_of at (value_of tokens.now) state) result }
+    ensures leads { (kept : Kept) → Leads kept kept places.entry.source.now (here_seen places.entry) (λ state. truth_of at (expression_value tokens.now) state) result }
     ensures no_fault { IsErrOf result Stop.Fault → ⊥ }
 {
     match cond_eval::value(alloc, tokens) {

@@ -15,7 +15,7 @@ use Rattle.macro_expand.specs.Expansion.{Expanded}
 use Rattle.macro_expand.specs.Laws.{Knows}
 use Rattle.cond_eval.specs.declared.Num.{Num}
 use Rattle.cond_eval.specs.declared.CondError.{CondError}
-use Rattle.cond_eval.specs.Value.{value_of}
+use Rattle.cond_eval.specs.Value.{expression_value}
 use Rattle.cpp_output.specs.Layout.{Event, mark, put, text_limit}
 use Rattle.cpp_output.specs.Laid.{after_events}
 use Rattle.tree_model.specs.Paths.{Text}
@@ -176,7 +176,7 @@ module _ (all : Answers) (job : JobData) (visits : List Visit) where
 
   probe_free_keeps : (visit : Visit) (at : ℕ) (b : Bool) (tokens : List Token) (state : State) → Holds visit state → KeepsWith visit Any (probe_free at b tokens state)
   probe_free_keeps visit at true tokens state h = h.touched
-  probe_free_keeps visit at false tokens state h = truth_keeps visit at (value_of (map zeroed tokens)) state h
+  probe_free_keeps visit at false tokens state h = truth_keeps visit at (expression_value (map zeroed tokens)) state h
 
   defined_keeps : (visit : Visit) (at : ℕ) (o : Option (List Token)) (state : State) → Holds visit state → KeepsWith visit Any (defined_answered at o state)
   defined_keeps visit at None state h = h.touched

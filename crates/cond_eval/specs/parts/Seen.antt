@@ -11,7 +11,7 @@ use Rattle.cond_eval.specs.declared.pending.Pending.{Pending}
 use Rattle.cond_eval.specs.Making.{Making}
 use Rattle.cond_eval.specs.Arithmetic.{unary_bits, unary_unsigned, binary_unsigned}
 use Rattle.cond_eval.specs.Expressions.{Expression, depth, is_unsigned, bits_of, evaluated, one_of}
-use Rattle.cond_eval.specs.Reading.{Progress, due, read, wrong, binding_of_open}
+use Rattle.cond_eval.specs.Reading.{ReadSoFar, due, read, wrong, binding_of_open}
 use Rattle.cond_eval.specs.Value.{deepest, number_or_zero_divisor}
 
 -- a depth as it is kept: one above the deepest stands for all above it
@@ -58,13 +58,13 @@ values = record {
 }
 
 -- how far the code has read: what stands open, and the operand that was read behind it
-abbrev pub progress_of : List (Pending Seen) → Option Seen → Progress Seen
+abbrev pub progress_of : List (Pending Seen) → Option Seen → ReadSoFar Seen
 progress_of ps None = due ps
 progress_of ps (Some s) = read (record { around = ps; value = s })
 
 -- a value, of what is known of an expression
-abbrev pub judged : Seen → Result Num CondError
-judged s = if nat_lt deepest s.depth then Err TooDeep else number_or_zero_divisor s.unsigned s.bits
+abbrev pub checked_value : Seen → Result Num CondError
+checked_value s = if nat_lt deepest s.depth then Err TooDeep else number_or_zero_divisor s.unsigned s.bits
 
 -- whether something that binds so tightly ends the operand of what stands open last
 abbrev pub ends_first : ℕ → List (Pending Seen) → Bool
@@ -72,7 +72,7 @@ ends_first tight [] = false
 ends_first tight (p ∷ ps) = nat_le tight (binding_of_open p)
 
 -- an error of the code, where reading comes to this; want of memory tells nothing
-abbrev pub IsWrong : CondError → Progress Seen → Type 0
+abbrev pub IsWrong : CondError → ReadSoFar Seen → Type 0
 IsWrong Memory p = Unit {0}
 IsWrong Syntax p = p ≡ wrong
 IsWrong _ p = ⊥
@@ -84,6 +84,6 @@ IsNone Syntax s = s ≡ None
 IsNone _ s = ⊥
 
 -- lexemes that were read, in front of those that are left
-abbrev pub behind : List Lexeme → Result (List Lexeme) CondError → Result (List Lexeme) CondError
-behind front (Ok ls) = Ok (front ++ ls)
-behind front (Err e) = Err e
+abbrev pub with_front : List Lexeme → Result (List Lexeme) CondError → Result (List Lexeme) CondError
+with_front front (Ok ls) = Ok (front ++ ls)
+with_front front (Err e) = Err e
