@@ -2,7 +2,7 @@
 use Rattle.std.proofs.Common.{◌≡◌, refl, ℕ, ◌+◌, ◌≤◌, ◌<◌, List, [], ◌∷◌, ◌++◌, length, get_or, map, drop, append_assoc, length-append, add-one, suc, drop-cons, arith, sym, ◌∙◌, ap, append-nil, drop_of_length-le}
 use Rattle.pp_tokens.specs.declared.Token.{Token}
 use Rattle.cpp_output.specs.declared.last.Last.{Last}
-use Rattle.cpp_output.specs.Layout.{put, gap, last_of, on_line}
+use Rattle.cpp_output.specs.Layout.{put, gap, last_on_line, on_line}
 use Rattle.cpp_output.specs.Laid.{Laid, after_event, after_events}
 use Rattle.cpp_output.proofs.Growth.{longer-after}
 
@@ -58,11 +58,11 @@ unfolding after_events
 left_done before s all none invariant = ap (λ us. after_events s (map put us)) (sym none) ∙ invariant
 
 line_step : (ts : List Token) (i : ℕ) (t : Token) (text : List ℕ) (last : Last) (all : List ℕ) → i < length ts → t ≡ get_or ts i t
-    → text ++ on_line last (drop i ts) ≡ all → (text ++ (gap last t ++ t.text)) ++ on_line (last_of t.text) (drop (i + 1) ts) ≡ all
+    → text ++ on_line last (drop i ts) ≡ all → (text ++ (gap last t ++ t.text)) ++ on_line (last_on_line t.text) (drop (i + 1) ts) ≡ all
 unfolding on_line
 line_step ts i t text last all below is invariant =
     let front = gap last t in
-    let rest = on_line (last_of t.text) (drop (i + 1) ts) in
+    let rest = on_line (last_on_line t.text) (drop (i + 1) ts) in
     append_assoc text (front ++ t.text) rest
     ∙ ap (λ xs. text ++ xs) (append_assoc front t.text rest)
     ∙ ap (λ us. text ++ on_line last us) (sym (from_here ts i t below is))
@@ -70,7 +70,7 @@ line_step ts i t text last all below is invariant =
 
 -- an output behind one token more, on its present line
 abbrev pub with_token : Laid → Token → Laid
-with_token s t = record { text = s.text ++ (gap s.last t ++ t.text); at = s.at; last = last_of t.text }
+with_token s t = record { text = s.text ++ (gap s.last t ++ t.text); at = s.at; last = last_on_line t.text }
 
 -- one token more of a line, in the same way
 pub line_turn : (ts : List Token) (i : ℕ) (t seen : Token) (s next : Laid) (all : List ℕ) → i < length ts → t ≡ get_or ts i t → seen ≡ t
@@ -82,7 +82,7 @@ line_turn ts i t seen s next all below is same grown invariant =
 pub line_longer : (ts : List Token) (i : ℕ) (t seen : Token) (s : Laid) (all : List ℕ) → i < length ts → t ≡ get_or ts i t → seen ≡ t
     → s.text ++ on_line s.last (drop i ts) ≡ all → length (with_token s seen).text ≤ length all
 line_longer ts i t seen s all below is same invariant =
-    let rest = on_line (last_of t.text) (drop (i + 1) ts) in
+    let rest = on_line (last_on_line t.text) (drop (i + 1) ts) in
     omega (
       arith,
       ap (λ u. length (with_token s u).text) same,

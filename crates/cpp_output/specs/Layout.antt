@@ -33,8 +33,8 @@ is_tight (b ∷ []) = list_any (λ c. c == b) (codes "()[]{},;")
 is_tight (b ∷ c ∷ bs) = false
 
 -- what stands last on an output line that ends in this spelling
-abbrev pub last_of : List ℕ → Last
-last_of text = if is_tight text then Tight else Loose
+abbrev pub last_on_line : List ℕ → Last
+last_on_line text = if is_tight text then Tight else Loose
 
 -- What stands between a token and what is on its left: nothing where it is the first of its output line; else a
 -- space where one stands before it in the source, or where neither of the two is tight.
@@ -44,8 +44,8 @@ gap Tight t = if t.space then 32 ∷ [] else []
 gap Loose t = if t.space || not (is_tight t.text) then 32 ∷ [] else []
 
 -- the newlines that lead from the output line of one physical line to that of a later one
-abbrev pub newlines : ℕ → ℕ → List ℕ
-newlines at line = replicate (line - at) 10
+abbrev pub newlines_between : ℕ → ℕ → List ℕ
+newlines_between at line = replicate (line - at) 10
 
 -- what stands last after those newlines: nothing where there are any
 abbrev pub last_at : ℕ → Last → ℕ → Last
@@ -60,7 +60,7 @@ fresh Loose = 10 ∷ []
 -- tokens on one output line
 unfoldable pub on_line : Last → List Token → List ℕ
 on_line last [] = []
-on_line last (t ∷ ts) = gap last t ++ (t.text ++ on_line (last_of t.text) ts)
+on_line last (t ∷ ts) = gap last t ++ (t.text ++ on_line (last_on_line t.text) ts)
 
 -- The bytes that an event adds, where the present output line stands for the physical line at. The word
 -- `#pragma` counts as an identifier on the left of the pragma's first token.
@@ -68,8 +68,8 @@ unfoldable pub written : ℕ → Last → Event → List ℕ
 written at last (enter name) = fresh last ++ marker (pos 1) name (codes " 1")
 written at last (back name shown line) = fresh last ++ marker shown name (codes " 2")
 written at last (mark name shown line) = fresh last ++ marker shown name []
-written at last (put t) = newlines at t.line ++ (gap (last_at at last t.line) t ++ t.text)
-written at last (pragma line ts) = newlines at line ++ (codes "#pragma" ++ (on_line Loose ts ++ 10 ∷ []))
+written at last (put t) = newlines_between at t.line ++ (gap (last_at at last t.line) t ++ t.text)
+written at last (pragma line ts) = newlines_between at line ++ (codes "#pragma" ++ (on_line Loose ts ++ 10 ∷ []))
 
 -- the physical line that the output line stands for after an event
 unfoldable pub line_after : ℕ → Event → ℕ
@@ -84,14 +84,14 @@ unfoldable pub last_after : Event → Last
 last_after (enter name) = Nothing
 last_after (back name shown line) = Nothing
 last_after (mark name shown line) = Nothing
-last_after (put t) = last_of t.text
+last_after (put t) = last_on_line t.text
 last_after (pragma line ts) = Nothing
 
 -- the text of events, one after another, and the end of the last line
-unfoldable pub text_from : ℕ → Last → List Event → List ℕ
-text_from at last [] = fresh last
-text_from at last (e ∷ es) = written at last e ++ text_from (line_after at e) (last_after e) es
+unfoldable pub text_of_events : ℕ → Last → List Event → List ℕ
+text_of_events at last [] = fresh last
+text_of_events at last (e ∷ es) = written at last e ++ text_of_events (line_after at e) (last_after e) es
 
 -- the whole output, of a source with this name
 unfoldable pub laid_out : List ℕ → List Event → List ℕ
-laid_out name es = marker (pos 1) name [] ++ text_from 1 Nothing es
+laid_out name es = marker (pos 1) name [] ++ text_of_events 1 Nothing es

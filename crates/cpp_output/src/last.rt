@@ -1,7 +1,7 @@
 // What stands last on an output line, and the space behind it.
 ghost use Rattle.std.specs.Prelude.{◌≡◌, if◌then◌else◌, ◌∷◌, []};
 ghost use Rattle.pp_tokens.specs.Tokens.{token_seen};
-ghost use Rattle.cpp_output.specs.Layout.{is_tight, last_of, gap};
+ghost use Rattle.cpp_output.specs.Layout.{is_tight, last_on_line, gap};
 
 use pp_tokens::TokenRef;
 
@@ -24,7 +24,7 @@ fn has_tight_spelling(text: &[u8]) -> bool
 
 impl Last {
     pub fn of_spelling(text: &[u8]) -> Last
-        ensures { result ≡ last_of text.now }
+        ensures { result ≡ last_on_line text.now }
     {
         if has_tight_spelling(text) {
             Last::Tight

@@ -1,7 +1,7 @@
 // The layout of preprocessed output: a text that grows token by token.
 ghost use Rattle.std.specs.Prelude.{◌≡◌, ◌<◌, ◌≤◌, ◌++◌, List, [], length, map, max, IfOk, OnOk, IsErrOf};
 ghost use Rattle.pp_tokens.specs.Tokens.{rest_of, token_seen};
-ghost use Rattle.cpp_output.specs.Layout.{Event, enter, back, mark, put, pragma, text_limit, marker, fresh, newlines, last_at, last_of, gap, on_line};
+ghost use Rattle.cpp_output.specs.Layout.{Event, enter, back, mark, put, pragma, text_limit, marker, fresh, newlines_between, last_at, last_on_line, gap, on_line};
 ghost use Rattle.cpp_output.specs.Laid.{begun, after_event, after_events, finished};
 ghost use Rattle.cpp_output.specs.declared.layout.LayError.TheVariants.{Memory};
 
@@ -186,9 +186,9 @@ impl Layout {
 
     // On to the output line of a physical line, where that is a later one.
     fn come_to(&mut self, line: u64) -> Result<(), LayError>
-        ensures ok { OnOk result (self.new ≡ record { text = self.old.text ++ newlines self.old.at line; at = max self.old.at line; last = last_at self.old.at self.old.last line }) }
+        ensures ok { OnOk result (self.new ≡ record { text = self.old.text ++ newlines_between self.old.at line; at = max self.old.at line; last = last_at self.old.at self.old.last line }) }
         ensures within { length self.new.text ≤ text_limit }
-        ensures full { IsErrOf result LayError.Full → text_limit < length (self.old.text ++ newlines self.old.at line) }
+        ensures full { IsErrOf result LayError.Full → text_limit < length (self.old.text ++ newlines_between self.old.at line) }
     {
         if self.at < line {
             self.text.append_newlines(line - self.at)?;
@@ -200,7 +200,7 @@ impl Layout {
 
     // A token on the present output line.
     fn append_token(&mut self, token: &TokenRef<'_>) -> Result<(), LayError>
-        ensures ok { OnOk result (self.new ≡ record { text = self.old.text ++ (gap self.old.last (token_seen token.now) ++ token.now.text.now); at = self.old.at; last = last_of token.now.text.now }) }
+        ensures ok { OnOk result (self.new ≡ record { text = self.old.text ++ (gap self.old.last (token_seen token.now) ++ token.now.text.now); at = self.old.at; last = last_on_line token.now.text.now }) }
         ensures within { length self.new.text ≤ text_limit }
         ensures full { IsErrOf result LayError.Full → text_limit < length (self.old.text ++ (gap self.old.last (token_seen token.now) ++ token.now.text.now)) }
     {
