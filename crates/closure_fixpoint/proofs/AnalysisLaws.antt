@@ -9,7 +9,7 @@ use Rattle.directive_scan.specs.declared.HeaderName.{HeaderName}
 use Rattle.symbolic_expand.specs.Laws.{MoreKeepHeaders, MoreKeepLongRuns, MoreKeepPresumedRuns, MoreKeepManyRuns}
 use Rattle.tree_model.specs.Paths.{Text, Path, spelled, IsAtOrAbove}
 use Rattle.tree_model.specs.Entries.{Entries, is_increasing, below}
-use Rattle.tree_model.specs.Trees.{FileTree, IsTree, IsTooLarge, entry_at, body_of}
+use Rattle.tree_model.specs.Trees.{FileTree, IsTree, IsTooLarge, entry_at, entry_body}
 use Rattle.tree_model.specs.Frame.{HoldsOfLocated}
 use Rattle.tree_model.specs.declared.entry.Entry.{Entry}
 use Rattle.tree_model.specs.declared.entry.Entry.TheVariants.{Dir, File, Link}
@@ -100,7 +100,7 @@ same-entries tree job a b are be = same-lists a b are.increasing be.increasing (
 few : (a b : ℕ) → nat_lt a b ≡ false → a < b → ⊥
 few a b e lt = let above : b ≤ a = ltb-false a b e in absurd (omega (arith, above, lt))
 
-file-of : (entry : Entry) (body : Text) → body_of (Some entry) ≡ Some body → entry ≡ File body
+file-of : (entry : Entry) (body : Text) → entry_body (Some entry) ≡ Some body → entry ≡ File body
 file-of Dir body e = absurd (cc)
 file-of (File other) body e = let same : other ≡ body = cc in ap (λ (b : Text). File b) same
 file-of (Link text) body e = absurd (cc)
@@ -230,10 +230,10 @@ module _ (keep : MoreKeepHeaders HeaderName) (long : MoreKeepLongRuns) (presumed
         none-large : (HasLarge entries → ⊥) → (path : Path) → IsNodeOf tree job path → IsTooLarge tree path → ⊥
         none-large small path node (body, is, large) =
             let there = node-entry holds locates tree whole job nodes is_node entries given path node in
-            small (path, body, subst (λ (e : Entry). Member (path, e) entries) (file-of there.0 body (ap body_of (sym there.1) ∙ is)) there.2, large)
+            small (path, body, subst (λ (e : Entry). Member (path, e) entries) (file-of there.0 body (ap entry_body (sym there.1) ∙ is)) there.2, large)
 
         large-holds : HasLarge entries → Holds refusal.Large tree job budget
-        large-holds (path, body, m, large) = (path, (is_node path).0 (given.inside path (File body) m), (body, ap body_of (given.same path (File body) m), large))
+        large-holds (path, body, m, large) = (path, (is_node path).0 (given.inside path (File body) m), (body, ap entry_body (given.same path (File body) m), large))
 
         request-holds : is_over job entries ≡ true → Holds refusal.Request tree job budget
         request-holds over = (entries, are, by_test (nat_lt 100000 (length entries)) refl over)

@@ -14,7 +14,7 @@ use Rattle.base_types.specs.Members.{Member, Within}
 use Rattle.tree_model.specs.Paths.{Text, Path, slash, spelled, spelled_below, is_canonical, IsCanonical}
 use Rattle.tree_model.specs.Entries.{Entries, is_increasing, below, is_dir, is_dir_at, has_parent, is_link_text, entry_fits, makes_tree}
 use Rattle.tree_model.specs.Laws.{ParentsMakeTrees, TestsDecide}
-use Rattle.tree_model.specs.Trees.{FileTree, entry_at, body_of, IsTooLarge}
+use Rattle.tree_model.specs.Trees.{FileTree, entry_at, entry_body, IsTooLarge}
 use Rattle.tree_model.specs.declared.entry.Entry.{Entry}
 use Rattle.tree_model.specs.declared.entry.Entry.TheVariants.{Dir, File, Link}
 use Rattle.tree_model.proofs.MemberLemmas.{Member-append, Member-append_left, Member-append_right, list_any-true}
@@ -220,7 +220,7 @@ module _ (tree : FileTree) where
   stays-gathered [] es x m = m
   stays-gathered (q ∷ rest) es x m = stays-gathered rest (es ++ kept_at tree es q) x (Member-append_left x es (kept_at tree es q) m)
 
-  large-entry : (o : Option Entry) (body : Text) → body_of o ≡ Some body → o ≡ Some (File body)
+  large-entry : (o : Option Entry) (body : Text) → entry_body o ≡ Some body → o ≡ Some (File body)
   large-entry None body e = absurd (cc)
   large-entry (Some Dir) body e = absurd (cc)
   large-entry (Some (File other)) body e = let same : other ≡ body = cc in ap (λ (b : Text). Some (File b)) same

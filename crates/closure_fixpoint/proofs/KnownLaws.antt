@@ -4,7 +4,7 @@ use Rattle.base_types.specs.Members.{Member, Within}
 use Rattle.directive_scan.specs.declared.HeaderName.{HeaderName}
 use Rattle.symbolic_expand.specs.Laws.{MoreKeepHeaders}
 use Rattle.tree_model.specs.Paths.{Text, Path, spelled, IsAtOrAbove}
-use Rattle.tree_model.specs.Trees.{FileTree, IsTree, entry_at, body_at, body_of, body_limit, IsTooLarge}
+use Rattle.tree_model.specs.Trees.{FileTree, IsTree, entry_at, body_at, entry_body, body_limit, IsTooLarge}
 use Rattle.tree_model.specs.Bodies.{body_at_path}
 use Rattle.tree_model.specs.Walk.{locate}
 use Rattle.tree_model.specs.Frame.{LocatedHolds, HoldsOfLocated}
@@ -158,7 +158,7 @@ module _ (holds : HoldsOfLocated) (locates : SearchesLocate) (tree : FileTree) (
 
     root_no_file : (path : Path) → path ≡ [] → IsSome (body_at tree path) → ⊥
     root_no_file path e some =
-        let is : body_at tree path ≡ None = ap (λ (p : Path). body_of (entry_at tree p)) e ∙ ap body_of whole.root in
+        let is : body_at tree path ≡ None = ap (λ (p : Path). entry_body (entry_at tree p)) e ∙ ap entry_body whole.root in
         some_none (body_at tree path) is some
       where
         some_none : (o : Option Text) → o ≡ None → IsSome o → ⊥

@@ -5,7 +5,7 @@ use Rattle.std.proofs.lemmas.Bool.{cases_lt}
 use Rattle.base_types.specs.Members.{Member}
 use Rattle.tree_model.specs.Paths.{Path}
 use Rattle.tree_model.specs.Entries.{Entries, makes_tree}
-use Rattle.tree_model.specs.Trees.{FileTree, IsTree, tree_of, body_of, body_limit}
+use Rattle.tree_model.specs.Trees.{FileTree, IsTree, tree_of, entry_body, body_limit}
 use Rattle.tree_model.specs.declared.entry.Entry.{Entry}
 use Rattle.tree_model.specs.declared.entry.Entry.TheVariants.{Dir, File, Link}
 use Rattle.job_words.specs.declared.job.Job.{Job}
@@ -44,7 +44,7 @@ module _ (tree : FileTree) (budget : ℕ) (job : Job) (entries : Entries) (are :
   entry-small path Dir m = tt
   entry-small path (Link text) m = tt
   entry-small path (File body) m = elim (cases_lt body_limit (length body)) [
-    | inl large ↦ absurd (none refusal.Large (path, are.nodes path (File body) m, (body, ap body_of (are.same path (File body) m), large)))
+    | inl large ↦ absurd (none refusal.Large (path, are.nodes path (File body) m, (body, ap entry_body (are.same path (File body) m), large)))
     | inr fits ↦ fits
   ]
 

@@ -6,7 +6,7 @@ use Rattle.directive_scan.specs.declared.HeaderName.{HeaderName}
 use Rattle.directive_scan.specs.Directives.{pieces}
 use Rattle.tree_model.specs.Paths.{Text, Path, parent}
 use Rattle.tree_model.specs.Entries.{Entries, makes_tree}
-use Rattle.tree_model.specs.Trees.{FileTree, IsTree, Sub, tree_of, entry_at, body_of}
+use Rattle.tree_model.specs.Trees.{FileTree, IsTree, Sub, tree_of, entry_at, entry_body}
 use Rattle.tree_model.specs.Bodies.{body_at_path}
 use Rattle.tree_model.specs.Walk.{locate}
 use Rattle.tree_model.specs.Frame.{LocatedHolds, HoldsOfLocated, LeadsOfLocated}
@@ -127,7 +127,7 @@ module _ (holds : HoldsOfLocated) (locates : SearchesLocate) (places : PlacesLoc
     same_body : (l : Located) → Known (answers_of tree job) job visits l → body_at_path (tree_of entries) l.real ≡ body_at_path tree l.real
     same_body l known =
         let so = known_located tree job locates visits l known in
-        ap (λ (o : Option Entry). unwrap_or (body_of o) []) (same_at l known l.real (leads (entry_at tree) so.dir so.text l so.located).real)
+        ap (λ (o : Option Entry). unwrap_or (entry_body o) []) (same_at l known l.real (leads (entry_at tree) so.dir so.text l so.located).real)
 
     pub agrees_with_entries : Agree (world_of (tree_of entries) job.setup) (world_of tree job.setup) (sheet_of tree job.setup) job visits (IsHome tree)
     agrees_with_entries = record {

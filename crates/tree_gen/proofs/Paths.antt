@@ -7,23 +7,23 @@ use Rattle.std.proofs.lemmas.Bool.{and_from, le-leb, lt-ltb}
 use Rattle.std.proofs.lemmas.Bool.Decides.{nat_tests}
 use Rattle.std.proofs.lemmas.Fmt.{decimal_by_steps, length-decimal-le}
 use Rattle.std.proofs.lemmas.List.Folds.{list_all-append}
-use Rattle.tree_model.specs.Paths.{spelled, is_name_byte, is_name, is_canonical}
+use Rattle.tree_model.specs.Paths.{spelled, is_file_name_byte, is_name, is_canonical}
 use Rattle.tree_gen.specs.Generated.{header_dir, header_name, source_dir, source_name}
 
-is_digit_name : (n : ℕ) → n < 10 → is_name_byte (48 + n) ≡ true
+is_digit_name : (n : ℕ) → n < 10 → is_file_name_byte (48 + n) ≡ true
 is_digit_name n h = grind (arith, nat_tests)
 
-digits_are_name_bytes : (n : ℕ) → n < 2 ^ 64 → list_all is_name_byte (decimal n) ≡ true
+digits_are_name_bytes : (n : ℕ) → n < 2 ^ 64 → list_all is_file_name_byte (decimal n) ≡ true
 digits_are_name_bytes =
-    decimal_by_steps (λ n ds. list_all is_name_byte ds ≡ true) (λ n h. and_from _ _ (is_digit_name n h) refl)
-    (λ n ds low h. list_all-append is_name_byte ds ((48 + n % 10) ∷ []) ∙ and_from _ _ h (and_from _ _ (is_digit_name (n % 10) (omega arith)) refl))
+    decimal_by_steps (λ n ds. list_all is_file_name_byte ds ≡ true) (λ n h. and_from _ _ (is_digit_name n h) refl)
+    (λ n ds low h. list_all-append is_file_name_byte ds ((48 + n % 10) ∷ []) ∙ and_from _ _ h (and_from _ _ (is_digit_name (n % 10) (omega arith)) refl))
 
 pub short_decimal : (n : ℕ) → n < 100000 → length (decimal n) ≤ 5
 short_decimal n h = length-decimal-le 5 n (omega arith) h (omega (arith, h))
 
 header_is_name : (k : ℕ) → k < 100000 → is_name (header_name k) ≡ true
 header_is_name k h =
-    let bytes : list_all is_name_byte (decimal k ++ codes ".h") ≡ true = list_all-append is_name_byte (decimal k) (codes ".h") ∙ and_from _ _ (digits_are_name_bytes k (omega (arith, h))) refl in
+    let bytes : list_all is_file_name_byte (decimal k ++ codes ".h") ≡ true = list_all-append is_file_name_byte (decimal k) (codes ".h") ∙ and_from _ _ (digits_are_name_bytes k (omega (arith, h))) refl in
     let size : length (decimal k ++ codes ".h") ≡ length (decimal k) + 2 = length-append (decimal k) (codes ".h") in
     let some : nat_lt 0 (length (header_name k)) ≡ true = lt-ltb 0 (length (header_name k)) (omega (arith, size)) in
     let short : nat_le (length (header_name k)) 255 ≡ true = le-leb (length (header_name k)) 255 (omega (arith, size, short_decimal k h)) in
@@ -31,7 +31,7 @@ header_is_name k h =
 
 source_is_name : (j : ℕ) → j < 100000 → is_name (source_name j) ≡ true
 source_is_name j h =
-    let bytes : list_all is_name_byte (decimal j ++ codes ".c") ≡ true = list_all-append is_name_byte (decimal j) (codes ".c") ∙ and_from _ _ (digits_are_name_bytes j (omega (arith, h))) refl in
+    let bytes : list_all is_file_name_byte (decimal j ++ codes ".c") ≡ true = list_all-append is_file_name_byte (decimal j) (codes ".c") ∙ and_from _ _ (digits_are_name_bytes j (omega (arith, h))) refl in
     let size : length (decimal j ++ codes ".c") ≡ length (decimal j) + 2 = length-append (decimal j) (codes ".c") in
     let some : nat_lt 0 (length (source_name j)) ≡ true = lt-ltb 0 (length (source_name j)) (omega (arith, size)) in
     let short : nat_le (length (source_name j)) 255 ≡ true = le-leb (length (source_name j)) 255 (omega (arith, size, short_decimal j h)) in

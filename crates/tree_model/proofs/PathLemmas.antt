@@ -9,7 +9,7 @@ use Rattle.std.proofs.lemmas.List.Folds.{list_all-append, list_all_more}
 use Rattle.std.proofs.lemmas.Bool.{eqb-true, eqb-false, eq-eqb, lt-ltb, ltb-true, leb-true, le-leb, and_parts, and_from, or_parts, not-true, not_from_false, false_from_ne_true}
 use lib.Pointwise.{pointwise}
 use Rattle.base_types.specs.Members.{Member}
-use Rattle.tree_model.specs.Paths.{Text, Path, slash, dot, spelled, spelled_below, names_of, IsName, IsCanonical, IsSpelling, is_name, is_name_byte, is_dots, is_canonical, is_spelling, path_of, parent, parent_spelling, child_of}
+use Rattle.tree_model.specs.Paths.{Text, Path, slash, dot, spelled, spelled_below, names_of, IsName, IsCanonical, IsSpelling, is_name, is_file_name_byte, is_dots, is_canonical, is_spelling, path_of, parent, parent_spelling, child_of}
 
 -- TESTS
 
@@ -26,18 +26,18 @@ pub text_itself : (a : Text) → pointwise nat_eq a a ≡ true
 text_itself [] = refl
 text_itself (x ∷ a) = ap (λ b. b && pointwise nat_eq a a) (eq-eqb x x refl) ∙ text_itself a
 
-no_byte : (b : ℕ) (text : Text) → is_name_byte b ≡ false → list_all is_name_byte text ≡ true → Member b text → ⊥
+no_byte : (b : ℕ) (text : Text) → is_file_name_byte b ≡ false → list_all is_file_name_byte text ≡ true → Member b text → ⊥
 no_byte b [] isnt h m = elim m [ ]
 no_byte b (x ∷ text) isnt h (inl e) =
-    let pair = and_parts (is_name_byte x) (list_all is_name_byte text) h in
-    let both : is_name_byte b ≡ true = ap is_name_byte (sym e) ∙ pair.0 in cc
-no_byte b (x ∷ text) isnt h (inr m) = no_byte b text isnt (and_parts (is_name_byte x) (list_all is_name_byte text) h).1 m
+    let pair = and_parts (is_file_name_byte x) (list_all is_file_name_byte text) h in
+    let both : is_file_name_byte b ≡ true = ap is_file_name_byte (sym e) ∙ pair.0 in cc
+no_byte b (x ∷ text) isnt h (inr m) = no_byte b text isnt (and_parts (is_file_name_byte x) (list_all is_file_name_byte text) h).1 m
 
 pub name_from_test : (name : Text) → is_name name ≡ true → IsName name
 name_from_test name h =
     let a = and_parts (nat_lt 0 (length name)) _ h in
     let b = and_parts (nat_le (length name) 255) _ a.1 in
-    let d = and_parts (list_all is_name_byte name) (not (is_dots name)) b.1 in
+    let d = and_parts (list_all is_file_name_byte name) (not (is_dots name)) b.1 in
     let dots = or_parts (pointwise nat_eq name (dot ∷ [])) (pointwise nat_eq name (dot ∷ dot ∷ [])) (not-true (is_dots name) d.1) in
     record {
       some = ltb-true 0 (length name) a.0;
@@ -48,7 +48,7 @@ name_from_test name h =
       no_dots = λ e. let t : pointwise nat_eq name (dot ∷ dot ∷ []) ≡ true = ap (λ (n : Text). pointwise nat_eq n (dot ∷ dot ∷ [])) e in cc;
     }
 
-bytes_fit : (text : Text) → (Member slash text → ⊥) → (Member 0 text → ⊥) → list_all is_name_byte text ≡ true
+bytes_fit : (text : Text) → (Member slash text → ⊥) → (Member 0 text → ⊥) → list_all is_file_name_byte text ≡ true
 bytes_fit [] s z = refl
 bytes_fit (x ∷ text) s z =
     let a : (x == slash) ≡ false = false_from_ne_true (x == slash) (λ e. s (inl (eqb-true x slash e))) in
@@ -59,7 +59,7 @@ pub test_from_name : (name : Text) → IsName name → is_name name ≡ true
 test_from_name name h =
     let a : nat_lt 0 (length name) ≡ true = lt-ltb 0 (length name) h.some in
     let b : nat_le (length name) 255 ≡ true = le-leb (length name) 255 h.short in
-    let d : list_all is_name_byte name ≡ true = bytes_fit name h.no_slash h.no_zero in
+    let d : list_all is_file_name_byte name ≡ true = bytes_fit name h.no_slash h.no_zero in
     let e : pointwise nat_eq name (dot ∷ []) ≡ false = false_from_ne_true _ (λ t. h.no_dot (text_same name (dot ∷ []) t)) in
     let f : pointwise nat_eq name (dot ∷ dot ∷ []) ≡ false = false_from_ne_true _ (λ t. h.no_dots (text_same name (dot ∷ dot ∷ []) t)) in
     rw (a, b, d, e, f) refl
@@ -286,23 +286,23 @@ slash_within : (above name : Text) → list_all is_part_byte (above ++ slash ∷
 slash_within [] name h = cc
 slash_within (x ∷ above) name h = slash_within above name (and_parts (is_part_byte x) _ h).1
 
-slash_at : (name : Text) (i : ℕ) → i < length name → list_all is_name_byte name ≡ true → get_or name i 0 ≡ slash → ⊥
+slash_at : (name : Text) (i : ℕ) → i < length name → list_all is_file_name_byte name ≡ true → get_or name i 0 ≡ slash → ⊥
 slash_at [] i within h e = omega arith
 slash_at (x ∷ name) zero within h e =
-    let pair = and_parts (is_name_byte x) (list_all is_name_byte name) h in
-    let t : is_name_byte slash ≡ true = ap is_name_byte (sym e) ∙ pair.0 in
+    let pair = and_parts (is_file_name_byte x) (list_all is_file_name_byte name) h in
+    let t : is_file_name_byte slash ≡ true = ap is_file_name_byte (sym e) ∙ pair.0 in
     cc
-slash_at (x ∷ name) (suc i) within h e = slash_at name i (omega arith) (and_parts (is_name_byte x) (list_all is_name_byte name) h).1 e
+slash_at (x ∷ name) (suc i) within h e = slash_at name i (omega arith) (and_parts (is_file_name_byte x) (list_all is_file_name_byte name) h).1 e
 
 cut : (above name : Text) (i : ℕ) → i < length (above ++ slash ∷ name) → get_or (above ++ slash ∷ name) i 0 ≡ slash → list_all is_part_byte (drop (suc i) (above ++ slash ∷ name)) ≡ true
-    → list_all is_name_byte name ≡ true → take i (above ++ slash ∷ name) ≡ above
+    → list_all is_file_name_byte name ≡ true → take i (above ++ slash ∷ name) ≡ above
 cut [] name zero within at plain fits = refl
 cut [] name (suc i) within at plain fits = absurd (slash_at name i (omega arith) fits at)
 cut (x ∷ above) name zero within at plain fits = absurd (slash_within above name plain)
 cut (x ∷ above) name (suc i) within at plain fits = ap (λ (t : Text). x ∷ t) (cut above name i (omega arith) at plain fits)
 
 pub last_slash : (text : Text) (end i : ℕ) → end ≡ suc i → i < length text → get_or text i 0 ≡ slash → list_all is_part_byte (drop end text) ≡ true
-    → (above name : Text) → list_all is_name_byte name ≡ true → text ≡ above ++ slash ∷ name → take i text ≡ above
+    → (above name : Text) → list_all is_file_name_byte name ≡ true → text ≡ above ++ slash ∷ name → take i text ≡ above
 last_slash text end i last within at plain above name fits is =
     ap (take i) is
     ∙ cut above name i (subst (λ (t : Text). i < length t) is within) (ap (λ (t : Text). get_or t i 0) (sym is) ∙ at)
@@ -310,7 +310,7 @@ last_slash text end i last within at plain above name fits is =
 
 -- what stands before a spelling's last slash is the parent's spelling
 pub parent_above : (path : Path) (text above : Text) → IsCanonical path → text ≡ spelled path
-    → ((front name : Text) → IsTrue (list_all is_name_byte name) → text ≡ front ++ slash ∷ name → above ≡ front) → above ≡ spelled_below (parent path)
+    → ((front name : Text) → IsTrue (list_all is_file_name_byte name) → text ≡ front ++ slash ∷ name → above ≡ front) → above ≡ spelled_below (parent path)
 parent_above [] text above h is clause = clause [] [] refl is
 parent_above (name ∷ dir) text above h is clause = clause (spelled_below dir) name (bytes_fit name h.names.0.no_slash h.names.0.no_zero) is
 

@@ -6,12 +6,12 @@ use Rattle.std.specs.Option.{unwrap_or}
 use Rattle.std.proofs.lemmas.Bool.{false_from_ne_true}
 use Rattle.tree_model.specs.Paths.{Path, is_same_path, is_same_path-Decides}
 use Rattle.tree_model.specs.Trees.{FileTree, node_at, IsNode}
-use Rattle.tree_model.specs.parts.Remembered.{Known, known_in, IsTrueOf}
+use Rattle.tree_model.specs.parts.Remembered.{RememberedNodes, known_in, IsTrueOf}
 use Rattle.tree_model.specs.declared.entry.Node.{Node}
 use Rattle.tree_model.proofs.StepLemmas.{node_told}
 
 -- what is remembered now was remembered before, or is the answer at the path
-abbrev pub OneMore : Known → Known → Path → Option Node → Type 0
+abbrev pub OneMore : RememberedNodes → RememberedNodes → Path → Option Node → Type 0
 OneMore before now path got = (other : Path) (answer : Option Node) → now other ≡ Some answer → (before other ≡ Some answer) ⊎ ((other ≡ path) × (answer ≡ got))
 
 -- an answer that is put into a map changes no other
@@ -36,7 +36,7 @@ one_more before now path key got copy (Err e) here is put same other answer foun
     inl (sym (ap (lookup (is_same_path other)) same) ∙ found)
 
 -- with one true answer more, all are true
-pub still_true : (told told' : Option FileTree) (before now : Known) (path : Path) (got : Option Node) → OneMore before now path got → IsTrueOf told before → told' ≡ told → IsNode got → IfSome told (λ tree. got ≡ node_at tree path) → IsTrueOf told' now
+pub still_true : (told told' : Option FileTree) (before now : RememberedNodes) (path : Path) (got : Option Node) → OneMore before now path got → IsTrueOf told before → told' ≡ told → IsNode got → IfSome told (λ tree. got ≡ node_at tree path) → IsTrueOf told' now
 still_true told told' before now path got more true_of same node right =
     record { form = λ other answer found. shown other answer (more other answer found); same = λ other answer found. told_so other answer (more other answer found) }
   where

@@ -5,8 +5,8 @@ use Rattle.std.specs.Option.{option_map}
 use Rattle.std.specs.List.{onto_first}
 use Rattle.std.proofs.lemmas.List.{append-nil}
 use Rattle.tree_model.specs.Paths.{Text, Path, slash, parent, child_of, is_canonical}
-use Rattle.tree_model.specs.Trees.{FileTree, entry_at, node_at, shown, IsTree}
-use Rattle.tree_model.specs.Walk.{Look, components, Component, Stay, Up, Down, component_of, start, End, Nowhere, AtDir, AtFile, Walked, through, ended, file_end, entered, taken, walk_with, walk, but_last, last_of, first_nodes, located_at, located_in, last_looked_up, can_locate, located_by}
+use Rattle.tree_model.specs.Trees.{FileTree, entry_at, node_at, node_of_entry, IsTree}
+use Rattle.tree_model.specs.Walk.{Look, components, Component, Stay, Up, Down, component_of, start, End, Nowhere, AtDir, AtFile, Walked, through, walk_ended, file_end, entered, taken, walk_with, walk, but_last, last_of, first_nodes, located_at, located_in, last_looked_up, can_locate, located_by}
 use Rattle.tree_model.specs.parts.Steps.{GoesOn, followed, onward, end_of}
 use Rattle.tree_model.specs.declared.entry.Entry.{Entry}
 use Rattle.tree_model.specs.declared.entry.Entry.TheVariants.{Dir, File, Link}
@@ -54,7 +54,7 @@ unfolding walk walk_with
 walk-cons look zero dir name rest = refl
 walk-cons look (suc links) dir name rest = refl
 
-pub walk-nil : (look : Look) (links : ℕ) (dir : Path) → walk look links dir [] ≡ ended (AtDir dir links)
+pub walk-nil : (look : Look) (links : ℕ) (dir : Path) → walk look links dir [] ≡ walk_ended (AtDir dir links)
 unfolding walk walk_with
 walk-nil look zero dir = refl
 walk-nil look (suc links) dir = refl
@@ -112,32 +112,32 @@ module _ (tree : FileTree) (links : ℕ) (rest : List Text) (dir : Path) (name :
   abbrev At : Option Entry → Walked
   At found = entered (λ next. walk (entry_at tree) links next rest) (followed (entry_at tree) links) rest dir (name ∷ dir) found
 
-  nowhere-at : (found : Option Entry) → found ≡ None → GoesOn before (At found) before (ended Nowhere)
-  nowhere-at found e = same_walk before before (At found) (ended Nowhere) (ap At e) refl
+  nowhere-at : (found : Option Entry) → found ≡ None → GoesOn before (At found) before (walk_ended Nowhere)
+  nowhere-at found e = same_walk before before (At found) (walk_ended Nowhere) (ap At e) refl
 
   -- a name that is no node leads nowhere
-  pub not_child : IsTree tree → None ≡ child_of dir name → GoesOn before (At (entry_at tree (name ∷ dir))) before (ended Nowhere)
+  pub not_child : IsTree tree → None ≡ child_of dir name → GoesOn before (At (entry_at tree (name ∷ dir))) before (walk_ended Nowhere)
   not_child is e = nowhere-at (entry_at tree (name ∷ dir)) (no_node tree is dir name e)
 
-  absent : (found : Option Entry) → None ≡ option_map shown found → found ≡ None
+  absent : (found : Option Entry) → None ≡ option_map node_of_entry found → found ≡ None
   absent None e = refl
   absent (Some entry) e = absurd (cc)
 
-  pub no_entry : (path : Path) → Some path ≡ child_of dir name → None ≡ node_at tree path → GoesOn before (At (entry_at tree (name ∷ dir))) before (ended Nowhere)
+  pub no_entry : (path : Path) → Some path ≡ child_of dir name → None ≡ node_at tree path → GoesOn before (At (entry_at tree (name ∷ dir))) before (walk_ended Nowhere)
   no_entry path child e =
       let is : path ≡ name ∷ dir = child-is (is_canonical (name ∷ dir)) path (name ∷ dir) child in
       nowhere-at (entry_at tree (name ∷ dir)) (absent (entry_at tree (name ∷ dir)) (e ∙ ap (node_at tree) is))
 
-  present : (noted : List Path) (got : Node) (found : Option Entry) → Some got ≡ option_map shown found → noted ≡ before ++ (name ∷ dir) ∷ []
+  present : (noted : List Path) (got : Node) (found : Option Entry) → Some got ≡ option_map node_of_entry found → noted ≡ before ++ (name ∷ dir) ∷ []
       → GoesOn before (At found) noted (onward (entry_at tree) links rest (step_at dir (name ∷ dir) got))
   present noted got None e n = absurd (cc)
   present noted got (Some entry) e n =
-      let is : got ≡ shown entry = cc in
+      let is : got ≡ node_of_entry entry = cc in
       subst (λ got. GoesOn before (At (Some entry)) noted (onward (entry_at tree) links rest (step_at dir (name ∷ dir) got))) (sym is) (go entry)
     where
-      go : (entry : Entry) → GoesOn before (At (Some entry)) noted (onward (entry_at tree) links rest (step_at dir (name ∷ dir) (shown entry)))
+      go : (entry : Entry) → GoesOn before (At (Some entry)) noted (onward (entry_at tree) links rest (step_at dir (name ∷ dir) (node_of_entry entry)))
       go Dir = one_more (name ∷ dir) before noted (walk (entry_at tree) links (name ∷ dir) rest) n
-      go (File body) = one_more (name ∷ dir) before noted (ended (file_end (name ∷ dir) rest)) n
+      go (File body) = one_more (name ∷ dir) before noted (walk_ended (file_end (name ∷ dir) rest)) n
       go (Link text) = one_more (name ∷ dir) before noted (followed (entry_at tree) links (start dir text) (components text ++ rest)) n
 
   -- a node is noted, and the walk goes on from it
@@ -182,9 +182,9 @@ step_on look links first noted last whole dir list name rest taken_step e h s =
 
 -- a walk with no component left ends at its directory
 pub at_dir : (look : Look) (links : ℕ) (before noted : List Path) (whole : Walked) (last_step : Step) (path : Path) → last_step ≡ step.Dir path
-    → GoesOn before whole noted (onward look links [] last_step) → GoesOn before whole noted (ended (AtDir path links))
+    → GoesOn before whole noted (onward look links [] last_step) → GoesOn before whole noted (walk_ended (AtDir path links))
 at_dir look links before noted whole last_step path e h =
-    to_walk before noted whole (onward look links [] (step.Dir path)) (ended (AtDir path links)) (walk-nil look links path)
+    to_walk before noted whole (onward look links [] (step.Dir path)) (walk_ended (AtDir path links)) (walk-nil look links path)
     (subst (λ s. GoesOn before whole noted (onward look links [] s)) e h)
 
 -- FILES
@@ -197,7 +197,7 @@ at_file look links before noted whole rest last_step result path e r h =
     (subst (λ s. GoesOn before whole noted (onward look links rest s)) e h)
 
 pub file_left : (look : Look) (links : ℕ) (path : Path) (text : Text) → onward look links [] step.Nowhere ≡ onward look links (components text) (step.File path)
-file_left look links path text = ap (λ end. ended end) (go (components text) (some_component text))
+file_left look links path text = ap (λ end. walk_ended end) (go (components text) (some_component text))
   where
     go : (list : List Text) → 0 < length list → Nowhere ≡ file_end path list
     go [] h = absurd (omega arith)
@@ -218,7 +218,7 @@ link_less look (suc links) less dir text h e =
     let is : links ≡ less = omega arith in
     ap (walk look links dir) (append-nil (components text)) ∙ ap (λ n. walk look n dir (components text)) is
 
-pub no_links : (look : Look) (links : ℕ) (dir : Path) (text : Text) → links ≡ 0 → onward look links [] (step.Link dir text) ≡ ended Nowhere
+pub no_links : (look : Look) (links : ℕ) (dir : Path) (text : Text) → links ≡ 0 → onward look links [] (step.Link dir text) ≡ walk_ended Nowhere
 no_links look zero dir text e = refl
 no_links look (suc links) dir text e = absurd (omega arith)
 
@@ -248,7 +248,7 @@ located-as dir name nodes noted end real place e n p =
 
 -- a last component that leads to a file locates it
 pub located_file : (look : Look) (links : ℕ) (dir : Path) (name : Text) (before noted : List Path) (place real : Path) → Some place ≡ child_of dir name
-    → GoesOn before (walk look links dir (name ∷ [])) noted (ended (AtFile real))
+    → GoesOn before (walk look links dir (name ∷ [])) noted (walk_ended (AtFile real))
     → ◌≡◌ {A = Option Located} (Some (record { place = place; real = real; walked = noted })) (located_in dir name before (walk look links dir (name ∷ [])))
 located_file look links dir name before noted place real child h =
     let w : Walked = walk look links dir (name ∷ []) in
@@ -256,7 +256,7 @@ located_file look links dir name before noted place real child h =
 
 -- one that doesn't locates nothing
 pub located_nothing : (look : Look) (links : ℕ) (dir : Path) (name : Text) (before noted : List Path) (how : Stop) → ((real : Path) → how ≡ stop.File real → ⊥)
-    → GoesOn before (walk look links dir (name ∷ [])) noted (ended (end_of how))
+    → GoesOn before (walk look links dir (name ∷ [])) noted (walk_ended (end_of how))
     → None ≡ located_in dir name before (walk look links dir (name ∷ []))
 located_nothing look links dir name before noted how h goes =
     let w : Walked = walk look links dir (name ∷ []) in
@@ -292,13 +292,13 @@ passes text short some =
 -- a text that isn't refused locates what its last component does, where the walk before it ends at a directory
 pub from_dir : (look : Look) (dir : Path) (text : Text) (list : List Text) (name : Text) (noted : List Path) (last : Path) (links : ℕ)
     → length text ≤ 4096 → (length (last_of (components text)) ≡ 0 → ⊥) → list ≡ but_last (components text) → name ≡ last_of (components text)
-    → GoesOn (first_nodes dir text) (walk look 40 (start dir text) list) noted (ended (AtDir last links))
+    → GoesOn (first_nodes dir text) (walk look 40 (start dir text) list) noted (walk_ended (AtDir last links))
     → located_in last name noted (walk look links last (name ∷ [])) ≡ located_by look dir text
 unfolding located_by
 from_dir look dir text list name noted last links short some list_is name_is goes =
     let w : Walked = walk look 40 (start dir text) (but_last (components text)) in
-    let h : GoesOn (first_nodes dir text) w noted (ended (AtDir last links)) =
-    subst (λ list. GoesOn (first_nodes dir text) (walk look 40 (start dir text) list) noted (ended (AtDir last links))) list_is goes in
+    let h : GoesOn (first_nodes dir text) w noted (walk_ended (AtDir last links)) =
+    subst (λ list. GoesOn (first_nodes dir text) (walk look 40 (start dir text) list) noted (walk_ended (AtDir last links))) list_is goes in
     let there : Text → List Path → End → Option Located = λ name nodes end. last_looked_up look name nodes end in
     ap (λ n. located_in last n noted (walk look links last (n ∷ []))) name_is
     ∙ ap (there (last_of (components text)) noted) (sym h.end)
@@ -308,7 +308,7 @@ from_dir look dir text list name noted last links short some list_is name_is goe
 -- and none, where that walk doesn't
 pub from_elsewhere : (look : Look) (dir : Path) (text : Text) (list : List Text) (noted : List Path) (how : Stop)
     → list ≡ but_last (components text) → ((last : Path) (links : ℕ) → how ≡ stop.Dir last links → ⊥)
-    → GoesOn (first_nodes dir text) (walk look 40 (start dir text) list) noted (ended (end_of how))
+    → GoesOn (first_nodes dir text) (walk look 40 (start dir text) list) noted (walk_ended (end_of how))
     → None ≡ located_by look dir text
 unfolding located_by
 from_elsewhere look dir text list noted how list_is h goes =

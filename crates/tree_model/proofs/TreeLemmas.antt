@@ -12,7 +12,7 @@ use lib.Pointwise.{pointwise}
 use Rattle.base_types.specs.Members.{Member}
 use Rattle.tree_model.specs.Paths.{Text, Path, spelled, is_canonical, IsCanonical}
 use Rattle.tree_model.specs.Entries.{Entries, is_dir, has_parent, parents_stand, is_increasing, below, makes_tree, entry_fits, links_fit, body_fits, bodies_fit, IsLinkText, mirror_error}
-use Rattle.tree_model.specs.Trees.{path_cmp, tree_of, entry_at, by_bytes, body_of, body_limit, BodiesAreSmall, IsTree}
+use Rattle.tree_model.specs.Trees.{path_cmp, tree_of, entry_at, by_bytes, entry_body, body_limit, BodiesAreSmall, IsTree}
 use Rattle.tree_model.specs.declared.mem_tree.MirrorError.TheVariants as why
 use Rattle.tree_model.specs.declared.entry.Entry.{Entry}
 use Rattle.tree_model.specs.declared.entry.Entry.TheVariants.{Dir, File, Link}
@@ -185,7 +185,7 @@ pub no_error : (es : Entries) → is_increasing es ≡ true → list_all (λ e. 
 unfolding mirror_error
 no_error es h k = rw (h, parents_found es h ∙ k) refl
 
-small_body : (entry : Entry) (body : Text) → body_fits entry ≡ true → body_of (Some entry) ≡ Some body → length body ≤ body_limit
+small_body : (entry : Entry) (body : Text) → body_fits entry ≡ true → entry_body (Some entry) ≡ Some body → length body ≤ body_limit
 small_body Dir body fits e = absurd (cc)
 small_body (File bytes) body fits e =
     let same : bytes ≡ body = cc in
@@ -196,10 +196,10 @@ small_body (Link text) body fits e = absurd (cc)
 pub small_bodies : (es : Entries) → bodies_fit es ≡ true → BodiesAreSmall (tree_of es)
 small_bodies es fits path body e = at (entry_at (tree_of es) path) refl e
   where
-    among : (entry : Entry) → body_of (Some entry) ≡ Some body → ((path ≡ []) × (entry ≡ Dir)) ⊎ Member (path, entry) es → length body ≤ body_limit
-    among entry is (inl (root, dir)) = small_body Dir body refl (ap (λ (x : Entry). body_of (Some x)) (sym dir) ∙ is)
+    among : (entry : Entry) → entry_body (Some entry) ≡ Some body → ((path ≡ []) × (entry ≡ Dir)) ⊎ Member (path, entry) es → length body ≤ body_limit
+    among entry is (inl (root, dir)) = small_body Dir body refl (ap (λ (x : Entry). entry_body (Some x)) (sym dir) ∙ is)
     among entry is (inr m) = small_body entry body (all_member (λ f. body_fits f.1) es (path, entry) fits m) is
 
-    at : (o : Option Entry) → entry_at (tree_of es) path ≡ o → body_of o ≡ Some body → length body ≤ body_limit
+    at : (o : Option Entry) → entry_at (tree_of es) path ≡ o → entry_body o ≡ Some body → length body ≤ body_limit
     at None found is = absurd (cc)
     at (Some entry) found is = among entry is (nodes_are_entries es path entry found)

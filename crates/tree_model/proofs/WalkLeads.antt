@@ -2,7 +2,7 @@
 use Rattle.std.proofs.Common.{◌≡◌, ℕ, zero, suc, ◌-◌, ◌≤◌, List, [], ◌∷◌, ◌++◌, refl, ap, subst, inl, Option, Some, None, is_some, IsSome, arith}
 use Rattle.base_types.specs.Members.{Member}
 use Rattle.tree_model.specs.Paths.{Text, Path, parent}
-use Rattle.tree_model.specs.Trees.{body_of}
+use Rattle.tree_model.specs.Trees.{entry_body}
 use Rattle.tree_model.specs.Frame.{LocatedLeads}
 use Rattle.tree_model.specs.declared.entry.Entry.{Entry}
 use Rattle.tree_model.specs.declared.entry.Entry.TheVariants.{Dir, File, Link}
@@ -16,12 +16,12 @@ use Rattle.tree_model.proofs.WalkNodes.{walk-met}
 -- a walk that ends at a file does so at one of the lookup's
 module _ (look : Look) (real : Path) where
   abbrev EndsAtFile : Walked → Type 0
-  EndsAtFile walked = walked.end ≡ AtFile real → IsSome (body_of (look real))
+  EndsAtFile walked = walked.end ≡ AtFile real → IsSome (entry_body (look real))
 
-  file-end : (path : Path) (body : List ℕ) (rest : List Text) → look path ≡ Some (File body) → file_end path rest ≡ AtFile real → IsSome (body_of (look real))
+  file-end : (path : Path) (body : List ℕ) (rest : List Text) → look path ≡ Some (File body) → file_end path rest ≡ AtFile real → IsSome (entry_body (look real))
   file-end path body [] e f =
       let is : path ≡ real = cc in
-      subst (λ p. IsSome (body_of (look p))) is (ap (λ node. is_some (body_of node)) e)
+      subst (λ p. IsSome (entry_body (look p))) is (ap (λ node. is_some (entry_body node)) e)
   file-end path body (component ∷ rest) e f = absurd (cc)
 
   module _ (next : Path → Walked) (follow : Path → List Text → Walked)

@@ -4,14 +4,14 @@ use Rattle.base_types.specs.Members.{Member}
 use Rattle.tree_model.specs.Paths.{Text, Path, parent}
 use Rattle.tree_model.specs.declared.entry.Entry.{Entry}
 use Rattle.tree_model.specs.declared.entry.Entry.TheVariants.{Dir, File, Link}
-use Rattle.tree_model.specs.Walk.{components, Component, Stay, Up, Down, component_of, start, End, Nowhere, AtDir, AtFile, Walked, through, looking, ended, file_end, entered, taken, walk_with, walk, Look}
+use Rattle.tree_model.specs.Walk.{components, Component, Stay, Up, Down, component_of, start, End, Nowhere, AtDir, AtFile, Walked, through, looking, walk_ended, file_end, entered, taken, walk_with, walk, Look}
 
 -- what holds of every walk with at most `most` links
-module _ (tree : Look) (most : ℕ) (P : Walked → Type 0) (nowhere : P (ended Nowhere))
+module _ (tree : Look) (most : ℕ) (P : Walked → Type 0) (nowhere : P (walk_ended Nowhere))
     (passed : (path : Path) (walked : Walked) → P walked → P (through path walked))
     (sought : (path : Path) (walked : Walked) → P walked → P (looking path walked))
-    (at_dir : (dir : Path) (links : ℕ) → links ≤ most → P (ended (AtDir dir links)))
-    (at_file : (path : Path) (rest : List Text) → P (through path (ended (file_end path rest)))) where
+    (at_dir : (dir : Path) (links : ℕ) → links ≤ most → P (walk_ended (AtDir dir links)))
+    (at_file : (path : Path) (rest : List Text) → P (through path (walk_ended (file_end path rest)))) where
   entered-P : (next : Path → Walked) (follow : Path → List Text → Walked) → ((dir : Path) → P (next dir))
       → ((dir : Path) (rest : List Text) → P (follow dir rest))
       → (rest : List Text) (dir path : Path) (node : Option Entry) → P (entered next follow rest dir path node)
@@ -48,7 +48,7 @@ pub walk-file_walked : (tree : Look) (links : ℕ) (dir : Path) (list : List Tex
 walk-file_walked tree links dir list =
     walk-P tree links FileWalked (λ p e. absurd (cc)) (λ p w h q e. inr (h q e)) (λ p w h. h) (λ d l le p e. absurd (cc)) at_file links (omega arith) dir list
   where
-    at_file : (path : Path) (rest : List Text) → FileWalked (through path (ended (file_end path rest)))
+    at_file : (path : Path) (rest : List Text) → FileWalked (through path (walk_ended (file_end path rest)))
     at_file path [] q e = let is : path ≡ q = cc in inl is
     at_file path (component ∷ rest) q e = absurd (cc)
 

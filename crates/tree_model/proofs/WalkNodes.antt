@@ -3,12 +3,12 @@
 use Rattle.std.proofs.Common.{◌≡◌, ℕ, zero, suc, ◌-◌, ◌≤◌, List, [], ◌∷◌, ◌++◌, refl, sym, ◌∙◌, ap, subst, ◌⊎◌, inl, inr, Option, Some, None, Bool, true, false, cond, ◌==◌, ◌&&◌, is_some, IsSome, arith}
 use Rattle.base_types.specs.Members.{Member}
 use Rattle.tree_model.specs.Paths.{Text, Path, parent, slash, dot}
-use Rattle.tree_model.specs.Trees.{FileTree, entry_at, body_at, body_of, IsTree}
+use Rattle.tree_model.specs.Trees.{FileTree, entry_at, body_at, entry_body, IsTree}
 use Rattle.tree_model.specs.Frame.{LocatedHolds}
 use Rattle.tree_model.specs.declared.entry.Entry.{Entry}
 use Rattle.tree_model.specs.declared.entry.Entry.TheVariants.{Dir, File, Link}
 use Rattle.tree_model.specs.declared.walk.Located.{Located}
-use Rattle.tree_model.specs.Walk.{components, Component, Stay, Up, Down, component_of, start, End, Nowhere, AtDir, AtFile, Walked, through, ended, file_end, entered, taken, walk_with, walk, but_last, last_of, root_if, is_absolute, first_nodes, located_at, last_looked_up, can_locate, located_by, locate, Look}
+use Rattle.tree_model.specs.Walk.{components, Component, Stay, Up, Down, component_of, start, End, Nowhere, AtDir, AtFile, Walked, through, walk_ended, file_end, entered, taken, walk_with, walk, but_last, last_of, root_if, is_absolute, first_nodes, located_at, last_looked_up, can_locate, located_by, locate, Look}
 use Rattle.tree_model.proofs.MemberLemmas.{Member-append_left, Member-append_right, Member-append}
 use Rattle.tree_model.proofs.FrameParts.{cond_some}
 use Rattle.tree_model.proofs.WalkLemmas.{walk-file_walked, walk-left, LeftAtMost, walk-more}
@@ -81,11 +81,11 @@ module _ (tree : FileTree) (is : IsTree tree) where
   along : (from link begin : Path) (walked : Walked) → IsSome (entry_at tree link) → (begin ≡ from) ⊎ (begin ≡ []) → Stands begin walked → Stands from (through link walked)
   along from link begin walked n s h = record { met = met_first link walked.nodes n h.met; last = along_end from link begin walked.nodes walked.end s h.last }
 
-  at_file : (from path : Path) (body : List ℕ) (rest : List Text) → entry_at tree path ≡ Some (File body) → Stands from (through path (ended (file_end path rest)))
-  at_file from path body [] e = record { met = met_first path [] (is_node path (File body) e) (λ other m. elim m [ ]); last = ap (λ node. is_some (body_of node)) e }
+  at_file : (from path : Path) (body : List ℕ) (rest : List Text) → entry_at tree path ≡ Some (File body) → Stands from (through path (walk_ended (file_end path rest)))
+  at_file from path body [] e = record { met = met_first path [] (is_node path (File body) e) (λ other m. elim m [ ]); last = ap (λ node. is_some (entry_body node)) e }
   at_file from path body (component ∷ rest) e = record { met = met_first path [] (is_node path (File body) e) (λ other m. elim m [ ]); last = tt }
 
-  nowhere : (from : Path) → Stands from (ended Nowhere)
+  nowhere : (from : Path) → Stands from (walk_ended Nowhere)
   nowhere from = record { met = λ path m. elim m [ ]; last = tt }
 
   module _ (next : Path → Walked) (follow : Path → List Text → Walked)

@@ -2,7 +2,7 @@
 use Rattle.std.specs.Prelude.{◌≡◌, ◌⊎◌, ℕ, List, [], ◌∷◌, ◌++◌, Some, None, IsSome}
 use Rattle.base_types.specs.Members.{Member}
 use Rattle.tree_model.specs.Paths.{Text, Path}
-use Rattle.tree_model.specs.Trees.{FileTree, entry_at, body_at, body_of, IsTree, Sub}
+use Rattle.tree_model.specs.Trees.{FileTree, entry_at, body_at, entry_body, IsTree, Sub}
 use Rattle.tree_model.specs.Walk.{Look, components, start, End, Nowhere, AtDir, AtFile, walk, but_last, last_of, located_by, locate}
 use Rattle.tree_model.specs.declared.entry.Entry.TheVariants.{Dir}
 use Rattle.tree_model.specs.declared.walk.Located.{Located}
@@ -27,7 +27,7 @@ pub record LocatedLeads (look : Look) (dir : Path) (text : Text) (l : Located) :
   pub first : Member dir l.walked
   pub real : Member l.real l.walked
   pub place : Member l.place l.walked
-  pub file : IsSome (body_of (look l.real))
+  pub file : IsSome (entry_body (look l.real))
   pub up : Path
   pub below : l.place ≡ last_of (components text) ∷ up
   pub leads : (walk look 40 up (last_of (components text) ∷ [])).end ≡ AtFile l.real

@@ -51,15 +51,15 @@ abbrev pub IsSpelling : Text → Type 0
 IsSpelling text = IsCanonical (names_of text) × (spelled (names_of text) ≡ text)
 
 -- a byte may stand in a name
-abbrev pub is_name_byte : ℕ → Bool
-is_name_byte b = not (b == slash) && not (b == 0)
+abbrev pub is_file_name_byte : ℕ → Bool
+is_file_name_byte b = not (b == slash) && not (b == 0)
 
 abbrev pub is_dots : Text → Bool
 is_dots name = pointwise nat_eq name (dot ∷ []) || pointwise nat_eq name (dot ∷ dot ∷ [])
 
 -- the test of a name
 abbrev pub is_name : Text → Bool
-is_name name = nat_lt 0 (length name) && (nat_le (length name) 255 && (list_all is_name_byte name && not (is_dots name)))
+is_name name = nat_lt 0 (length name) && (nat_le (length name) 255 && (list_all is_file_name_byte name && not (is_dots name)))
 
 -- the test of a canonical path
 abbrev pub is_canonical : Path → Bool

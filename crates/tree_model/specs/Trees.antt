@@ -51,17 +51,17 @@ by_bytes text [] = None
 by_bytes text (e ∷ es) = cond (pointwise nat_eq (spelled e.0) text) (Some e.1) (by_bytes text es)
 
 -- a node without a file's bytes
-abbrev pub shown : Entry → Node
-shown Dir = node.Dir
-shown (File body) = node.File
-shown (Link text) = node.Link text
+abbrev pub node_of_entry : Entry → Node
+node_of_entry Dir = node.Dir
+node_of_entry (File body) = node.File
+node_of_entry (Link text) = node.Link text
 
 -- the bytes of a file
-abbrev pub body_of : Option Entry → Option Text
-body_of None = None
-body_of (Some Dir) = None
-body_of (Some (File body)) = Some body
-body_of (Some (Link text)) = None
+abbrev pub entry_body : Option Entry → Option Text
+entry_body None = None
+entry_body (Some Dir) = None
+entry_body (Some (File body)) = Some body
+entry_body (Some (Link text)) = None
 
 -- a node is a symbolic link
 abbrev pub is_link : Option Entry → Bool
@@ -76,10 +76,10 @@ IsLinkAt tree path = IsTrue (is_link (entry_at tree path))
 
 -- what a tree shows of a path: its node without bytes, or its bytes
 abbrev pub node_at : FileTree → Path → Option Node
-node_at tree path = option_map shown (entry_at tree path)
+node_at tree path = option_map node_of_entry (entry_at tree path)
 
 abbrev pub body_at : FileTree → Path → Option Text
-body_at tree path = body_of (entry_at tree path)
+body_at tree path = entry_body (entry_at tree path)
 
 -- the greatest length of a file's body that is read
 abbrev pub body_limit : ℕ

@@ -49,8 +49,8 @@ through path walked = record { end = walked.end; nodes = path ∷ walked.nodes; 
 abbrev pub looking : Path → Walked → Walked
 looking path walked = record { end = walked.end; nodes = walked.nodes; looked = path ∷ walked.looked }
 
-abbrev pub ended : End → Walked
-ended end = record { end = end; nodes = []; looked = [] }
+abbrev pub walk_ended : End → Walked
+walk_ended end = record { end = end; nodes = []; looked = [] }
 
 -- a File ends a walk, and a component after it ends the walk without success
 abbrev pub file_end : Path → List Text → End
@@ -61,12 +61,12 @@ file_end path (component ∷ rest) = Nowhere
 -- components left, and `follow` does so with a link less, the link's text in the link's place
 abbrev pub beyond : (next : Path → Walked) → (follow : Path → List Text → Walked) → List Text → Path → Path → Entry → Walked
 beyond next follow rest dir path Dir = next path
-beyond next follow rest dir path (File body) = ended (file_end path rest)
+beyond next follow rest dir path (File body) = walk_ended (file_end path rest)
 beyond next follow rest dir path (Link text) = follow (start dir text) (components text ++ rest)
 
 -- the walk at the name's node in a directory, if there is one
 abbrev pub entered : (next : Path → Walked) → (follow : Path → List Text → Walked) → List Text → Path → Path → Option Entry → Walked
-entered next follow rest dir path None = ended Nowhere
+entered next follow rest dir path None = walk_ended Nowhere
 entered next follow rest dir path (Some node) = through path (beyond next follow rest dir path node)
 
 -- what stands at each path
@@ -81,11 +81,11 @@ taken look next follow rest dir (Down name) = looking (name ∷ dir) (entered ne
 
 -- the walk from a directory through components, with so many links left
 unfoldable pub walk_with : Look → ℕ → (follow : Path → List Text → Walked) → Path → List Text → Walked
-walk_with look links follow dir [] = ended (AtDir dir links)
+walk_with look links follow dir [] = walk_ended (AtDir dir links)
 walk_with look links follow dir (component ∷ rest) = taken look (λ next. walk_with look links follow next rest) follow rest dir (component_of component)
 
 unfoldable pub walk : Look → ℕ → Path → List Text → Walked
-walk look zero = walk_with look zero (λ dir rest. ended Nowhere)
+walk look zero = walk_with look zero (λ dir rest. walk_ended Nowhere)
 walk look (suc links) = walk_with look (suc links) (walk look links)
 
 -- all components but the last, and the last

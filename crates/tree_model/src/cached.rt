@@ -3,7 +3,7 @@ ghost use Rattle.std.specs.Prelude.{◌≡◌, Option, None, Some, IfOk, IfSome,
 ghost use Rattle.std.specs.Option.{ForSome};
 ghost use Rattle.base_types.specs.Causes.{HasCause, raised};
 ghost use Rattle.tree_model.specs.Paths.{Path};
-ghost use Rattle.tree_model.specs.parts.Remembered.{Known, known_in, IsTrueOf, IsTrueOf-prop};
+ghost use Rattle.tree_model.specs.parts.Remembered.{RememberedNodes, known_in, IsTrueOf, IsTrueOf-prop};
 ghost use Rattle.tree_model.specs.Trees.{FileTree, node_at, body_at, IsNode, IsBody, IsTooLarge};
 ghost use Rattle.tree_model.specs.declared.entry.Node.{Node};
 
@@ -18,7 +18,7 @@ pub trait Remembers<T> {
     ghost inner: { Self → T };
 
     /// The answer that is remembered at each path, where there is one.
-    ghost known: { Self → Known };
+    ghost known: { Self → RememberedNodes };
 }
 
 /// A tree that remembers the nodes that its inner tree answered. It asks the inner tree for a path's node only where

@@ -2,7 +2,7 @@
 ghost use Rattle.std.specs.Prelude.{◌≡◌, ◌<◌, length, IfOk, OnErr, IsErrOf, Err, IsTrue, Some};
 ghost use Rattle.tree_model.specs.Paths.{Text};
 ghost use Rattle.tree_model.specs.Trees as trees;
-ghost use Rattle.tree_model.specs.Trees.{body_limit, body_of, is_link, IsBody};
+ghost use Rattle.tree_model.specs.Trees.{body_limit, entry_body, is_link, IsBody};
 ghost use Rattle.tree_model.specs.declared.entry.Node.TheVariants.{Link};
 
 use crate::TreeError;
@@ -34,7 +34,7 @@ const BODY_LIMIT: usize = 16_777_216;
 impl Entry {
     /// The node without a file's bytes. A link's text is copied: `Memory` alone is an error, and only of a link.
     pub fn shown(&self, alloc: Global) -> Result<Node, TreeError>
-        ensures ok { IfOk result (λ node. node ≡ trees.shown self.now) }
+        ensures ok { IfOk result (λ node. node ≡ trees.node_of_entry self.now) }
         ensures err { (e : _) → result ≡ Err e → e ≡ TreeError.Memory }
         ensures links { OnErr result (IsTrue (is_link (Some self.now))) }
     {
@@ -48,9 +48,9 @@ impl Entry {
     /// A copy of a file's bytes, or None where this is no file. Only of a file an error comes: `Large` where it has more
     /// bytes than are read, else `Memory`.
     pub(crate) fn body(&self, alloc: Global) -> Result<Option<Bytes>, TreeError>
-        ensures ok { IfOk result (λ got. got ≡ body_of (Some self.now)) }
+        ensures ok { IfOk result (λ got. got ≡ entry_body (Some self.now)) }
         ensures form { IfOk result IsBody }
-        ensures large { IsErrOf result TreeError.Large → (body : Text) × (body_of (Some self.now) ≡ Some body) × (body_limit < length body) }
+        ensures large { IsErrOf result TreeError.Large → (body : Text) × (entry_body (Some self.now) ≡ Some body) × (body_limit < length body) }
         ensures no_fault { IsErrOf result TreeError.Fault → ⊥ }
     {
         match self {

@@ -40,14 +40,14 @@ const NAME_LIMIT: usize = 255;
 
 // A byte may stand in a name.
 fn is_name_byte(b: u8) -> bool
-    ensures { result ≡ paths.is_name_byte b }
+    ensures { result ≡ paths.is_file_name_byte b }
 {
     b != b'/' && b != 0
 }
 
 // All bytes may stand in a name.
 fn are_name_bytes(text: &[u8]) -> bool
-    ensures { result ≡ list_all paths.is_name_byte text.now }
+    ensures { result ≡ list_all paths.is_file_name_byte text.now }
 {
     for b in text {
         if !is_name_byte(*b) {
@@ -122,7 +122,7 @@ fn roomy(alloc: Global, text: &[u8], room: usize) -> Result<Vec<u8>, AllocError>
 
 // What stands before the last slash.
 fn before_last(text: &[u8]) -> &[u8]
-    ensures { (above name : List ℕ) → IsTrue (list_all paths.is_name_byte name) → text.now ≡ above ++ slash ∷ name → result.now ≡ above }
+    ensures { (above name : List ℕ) → IsTrue (list_all paths.is_file_name_byte name) → text.now ≡ above ++ slash ∷ name → result.now ≡ above }
 {
     let mut end = text.len();
     while 0 < end {

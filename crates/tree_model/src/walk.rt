@@ -11,7 +11,7 @@ ghost use Rattle.base_types.specs.Causes.{HasCause};
 ghost use Rattle.tree_model.specs.Paths.{slash};
 ghost use Rattle.tree_model.specs.Trees.{FileTree, entry_at};
 ghost use Rattle.tree_model.specs.Walk as walks;
-ghost use Rattle.tree_model.specs.Walk.{Look, components, but_last, last_of, component_of, entered, located_in, walk, ended, is_absolute};
+ghost use Rattle.tree_model.specs.Walk.{Look, components, but_last, last_of, component_of, entered, located_in, walk, walk_ended, is_absolute};
 ghost use Rattle.tree_model.specs.parts.Steps.{GoesOn, components_left, asked, onward, followed, end_of};
 
 use crate::{CanonPath, Node, Tree, TreeError};
@@ -300,7 +300,7 @@ fn walk_on<T: Tree>(
     walked: &mut List<CanonPath>,
 ) -> Result<Stop, TreeError>
     ensures same { T.told tree.new ≡ T.told tree.old }
-    ensures stop { IfOk result (λ stop. ForSome (T.told tree.old) (λ told. GoesOn walked.old (walk (entry_at told) links dir (components_left (option_map (λ t. t.now) rest.entry))) walked.new (ended (end_of stop)))) }
+    ensures stop { IfOk result (λ stop. ForSome (T.told tree.old) (λ told. GoesOn walked.old (walk (entry_at told) links dir (components_left (option_map (λ t. t.now) rest.entry))) walked.new (walk_ended (end_of stop)))) }
     ensures cause { HasCause TreeError.Fault (T.faults tree.old) (T.faults tree.new) result }
     ensures never_large { IsErrOf result TreeError.Large → ⊥ }
     ensures no_read { T.reads tree.new ≡ T.reads tree.old }

@@ -11,14 +11,14 @@ use Rattle.tree_model.specs.declared.entry.Node.{Node}
 use Rattle.tree_model.specs.declared.entry.Node.TheVariants.{Dir, File, Link}
 
 -- the answer that is remembered at each path, where there is one
-abbrev pub Known : Type 0
-Known = Path → Option (Option Node)
+abbrev pub RememberedNodes : Type 0
+RememberedNodes = Path → Option (Option Node)
 
-abbrev pub known_in : {S : Type 0} → HashMap Path (Option Node) S → Known
+abbrev pub known_in : {S : Type 0} → HashMap Path (Option Node) S → RememberedNodes
 known_in answers = get is_same_path answers
 
 -- every answer is one that a tree may show, and where a tree is told, the one that it shows at the path
-pub record IsTrueOf (told : Option FileTree) (known : Known) : Type 0 where
+pub record IsTrueOf (told : Option FileTree) (known : RememberedNodes) : Type 0 where
   pub form : (path : Path) (got : Option Node) → known path ≡ Some got → IsNode got
   pub same : (path : Path) (got : Option Node) → known path ≡ Some got → (tree : FileTree) → told ≡ Some tree → got ≡ node_at tree path
 
@@ -51,5 +51,5 @@ is_node-prop : (got : Option Node) → IsProp (IsNode got)
 is_node-prop None = hlevel props
 is_node-prop (Some node) = fits-prop node
 
-pub IsTrueOf-prop : (told : Option FileTree) (known : Known) → IsProp (IsTrueOf told known)
+pub IsTrueOf-prop : (told : Option FileTree) (known : RememberedNodes) → IsProp (IsTrueOf told known)
 IsTrueOf-prop told known = hlevel (props, Coded-set (coded_option node_code), is_node-prop)

@@ -1,7 +1,7 @@
 -- How the steps of a program go on as a walk does.
 use Rattle.std.specs.Prelude.{◌≡◌, ℕ, zero, suc, List, [], ◌++◌, Option, Some, None}
 use Rattle.tree_model.specs.Paths.{Text, Path}
-use Rattle.tree_model.specs.Walk.{Look, components, Component, Stay, Up, Down, End, Nowhere, AtDir, AtFile, Walked, ended, file_end, walk}
+use Rattle.tree_model.specs.Walk.{Look, components, Component, Stay, Up, Down, End, Nowhere, AtDir, AtFile, Walked, walk_ended, file_end, walk}
 use Rattle.tree_model.specs.declared.walk.Step.{Step}
 use Rattle.tree_model.specs.declared.walk.Step.TheVariants as step
 use Rattle.tree_model.specs.declared.walk.Stop.{Stop}
@@ -28,14 +28,14 @@ pub record GoesOn (before : List Path) (whole : Walked) (noted : List Path) (lef
 
 -- the walk from where a link's text begins, with a link less
 abbrev pub followed : Look → ℕ → Path → List Text → Walked
-followed look zero dir list = ended Nowhere
+followed look zero dir list = walk_ended Nowhere
 followed look (suc links) dir list = walk look links dir list
 
 -- the walk that is left behind a step, with so many links and the components left
 abbrev pub onward : Look → ℕ → List Text → Step → Walked
-onward look links rest step.Nowhere = ended Nowhere
+onward look links rest step.Nowhere = walk_ended Nowhere
 onward look links rest (step.Dir path) = walk look links path rest
-onward look links rest (step.File path) = ended (file_end path rest)
+onward look links rest (step.File path) = walk_ended (file_end path rest)
 onward look links rest (step.Link dir text) = followed look links dir (components text ++ rest)
 
 -- the end of a walk that stopped

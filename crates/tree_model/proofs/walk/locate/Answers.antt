@@ -3,7 +3,7 @@ use Rattle.std.specs.Option.{option_map}
 use Rattle.std.proofs.lemmas.Bool.{eqb-true, eqb-false}
 use Rattle.std.proofs.lemmas.Result.{IfOk-weaker}
 use Rattle.tree_model.specs.Trees.{entry_at}
-use Rattle.tree_model.specs.Walk.{components, last_of, first_nodes, walk, start, ended}
+use Rattle.tree_model.specs.Walk.{components, last_of, first_nodes, walk, start, walk_ended}
 use Rattle.tree_model.specs.parts.Steps.{GoesOn, components_left, end_of}
 use Rattle.tree_model.proofs.StepLemmas.{if_each, refused, from_dir, from_elsewhere, begun}
 use Rattle.tree_model.proofs.walk.locate.Goals as goal
@@ -27,8 +27,8 @@ returns-in-Dir-clause-found g c =
     c.if-text-gt-TEXT_LIMIT.false
     (λ z. eqb-false (length c.cut_last.result.1.now) 0 (sym c.if-is_empty.ensures) (ap length c.cut_last.ensures.name ∙ z))
     c.cut_last.ensures.head c.cut_last.ensures.name
-    (subst (λ s. GoesOn (first_nodes c.args.dir.now c.args.text.now) (walk (entry_at told) 40 (start c.args.dir.now c.args.text.now) head) c.walk_on.new.walked (ended (end_of s))) c.in-Dir.is
-    (begun (entry_at told) c.args.dir.now c.args.text.now head c.in_ok-walked.walked c.walk_on.new.walked c.in_ok-from.from (ended (end_of c.in_ok-last.field-0))
+    (subst (λ s. GoesOn (first_nodes c.args.dir.now c.args.text.now) (walk (entry_at told) 40 (start c.args.dir.now c.args.text.now) head) c.walk_on.new.walked (walk_ended (end_of s))) c.in-Dir.is
+    (begun (entry_at told) c.args.dir.now c.args.text.now head c.in_ok-walked.walked c.walk_on.new.walked c.in_ok-from.from (walk_ended (end_of c.in_ok-last.field-0))
     c.in_ok-walked.ensures c.in_ok-from.ensures (c.in_ok-last.ensures.stop told is)))))
     c.locate_last.ensures.found
 
@@ -39,7 +39,7 @@ returns-in_default g c =
       same = search rules;
       found = if_each (g.T.Tree.told c.args.tree.now) _ (λ told is.
           from_elsewhere (entry_at told) c.args.dir.now c.args.text.now head c.walk_on.new.walked c.in_ok-last.field-0 c.cut_last.ensures.head c.in_default.not-Dir
-          (begun (entry_at told) c.args.dir.now c.args.text.now head c.in_ok-walked.walked c.walk_on.new.walked c.in_ok-from.from (ended (end_of c.in_ok-last.field-0))
+          (begun (entry_at told) c.args.dir.now c.args.text.now head c.in_ok-walked.walked c.walk_on.new.walked c.in_ok-from.from (walk_ended (end_of c.in_ok-last.field-0))
           c.in_ok-walked.ensures c.in_ok-from.ensures (c.in_ok-last.ensures.stop told is)));
       cause = search rules;
       never_large = search rules;
