@@ -32,9 +32,9 @@ setup_writes setup =
     (setup.cwd ∷ [])
     ++ (fed.slice (λ text. text ∷ []) setup.quote ++ (fed.slice (λ text. text ∷ []) setup.bracket ++ fed.bool setup.trigraphs))
 
-same_parts : (one other : SetupData) (a b c d : Bool) → Decides a (one.cwd ≡ other.cwd) → Decides b (one.quote ≡ other.quote) → Decides c (one.bracket ≡ other.bracket) → Decides d (one.trigraphs ≡ other.trigraphs)
+same_setup_parts : (one other : SetupData) (a b c d : Bool) → Decides a (one.cwd ≡ other.cwd) → Decides b (one.quote ≡ other.quote) → Decides c (one.bracket ≡ other.bracket) → Decides d (one.trigraphs ≡ other.trigraphs)
     → (a && (b && (c && d))) ≡ true → one ≡ other
-same_parts one other a b c d cwd quote bracket trigraphs all i =
+same_setup_parts one other a b c d cwd quote bracket trigraphs all i =
     let rest = second_so a (b && (c && d)) all in
     let last = second_so b (c && d) rest in
     setup_of (cwd.0 (first_so a (b && (c && d)) all) i) (quote.0 (first_so b (c && d) rest) i) (bracket.0 (first_so c d last) i) (trigraphs.0 (second_so c d last) i)
@@ -49,7 +49,7 @@ is_own_setup setup i =
 
 pub is_same_setup-Decides : (one other : SetupData) → Decides (is_same_setup one other) (one ≡ other)
 is_same_setup-Decides one other = (
-  same_parts one other _ _ _ _ (bytes_decides one.cwd other.cwd) (texts_decide one.quote other.quote) (texts_decide one.bracket other.bracket) (booleans_Decides one.trigraphs other.trigraphs),
+  same_setup_parts one other _ _ _ _ (bytes_decides one.cwd other.cwd) (texts_decide one.quote other.quote) (texts_decide one.bracket other.bracket) (booleans_Decides one.trigraphs other.trigraphs),
   λ e. subst (λ setup. is_same_setup one setup ≡ true) e (is_own_setup one),
 )
 
@@ -94,8 +94,8 @@ own_found Absolute = refl
 own_found Here = refl
 own_found (Chain k) = (unsigned_Decides k k).1 refl
 
-same_visit : (one other : Visit) → is_same_visit one other ≡ true → one ≡ other
-same_visit one other h i =
+visits_same : (one other : Visit) → is_same_visit one other ≡ true → one ≡ other
+visits_same one other h i =
     let place = first_so (is_same_path one.place other.place) (is_same_found one.found other.found) h in
     let found = second_so (is_same_path one.place other.place) (is_same_found one.found other.found) h in
     record { place = (is_same_path-Decides one.place other.place).0 place i; found = same_found one.found other.found found i }
@@ -107,4 +107,4 @@ abbrev pub VisitsDecide : Type 0
 VisitsDecide = (one other : Visit) → Decides (is_same_visit one other) (one ≡ other)
 
 pub is_same_visit-Decides : VisitsDecide
-is_same_visit-Decides one other = (same_visit one other, λ e. subst (λ visit. is_same_visit one visit ≡ true) e (own_visit one))
+is_same_visit-Decides one other = (visits_same one other, λ e. subst (λ visit. is_same_visit one visit ≡ true) e (own_visit one))
