@@ -6,7 +6,7 @@ use Rattle.std.proofs.lemmas.Bool.{le-leb}
 use Rattle.tree_model.specs.Paths.{Text}
 use Rattle.tree_model.specs.Entries.{body_fits}
 use Rattle.tree_model.specs.declared.entry.Entry.TheVariants.{File}
-use Rattle.tree_gen.specs.Generated.{header_text, include_line, job_line, job_lines, macro_lines, own_header, source_text}
+use Rattle.tree_gen.specs.Generated.{header_text, half_include_line, job_line, job_lines, macro_lines, own_header, source_file_text}
 use Rattle.tree_gen.proofs.Counted.{texts_short}
 use Rattle.tree_gen.proofs.Paths.{short_decimal}
 
@@ -27,7 +27,7 @@ chosen : (t : Bool) (a : Text) (n : ℕ) → length a ≤ n → length (cond t [
 chosen true a n h = omega arith
 chosen false a n h = h
 
-include_short : (k : ℕ) → k < 100000 → length (include_line k) ≤ 100
+include_short : (k : ℕ) → k < 100000 → length (half_include_line k) ≤ 100
 include_short k h =
     let half : k / 2 < 100000 = omega (arith, h) in
     let line = before (codes "#include \"h") (number_before (k / 2) half (written (codes ".h\"\n"))) in
@@ -42,17 +42,17 @@ macro_short k h =
 
 pub header_fits : (k : ℕ) → k < 100000 → body_fits (File (header_text k)) ≡ true
 header_fits k h =
-    let first = length-append (codes "#pragma once\n") (include_line k ++ macro_lines k) in
-    let rest = length-append (include_line k) (macro_lines k) in
+    let first = length-append (codes "#pragma once\n") (half_include_line k ++ macro_lines k) in
+    let rest = length-append (half_include_line k) (macro_lines k) in
     le-leb (length (header_text k)) 16777216 (omega (arith, first, rest, include_short k h, macro_short k h))
 
-pub source_fits : (j : ℕ) → j < 20000 → body_fits (File (source_text j)) ≡ true
+pub source_fits : (j : ℕ) → j < 20000 → body_fits (File (source_file_text j)) ≡ true
 source_fits j h =
     let own : own_header j < 100000 = omega (arith, h) in
     let small : j < 100000 = omega (arith, h) in
     let use_line = before (codes ".h\"\nint s") (number_before j small (before (codes " = V") (number_before (own_header j) own (written (codes ";\n"))))) in
     let text = before (codes "#define H <h") (number_before (own_header j) own (before (codes ".h>\n#include H\n#include \"h") (number_before j small use_line))) in
-    le-leb (length (source_text j)) 16777216 (omega (arith, text.bytes))
+    le-leb (length (source_file_text j)) 16777216 (omega (arith, text.bytes))
 
 line_short : (j : ℕ) → j < 100000 → length (job_line j) ≤ 60
 line_short j h =

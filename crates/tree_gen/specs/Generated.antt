@@ -18,15 +18,15 @@ header_dir = codes "h" ∷ top
 abbrev pub source_dir : Path
 source_dir = codes "s" ∷ top
 
-abbrev pub header_name : ℕ → Text
-header_name k = codes "h" ++ (decimal k ++ codes ".h")
+abbrev pub header_file_name : ℕ → Text
+header_file_name k = codes "h" ++ (decimal k ++ codes ".h")
 
 abbrev pub source_name : ℕ → Text
 source_name j = codes "s" ++ (decimal j ++ codes ".c")
 
 -- each header but the first includes the one of half its number
-abbrev pub include_line : ℕ → Text
-include_line k = cond (k == 0) [] (codes "#include \"h" ++ (decimal (k / 2) ++ codes ".h\"\n"))
+abbrev pub half_include_line : ℕ → Text
+half_include_line k = cond (k == 0) [] (codes "#include \"h" ++ (decimal (k / 2) ++ codes ".h\"\n"))
 
 -- a header's macro, which names one of three macros of the command line, and the function that returns it
 abbrev pub macro_lines : ℕ → Text
@@ -35,23 +35,23 @@ macro_lines k =
     ++ (codes ")\nint v" ++ (decimal k ++ (codes "(void) { return V" ++ (decimal k ++ codes "; }\n")))))))))
 
 abbrev pub header_text : ℕ → Text
-header_text k = codes "#pragma once\n" ++ (include_line k ++ macro_lines k)
+header_text k = codes "#pragma once\n" ++ (half_include_line k ++ macro_lines k)
 
 -- the last of the four headers that are the source's own
 abbrev pub own_header : ℕ → ℕ
 own_header j = 4 * j + 3
 
 -- a source includes its own header by a macro, the header of its own number, and uses its own header's macro
-abbrev pub source_text : ℕ → Text
-source_text j =
+abbrev pub source_file_text : ℕ → Text
+source_file_text j =
     codes "#define H <h" ++ (decimal (own_header j) ++ (codes ".h>\n#include H\n#include \"h" ++ (decimal j ++ (codes ".h\"\nint s"
     ++ (decimal j ++ (codes " = V" ++ (decimal (own_header j) ++ codes ";\n")))))))
 
 abbrev pub header : ℕ → Path × Entry
-header k = (header_name k ∷ header_dir, File (header_text k))
+header k = (header_file_name k ∷ header_dir, File (header_text k))
 
 abbrev pub source : ℕ → Path × Entry
-source j = (source_name j ∷ source_dir, File (source_text j))
+source j = (source_name j ∷ source_dir, File (source_file_text j))
 
 -- the nodes: three directories, four headers for each source, and the sources
 abbrev pub nodes : ℕ → Entries

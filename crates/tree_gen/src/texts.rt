@@ -17,7 +17,7 @@ pub(crate) fn header_text(alloc: Global, number: u32) -> Result<Bytes, AllocErro
 
 // The directive that includes the header of half the number.
 fn add_include(alloc: Global, text: &mut Vec<u8>, number: u32) -> Result<(), AllocError>
-    ensures { OnOk result (text.new.items ≡ text.old.items ++ made.include_line number) }
+    ensures { OnOk result (text.new.items ≡ text.old.items ++ made.half_include_line number) }
 {
     if number == 0 {
         return Ok(());
@@ -41,7 +41,7 @@ fn add_macro(alloc: Global, text: &mut Vec<u8>, number: u32) -> Result<(), Alloc
 /// The text of a source.
 pub(crate) fn source_text(alloc: Global, number: u32) -> Result<Bytes, AllocError>
     requires { number ≤ 5000 }
-    ensures { IfOk result (λ text. text ≡ made.source_text number) }
+    ensures { IfOk result (λ text. text ≡ made.source_file_text number) }
 {
     let own = 4 * number + 3;
     let text = format!(in alloc;
