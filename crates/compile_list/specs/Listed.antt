@@ -5,7 +5,7 @@ use Rattle.std.specs.Option.{option_map, is_none}
 use Rattle.bstr.specs.Text.{lines_of, without_terminator}
 use Rattle.tree_model.specs.Paths.{Text}
 use Rattle.job_words.specs.declared.job.Job.{Job}
-use Rattle.job_words.specs.Words.{reading}
+use Rattle.job_words.specs.Words.{job_reading}
 use Rattle.job_words.specs.declared.reading.WordError.{WordError}
 use Rattle.compile_list.specs.declared.refused.ListError.{ListError}
 use Rattle.compile_list.specs.declared.refused.ListWhy.{ListWhy}
@@ -66,7 +66,7 @@ with_read jobs (Ok job) = if is_taken job.output jobs then Err Output else Ok (j
 abbrev pub with_words : List Job → Option (List Text) → Result (List Job) ListWhy
 with_words jobs None = Err Escape
 with_words jobs (Some []) = Ok jobs
-with_words jobs (Some (cwd ∷ words)) = if nat_le 20000 (length jobs) then Err Limit else with_read jobs (reading cwd words)
+with_words jobs (Some (cwd ∷ words)) = if nat_le 20000 (length jobs) then Err Limit else with_read jobs (job_reading cwd words)
 
 -- the jobs of the lines in front of a line, and its own, if it gives one; or why it is refused
 abbrev pub with_line : List Job → Text → Result (List Job) ListWhy

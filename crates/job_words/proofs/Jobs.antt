@@ -9,7 +9,7 @@ use Rattle.job_words.specs.declared.given.Given.{Given}
 use Rattle.job_words.specs.declared.given.Taker.{Taker}
 use Rattle.job_words.specs.declared.reading.WordError.{WordError}
 use Rattle.job_words.specs.declared.reading.WordError.TheVariants.{Cwd, Limit}
-use Rattle.job_words.specs.Words.{Onward, Word, Takes, Trigraphs, NoEffect, Source, NotKnown, give, and_then, at_source, at_word, read_on, nothing, word_of, word_without_operand, has_no_effect, finished, with_source, job_in, is_directory, are_short, reading, job_of, job_given, IsWord, JobsKeepWords, JobsAreShort}
+use Rattle.job_words.specs.Words.{ReadBehind, Word, Takes, Trigraphs, NoEffect, Source, NotKnown, give, read_and_then, at_source, at_word, read_on, nothing, word_of, word_without_operand, has_no_effect, finished_job, with_source, job_in, is_directory, are_short, job_reading, job_of, job_given, IsWord, JobsKeepWords, JobsAreShort}
 
 -- the reading that a job comes from
 job-read : (r : Result JobData WordError) (job : JobData) → job_given r ≡ Some job → r ≡ Ok job
@@ -20,17 +20,17 @@ job-read (Err why) job e = absurd (cc)
 record IsRead (cwd : Text) (words : List Text) (job : JobData) : Type 0 where
   place : is_directory cwd ≡ true
   few : are_short words ≡ true
-  whole : finished cwd words (read_on None words nothing) ≡ Ok job
+  whole : finished_job cwd words (read_on None words nothing) ≡ Ok job
 
 parts_by : (cwd : Text) (words : List Text) (job : JobData) (a b : Bool) → is_directory cwd ≡ a → are_short words ≡ b
-    → (if not a then Err Cwd else (if not b then Err Limit else finished cwd words (read_on None words nothing))) ≡ Ok job → IsRead cwd words job
+    → (if not a then Err Cwd else (if not b then Err Limit else finished_job cwd words (read_on None words nothing))) ≡ Ok job → IsRead cwd words job
 parts_by cwd words job true true p q e = record { place = p; few = q; whole = e }
 parts_by cwd words job true false p q e = absurd (cc)
 parts_by cwd words job false b p q e = absurd (cc)
 
 parts : (cwd : Text) (words : List Text) (job : JobData) → job_of cwd words ≡ Some job → IsRead cwd words job
-unfolding job_of reading
-parts cwd words job e = parts_by cwd words job (is_directory cwd) (are_short words) refl refl (job-read (reading cwd words) job e)
+unfolding job_of job_reading
+parts cwd words job e = parts_by cwd words job (is_directory cwd) (are_short words) refl refl (job-read (job_reading cwd words) job e)
 
 kept-with : (cwd : Text) (words : List Text) (source : Option Text) (given : Given) (job : JobData) → with_source cwd words source given ≡ Ok job → (job.setup.cwd ≡ cwd) × (job.words ≡ words)
 kept-with cwd words None given job e = absurd (cc)
@@ -44,7 +44,7 @@ kept-with cwd words (Some source) given job e = (sym (ap (λ r. job_cwd r) e), s
     job_words (Ok j) = j.words
     job_words (Err why) = words
 
-kept : (cwd : Text) (words : List Text) (r : Result Given WordError) (job : JobData) → finished cwd words r ≡ Ok job → (job.setup.cwd ≡ cwd) × (job.words ≡ words)
+kept : (cwd : Text) (words : List Text) (r : Result Given WordError) (job : JobData) → finished_job cwd words r ≡ Ok job → (job.setup.cwd ≡ cwd) × (job.words ≡ words)
 kept cwd words (Ok given) job e = kept-with cwd words given.source given job e
 kept cwd words (Err why) job e = absurd (cc)
 
@@ -54,12 +54,12 @@ keeps-words cwd words job e = kept cwd words (read_on None words nothing) job (p
 -- ---- lengths ----
 
 -- an operand that isn't refused is read on behind
-on-given : (onward : Given → Result Given WordError) (given : Result Given WordError) (all : Given) → and_then onward given ≡ Ok all → (more : Given) × (onward more ≡ Ok all)
+on-given : (onward : Given → Result Given WordError) (given : Result Given WordError) (all : Given) → read_and_then onward given ≡ Ok all → (more : Given) × (onward more ≡ Ok all)
 on-given onward (Ok more) all e = (more, e)
 on-given onward (Err why) all e = absurd (cc)
 
 -- a step that ends well goes on behind its word
-goes-on : (next : Onward) (word : Word) (given all : Given) → at_word next word given ≡ Ok all → (waiting : Option Taker) × ((more : Given) × (next waiting more ≡ Ok all))
+goes-on : (next : ReadBehind) (word : Word) (given all : Given) → at_word next word given ≡ Ok all → (waiting : Option Taker) × ((more : Given) × (next waiting more ≡ Ok all))
 goes-on next (Takes taker []) given all e = (Some taker, (given, e))
 goes-on next (Takes taker (b ∷ text)) given all e = (None, on-given (next None) (give taker (b ∷ text) given) all e)
 goes-on next Trigraphs given all e = (None, (_, e))
@@ -90,7 +90,7 @@ each-word (word ∷ words) some short =
     let both = and_parts (nat_le (length word) 4096) _ short in
     ((some.0, leb-true (length word) 4096 both.0), each-word words some.1 both.1)
 
-given-of : (cwd : Text) (words : List Text) (r : Result Given WordError) (job : JobData) → finished cwd words r ≡ Ok job → (given : Given) × (r ≡ Ok given)
+given-of : (cwd : Text) (words : List Text) (r : Result Given WordError) (job : JobData) → finished_job cwd words r ≡ Ok job → (given : Given) × (r ≡ Ok given)
 given-of cwd words (Ok given) job e = (given, refl)
 given-of cwd words (Err why) job e = absurd (cc)
 
@@ -116,10 +116,10 @@ are-short cwd words job e =
 -- ---- the job of a reading ----
 
 -- a job that was put together from what the words give
-pub job-of-parts : (cwd : Text) (words : List Text) (source : Text) (given : Given) (job : JobData) → reading cwd words ≡ with_source cwd words given.source given → given.source ≡ Some source → job ≡ job_in cwd words source given
+pub job-of-parts : (cwd : Text) (words : List Text) (source : Text) (given : Given) (job : JobData) → job_reading cwd words ≡ with_source cwd words given.source given → given.source ≡ Some source → job ≡ job_in cwd words source given
     → job_of job.setup.cwd job.words ≡ Some job
 unfolding job_of
 job-of-parts cwd words source given job read some is =
     let P : JobData → Type 0 = λ j. job_of j.setup.cwd j.words ≡ Some j in
-    let whole : reading cwd words ≡ Ok (job_in cwd words source given) = read ∙ ap (λ s. with_source cwd words s given) some in
+    let whole : job_reading cwd words ≡ Ok (job_in cwd words source given) = read ∙ ap (λ s. with_source cwd words s given) some in
     subst P (sym is) (ap job_given whole)

@@ -8,16 +8,16 @@ use Rattle.job_words.specs.declared.given.Taker.{Taker}
 use Rattle.job_words.specs.declared.reading.WordError.{WordError}
 use Rattle.job_words.specs.declared.reading.WordError.TheVariants.{Memory}
 use Rattle.job_words.specs.declared.given.Taker.TheVariants.{Directory, QuoteDirectory, SystemDirectory, AfterDirectory, Include, Define, Undefine, Output}
-use Rattle.job_words.specs.Words.{Onward, Word, Takes, Trigraphs, NoEffect, Source, NotKnown, at_word, at_operand, begins, has_no_effect, is_no_name, read_on, word_of, word_without_operand}
-use Rattle.job_words.specs.parts.Told.{IsRead, IsShortWord, at_any}
+use Rattle.job_words.specs.Words.{ReadBehind, Word, Takes, Trigraphs, NoEffect, Source, NotKnown, at_word, at_operand, begins, has_no_effect, is_no_name, read_on, word_of, word_without_operand}
+use Rattle.job_words.specs.parts.Told.{IsReadOn, IsShortWord, at_any}
 
 -- an operand in its option's word
-pub operand-here : (next : Onward) (taker : Taker) (text : Text) (given : Given) → 0 < length text → at_operand next taker text given ≡ at_word next (Takes taker text) given
+pub operand-here : (next : ReadBehind) (taker : Taker) (text : Text) (given : Given) → 0 < length text → at_operand next taker text given ≡ at_word next (Takes taker text) given
 operand-here next taker [] given some = absurd (omega arith)
 operand-here next taker (b ∷ text) given some = refl
 
 -- the same, at a call that read it
-pub operand-read : (taker : Taker) (text : Text) (old new : Given) (result : Result (Option Taker) WordError) → 0 < length text → IsRead (λ next. at_operand next taker text old) old new result → IsRead (λ next. at_word next (Takes taker text) old) old new result
+pub operand-read : (taker : Taker) (text : Text) (old new : Given) (result : Result (Option Taker) WordError) → 0 < length text → IsReadOn (λ next. at_operand next taker text old) old new result → IsReadOn (λ next. at_word next (Takes taker text) old) old new result
 operand-read taker text old new (Ok waiting) some read = ((λ next. sym (operand-here next taker text old some) ∙ read.0 next), read.1)
 operand-read taker text old new (Err why) some (inl memory) = inl memory
 operand-read taker text old new (Err why) some (inr ends) = inr (λ next. sym (operand-here next taker text old some) ∙ ends next)
@@ -36,7 +36,7 @@ at-place words i word d waiting given within is =
     ∙ first-word waiting word (drop (i + 1) words) given
 
 -- an error at a word is that of the whole reading
-pub error-at : (whole : Result Given WordError) (step : Onward → Result Given WordError) (next : Onward) (why : WordError) → whole ≡ step next → (why ≡ Memory) ⊎ ((next : Onward) → step next ≡ Err why) → (why ≡ Memory) ⊎ (whole ≡ Err why)
+pub error-at : (whole : Result Given WordError) (step : ReadBehind → Result Given WordError) (next : ReadBehind) (why : WordError) → whole ≡ step next → (why ≡ Memory) ⊎ ((next : ReadBehind) → step next ≡ Err why) → (why ≡ Memory) ⊎ (whole ≡ Err why)
 error-at whole step next why is (inl memory) = inl memory
 error-at whole step next why is (inr ends) = inr (is ∙ ends next)
 

@@ -50,9 +50,9 @@ job_writes job =
     ++ ((job.source ∷ [])
     ++ (setup_writes job.setup ++ (fed.slice (λ text. text ∷ []) job.forced ++ (job.output ∷ []))))
 
-same_parts : (one other : JobData) (a b c d e f : Bool) → Decides a (one.words ≡ other.words) → Decides b (one.source ≡ other.source) → Decides c (one.setup ≡ other.setup) → Decides d (one.macros ≡ other.macros)
+same_job_parts : (one other : JobData) (a b c d e f : Bool) → Decides a (one.words ≡ other.words) → Decides b (one.source ≡ other.source) → Decides c (one.setup ≡ other.setup) → Decides d (one.macros ≡ other.macros)
     → Decides e (one.forced ≡ other.forced) → Decides f (one.output ≡ other.output) → (a && (b && (c && (d && (e && f))))) ≡ true → one ≡ other
-same_parts one other a b c d e f words source setup macros forced output all i =
+same_job_parts one other a b c d e f words source setup macros forced output all i =
     let behind_a = second_so a (b && (c && (d && (e && f)))) all in
     let behind_b = second_so b (c && (d && (e && f))) behind_a in
     let behind_c = second_so c (d && (e && f)) behind_b in
@@ -80,7 +80,7 @@ JobsDecide = (one other : JobData) → Decides (is_same_job one other) (one ≡ 
 
 pub is_same_job-Decides : JobsDecide
 is_same_job-Decides one other = (
-  same_parts one other _ _ _ _ _ _ (pointwise_decides bytes_decides one.words other.words) (bytes_decides one.source other.source) (is_same_setup-Decides one.setup other.setup)
+  same_job_parts one other _ _ _ _ _ _ (pointwise_decides bytes_decides one.words other.words) (bytes_decides one.source other.source) (is_same_setup-Decides one.setup other.setup)
       (pointwise_decides is_same_macro-Decides one.macros other.macros) (pointwise_decides bytes_decides one.forced other.forced) (bytes_decides one.output other.output),
   λ e. subst (λ job. is_same_job one job ≡ true) e (is_own_job one),
 )

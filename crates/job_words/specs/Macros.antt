@@ -27,8 +27,8 @@ abbrev pub file_line : LexedFile → Option (List Token)
 file_line file = ended_line file file.unended
 
 -- the tokens of a text that is one line
-unfoldable pub line_of : Text → Option (List Token)
-line_of text = if list_any (λ b. b == 10) text then None else file_line (lexed false text)
+unfoldable pub tokens_of_line : Text → Option (List Token)
+tokens_of_line text = if list_any (λ b. b == 10) text then None else file_line (lexed false text)
 
 abbrev pub defined_word : Result Named DefineError → Option MacroWord
 defined_word (Ok named) = Some (word.Define named.name named.definition)
@@ -40,7 +40,7 @@ define_word_of (Some tokens) = defined_word (defined_by tokens)
 
 -- what a `-D` says (6.10.3)
 unfoldable pub define_word : Text → Option MacroWord
-define_word text = define_word_of (line_of (define_line text))
+define_word text = define_word_of (tokens_of_line (define_line text))
 
 -- one identifier that may be defined
 abbrev pub undef_word_of : Option (List Token) → Option MacroWord
@@ -51,4 +51,4 @@ undef_word_of (Some (t ∷ u ∷ ts)) = None
 
 -- what a `-U` says (6.10.3.5)
 unfoldable pub undef_word : Text → Option MacroWord
-undef_word text = undef_word_of (line_of text)
+undef_word text = undef_word_of (tokens_of_line text)

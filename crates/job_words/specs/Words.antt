@@ -89,26 +89,26 @@ give Undefine text given = give_macro (undef_word text) given
 give Output text given = Ok (record given { output = Some text })
 
 -- what was read so far is read on from, and a refusal stays
-abbrev pub and_then : (Given → Result Given WordError) → Result Given WordError → Result Given WordError
-and_then next (Ok given) = next given
-and_then next (Err why) = Err why
+abbrev pub read_and_then : (Given → Result Given WordError) → Result Given WordError → Result Given WordError
+read_and_then next (Ok given) = next given
+read_and_then next (Err why) = Err why
 
 -- what is read behind a word: whether an option waits for its operand, and what was read so far
-abbrev pub Onward : Type 0
-Onward = Option Taker → Given → Result Given WordError
+abbrev pub ReadBehind : Type 0
+ReadBehind = Option Taker → Given → Result Given WordError
 
 -- an operand, which may not be empty
-abbrev pub at_operand : Onward → Taker → Text → Given → Result Given WordError
+abbrev pub at_operand : ReadBehind → Taker → Text → Given → Result Given WordError
 at_operand next taker [] given = Err NoOperand
-at_operand next taker (b ∷ text) given = and_then (next None) (give taker (b ∷ text) given)
+at_operand next taker (b ∷ text) given = read_and_then (next None) (give taker (b ∷ text) given)
 
 -- a source's name, where this one was read before
-abbrev pub at_source : Onward → Text → Option Text → Given → Result Given WordError
+abbrev pub at_source : ReadBehind → Text → Option Text → Given → Result Given WordError
 at_source next name None given = next None (record given { source = Some name })
 at_source next name (Some other) given = Err TwoSources
 
 -- a word that is no operand; an option whose word ends with it waits for the next word, which is its operand
-abbrev pub at_word : Onward → Word → Given → Result Given WordError
+abbrev pub at_word : ReadBehind → Word → Given → Result Given WordError
 at_word next (Takes taker []) given = next (Some taker) given
 at_word next (Takes taker (b ∷ text)) given = at_operand next taker (b ∷ text) given
 at_word next Trigraphs given = next None (record given { trigraphs = true })
@@ -165,9 +165,9 @@ abbrev pub with_source : Text → List Text → Option Text → Given → Result
 with_source cwd words None given = Err NoSource
 with_source cwd words (Some source) given = Ok (job_in cwd words source given)
 
-abbrev pub finished : Text → List Text → Result Given WordError → Result JobData WordError
-finished cwd words (Err why) = Err why
-finished cwd words (Ok given) = with_source cwd words given.source given
+abbrev pub finished_job : Text → List Text → Result Given WordError → Result JobData WordError
+finished_job cwd words (Err why) = Err why
+finished_job cwd words (Ok given) = with_source cwd words given.source given
 
 -- a working directory begins with `/`, and has at most 4,096 bytes and no byte 0
 unfoldable pub is_directory : Text → Bool
@@ -179,10 +179,10 @@ are_short words = nat_le (length words) 1000 && list_all (λ word. nat_le (lengt
 
 -- the job, or the first reason why there is none: the working directory, the size of the words, the words from left to right,
 -- and at last a source
-unfoldable pub reading : Text → List Text → Result JobData WordError
-reading cwd words =
+unfoldable pub job_reading : Text → List Text → Result JobData WordError
+job_reading cwd words =
     if not (is_directory cwd) then Err Cwd
-    else (if not (are_short words) then Err Limit else finished cwd words (read_on None words nothing))
+    else (if not (are_short words) then Err Limit else finished_job cwd words (read_on None words nothing))
 
 abbrev pub job_given : Result JobData WordError → Option JobData
 job_given (Ok job) = Some job
@@ -190,7 +190,7 @@ job_given (Err why) = None
 
 -- the job that a working directory and words give, if they give one
 unfoldable pub job_of : Text → List Text → Option JobData
-job_of cwd words = job_given (reading cwd words)
+job_of cwd words = job_given (job_reading cwd words)
 
 -- a job is the reading of its own working directory and words
 abbrev pub IsJob : JobData → Type 0

@@ -3,8 +3,8 @@ ghost use Rattle.std.specs.Prelude.{◌≡◌, ◌≤◌, ◌+◌, ◌==◌, tru
 ghost use Rattle.std.specs.List.{list_any};
 ghost use Rattle.std.specs.Option.{MatchOption};
 ghost use Rattle.job_words.specs.Macros as spec;
-ghost use Rattle.job_words.specs.Macros.{define_line, line_of, line_at, define_word, undef_word, undef_word_of, defined_word};
-ghost use Rattle.job_words.specs.parts.Told.{IsFirst, IsRefused, NoneFrom};
+ghost use Rattle.job_words.specs.Macros.{define_line, tokens_of_line, line_at, define_word, undef_word, undef_word_of, defined_word};
+ghost use Rattle.job_words.specs.parts.Told.{IsFirst, IsNoMacro, NoneFrom};
 ghost use Rattle.macro_defs.specs.Defining.{defined_by};
 
 use crate::{MacroWord, WordError};
@@ -18,7 +18,7 @@ use std::alloc::{AllocError, Global};
 pub fn define_word(alloc: Global, text: &[u8]) -> Result<MacroWord, WordError>
     requires { length text.now ≤ 4096 }
     ensures macros { IfOk result (λ word. define_word text.now ≡ Some word) }
-    ensures why { IfErr result (λ e. IsRefused e (define_word text.now)) }
+    ensures why { IfErr result (λ e. IsNoMacro e (define_word text.now)) }
 {
     let line = define_line(alloc, text)?;
     let tokens = line_tokens(alloc, &line)?;
@@ -30,7 +30,7 @@ pub fn define_word(alloc: Global, text: &[u8]) -> Result<MacroWord, WordError>
 pub fn undef_word(alloc: Global, text: &[u8]) -> Result<MacroWord, WordError>
     requires { length text.now ≤ 4096 }
     ensures macros { IfOk result (λ word. undef_word text.now ≡ Some word) }
-    ensures why { IfErr result (λ e. IsRefused e (undef_word text.now)) }
+    ensures why { IfErr result (λ e. IsNoMacro e (undef_word text.now)) }
 {
     let tokens = line_tokens(alloc, text)?;
     undefined(alloc, tokens.as_slice())
@@ -57,11 +57,11 @@ fn first_equals(text: &[u8]) -> Option<usize>
 }
 
 // The tokens of a text that is one line, without a comment that never ends.
-#[tactic(auto, unfolding(crate::specs::Macros::line_of))]
+#[tactic(auto, unfolding(crate::specs::Macros::tokens_of_line))]
 fn line_tokens(alloc: Global, text: &[u8]) -> Result<List<Token>, WordError>
     requires { length text.now ≤ 16777216 }
-    ensures line { IfOk result (λ tokens. line_of text.now ≡ Some tokens) }
-    ensures why { IfErr result (λ e. IsRefused e (line_of text.now)) }
+    ensures line { IfOk result (λ tokens. tokens_of_line text.now ≡ Some tokens) }
+    ensures why { IfErr result (λ e. IsNoMacro e (tokens_of_line text.now)) }
 {
     if has_newline(text) {
         return Err(WordError::BadMacro);
@@ -95,7 +95,7 @@ fn first_line(alloc: Global, lexed: &Lexed) -> Result<List<Token>, AllocError>
 // What tokens behind `#define` define.
 fn defined(alloc: Global, tokens: &[Token]) -> Result<MacroWord, WordError>
     ensures macros { IfOk result (λ word. defined_word (defined_by tokens.now) ≡ Some word) }
-    ensures why { IfErr result (λ e. IsRefused e (defined_word (defined_by tokens.now))) }
+    ensures why { IfErr result (λ e. IsNoMacro e (defined_word (defined_by tokens.now))) }
 {
     match read_define(alloc, tokens) {
         Ok((name, definition)) => Ok(MacroWord::Define(name, definition)),
@@ -107,7 +107,7 @@ fn defined(alloc: Global, tokens: &[Token]) -> Result<MacroWord, WordError>
 // One identifier that may be defined.
 fn undefined(alloc: Global, tokens: &[Token]) -> Result<MacroWord, WordError>
     ensures macros { IfOk result (λ word. undef_word_of (Some tokens.now) ≡ Some word) }
-    ensures why { IfErr result (λ e. IsRefused e (undef_word_of (Some tokens.now))) }
+    ensures why { IfErr result (λ e. IsNoMacro e (undef_word_of (Some tokens.now))) }
 {
     let [token] = tokens else {
         return Err(WordError::BadMacro);

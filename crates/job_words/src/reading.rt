@@ -3,8 +3,8 @@ ghost use Rattle.std.specs.Prelude.{◌≡◌, ◌≤◌, ◌⊎◌, ◌==◌, n
 ghost use Rattle.std.specs.List.{list_all};
 ghost use Rattle.tree_model.specs.Walk as walks;
 ghost use Rattle.job_words.specs.Words as compile;
-ghost use Rattle.job_words.specs.Words.{add_once, each_once, is_directory, are_short, output_of, read_on, reading, stem, nothing, with_source};
-ghost use Rattle.job_words.specs.parts.Told.{IsLast, IsRead, IsShortWord, HasTexts, NoneFrom, texts_given, told_word, at_any};
+ghost use Rattle.job_words.specs.Words.{add_once, each_once, is_directory, are_short, output_of, read_on, job_reading, stem, nothing, with_source};
+ghost use Rattle.job_words.specs.parts.Told.{IsLast, IsReadOn, IsShortWord, HasTexts, NoneFrom, texts_given, told_word, at_any};
 
 use crate::Job;
 use crate::given::{Given, Taker};
@@ -68,10 +68,10 @@ const WORD_LIMIT: usize = 1000;
 /// with a comment that never ends. The operand of `-U` is a `BadMacro` where it isn't one identifier that may be defined.
 ///
 /// Time is proportional to the bytes of the words, as far as the hashes of directories and of parameters' names differ.
-#[tactic(auto, unfolding(crate::specs::Words::reading))]
+#[tactic(auto, unfolding(crate::specs::Words::job_reading))]
 pub fn read_words(alloc: Global, cwd: &[u8], words: &[Bytes]) -> Result<Job, WordError>
-    ensures job { IfOk result (λ job. reading cwd.now words.now ≡ Ok job) }
-    ensures why { IfErr result (λ e. (e ≡ WordError.Memory) ⊎ (reading cwd.now words.now ≡ Err e)) }
+    ensures job { IfOk result (λ job. job_reading cwd.now words.now ≡ Ok job) }
+    ensures why { IfErr result (λ e. (e ≡ WordError.Memory) ⊎ (job_reading cwd.now words.now ≡ Err e)) }
 {
     if !is_directory(cwd) {
         return Err(WordError::Cwd);
@@ -148,7 +148,7 @@ fn read_word(
     given: &mut Given,
 ) -> Result<Option<Taker>, WordError>
     requires { length word.now ≤ 4096 }
-    ensures { IsRead (λ next. at_any next waiting word.now given.old) given.old given.new result }
+    ensures { IsReadOn (λ next. at_any next waiting word.now given.old) given.old given.new result }
 {
     match waiting {
         Some(taker) => read_operand(alloc, taker, word, given),
@@ -163,7 +163,7 @@ fn read_by_itself(
     given: &mut Given,
 ) -> Result<Option<Taker>, WordError>
     requires { IsShortWord (told_word word) }
-    ensures { IsRead (λ next. compile.at_word next (told_word word.entry) given.old) given.old given.new result }
+    ensures { IsReadOn (λ next. compile.at_word next (told_word word.entry) given.old) given.old given.new result }
 {
     match word {
         Word::Takes(taker, text) => {
@@ -190,7 +190,7 @@ fn read_operand(
     given: &mut Given,
 ) -> Result<Option<Taker>, WordError>
     requires { length text.now ≤ 4096 }
-    ensures { IsRead (λ next. compile.at_operand next taker text.now given.old) given.old given.new result }
+    ensures { IsReadOn (λ next. compile.at_operand next taker text.now given.old) given.old given.new result }
 {
     if text.is_empty() {
         return Err(WordError::NoOperand);
@@ -201,7 +201,7 @@ fn read_operand(
 
 // Reads the source's name.
 fn read_source(alloc: Global, name: &[u8], given: &mut Given) -> Result<Option<Taker>, WordError>
-    ensures { IsRead (λ next. compile.at_source next name.now given.old.source given.old) given.old given.new result }
+    ensures { IsReadOn (λ next. compile.at_source next name.now given.old.source given.old) given.old given.new result }
 {
     if given.source.is_some() {
         return Err(WordError::TwoSources);
@@ -212,10 +212,10 @@ fn read_source(alloc: Global, name: &[u8], given: &mut Given) -> Result<Option<T
 
 // The job of words that were read to their end.
 fn job_of(alloc: Global, cwd: &[u8], words: &[Bytes], given: Given) -> Result<Job, WordError>
-    requires read { reading cwd.now words.now ≡ with_source cwd.now words.now given.source given }
+    requires read { job_reading cwd.now words.now ≡ with_source cwd.now words.now given.source given }
     requires few { texts_given given ≤ 1000 }
-    ensures job { IfOk result (λ job. reading cwd.now words.now ≡ Ok job) }
-    ensures why { IfErr result (λ e. (e ≡ WordError.Memory) ⊎ (reading cwd.now words.now ≡ Err e)) }
+    ensures job { IfOk result (λ job. job_reading cwd.now words.now ≡ Ok job) }
+    ensures why { IfErr result (λ e. (e ≡ WordError.Memory) ⊎ (job_reading cwd.now words.now ≡ Err e)) }
 {
     let Given {
         source,

@@ -9,7 +9,7 @@ use Rattle.job_words.specs.declared.given.Taker.{Taker}
 use Rattle.job_words.specs.declared.given.Taker.TheVariants.{Define, Undefine}
 use Rattle.job_words.specs.declared.reading.WordError.{WordError}
 use Rattle.job_words.specs.declared.reading.WordError.TheVariants.{BadMacro, Memory}
-use Rattle.job_words.specs.Words.{Word, Takes, Trigraphs, NoEffect, Source, NotKnown, Onward, at_operand, at_word, word_of}
+use Rattle.job_words.specs.Words.{Word, Takes, Trigraphs, NoEffect, Source, NotKnown, ReadBehind, at_operand, at_word, word_of}
 use Rattle.job_words.specs.declared.word.Word as code
 use Rattle.job_words.specs.declared.word.Word.TheVariants as variant
 
@@ -39,20 +39,20 @@ abbrev pub texts_given : Given → ℕ
 texts_given given = length given.quote + (length given.directories + (length given.system + length given.after))
 
 -- a word, with the option that waits for its operand
-abbrev pub at_any : Onward → Option Taker → Text → Given → Result Given WordError
+abbrev pub at_any : ReadBehind → Option Taker → Text → Given → Result Given WordError
 at_any next (Some taker) word given = at_operand next taker word given
 at_any next None word given = at_word next (word_of word) given
 
 -- a step was read: it goes on from what the call gives, or ends with its error, whatever stands behind
-abbrev pub IsRead : (Onward → Result Given WordError) → Given → Given → Result (Option Taker) WordError → Type 0
-IsRead step old new result =
+abbrev pub IsReadOn : (ReadBehind → Result Given WordError) → Given → Given → Result (Option Taker) WordError → Type 0
+IsReadOn step old new result =
     MatchResult result
-    (λ waiting. ((next : Onward) → step next ≡ next waiting new) × (texts_given new ≤ texts_given old + 1))
-    (λ why. (why ≡ Memory) ⊎ ((next : Onward) → step next ≡ Err why))
+    (λ waiting. ((next : ReadBehind) → step next ≡ next waiting new) × (texts_given new ≤ texts_given old + 1))
+    (λ why. (why ≡ Memory) ⊎ ((next : ReadBehind) → step next ≡ Err why))
 
 -- an error of code tells that there is no macro or no line; want of memory tells nothing
-abbrev pub IsRefused : {A : Type 0} → WordError → Option A → Type 0
-IsRefused why given = (why ≡ Memory) ⊎ ((why ≡ BadMacro) × (given ≡ None))
+abbrev pub IsNoMacro : {A : Type 0} → WordError → Option A → Type 0
+IsNoMacro why given = (why ≡ Memory) ⊎ ((why ≡ BadMacro) × (given ≡ None))
 
 -- a set has the texts of a list
 abbrev pub HasTexts : {S : Type 0} → HashSet (Bor Text) S → List Text → Type 0
