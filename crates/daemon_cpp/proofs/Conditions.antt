@@ -24,7 +24,7 @@ use Rattle.daemon_cpp.specs.declared.stop.Stop.{Stop}
 use Rattle.daemon_cpp.specs.declared.stop.Stop.TheVariants as stop
 use Rattle.daemon_cpp.specs.Diagnostics.{Complaint, Diagnostic}
 use Rattle.daemon_cpp.specs.Prep.{World, Here, State, Reached, Gives, Ends, reach, refuse, touch, visit_of, is_defined, with_defined, zeroed, truth_of, probe_free, defined_answered, expanded_condition, answered_condition, probed, probe_named, probe, answer_parts, parts_condition, condition, name_condition, directive_test, piece_test, answer_token}
-use Rattle.daemon_cpp.specs.parts.Showing.{Shows, EndsWith, Leads, Refuses, TellsNothing, part_answered, answers_behind, Continues}
+use Rattle.daemon_cpp.specs.parts.Showing.{Shows, IsNotReached, Leads, Refuses, TellsNothing, part_answered, answers_behind, Continues}
 use Rattle.daemon_cpp.proofs.Steps.{at-line, leads-gives, leads-refuse, leads-then, leads-stop, leads-same}
 
 -- a diagnostic at a line of the file that is read
@@ -174,7 +174,7 @@ pub continues-stop : {A B : Type 0} (old mid new : Kept) (main : Path) (file : H
 continues-stop old mid new main file f g k next (stop.Ended words) before same leads = λ state shows.
     let one = before state shows in
     let ended = leads-stop mid new main file k next (stop.Ended words) leads one.0 one.1.1 in
-    subst (λ r. EndsWith words new.opened r) (sym (one.1.0 ∙ same one.0)) ended
+    subst (λ r. IsNotReached words new.opened r) (sym (one.1.0 ∙ same one.0)) ended
 continues-stop old mid new main file f g k next stop.Fault before same leads = tt
 continues-stop old mid new main file f g k next stop.Memory before same leads = tt
 

@@ -10,7 +10,7 @@ use Rattle.macro_expand.specs.Expansion.{Table}
 use Rattle.daemon_cpp.specs.declared.kept.Kept.{Kept}
 use Rattle.daemon_cpp.specs.declared.stop.Stop.{Stop}
 use Rattle.daemon_cpp.specs.declared.stop.Stop.TheVariants as stop
-use Rattle.daemon_cpp.specs.Prep.{Here, State, Step, Go, with_macro, with_word, with_words, define_step, undef_step}
+use Rattle.daemon_cpp.specs.Prep.{Here, State, PrepStep, Go, with_macro, with_word, with_words, define_step, undef_step}
 use Rattle.daemon_cpp.specs.parts.Showing.{Shows, Goes}
 use Rattle.job_words.specs.declared.MacroWord.{MacroWord}
 use Rattle.std.proofs.lemmas.List.{drop_more, drop_all}
@@ -35,7 +35,7 @@ macros-shown old macros main file state table shows same = record {
 }
 
 -- a name that has another definition now, or none
-pub sets-goes : (old : Kept) (macros : TableEntries) (main : Path) (file : Here) (name : Text) (definition : Option MacroDefinition) (f : State → Step) →
+pub sets-goes : (old : Kept) (macros : TableEntries) (main : Path) (file : Here) (name : Text) (definition : Option MacroDefinition) (f : State → PrepStep) →
     ((state : State) → f state ≡ Go (record state { macros = with_macro state.macros name definition })) → SetsDefinition old.macros name definition macros →
     Goes old (record old { macros = macros }) main file {A = Unit {0}} f (Ok tt)
 sets-goes old macros main file name definition f step sets state shows = (

@@ -2,24 +2,24 @@
 use Rattle.std.proofs.Common.{◌≡◌, ℕ, zero, suc, Bool, true, false, List, [], ◌∷◌, ◌++◌, refl, ap, sym, ◌∙◌, append_assoc, append-nil, inl, inr}
 use Rattle.directive_scan.specs.declared.Piece.{Piece}
 use Rattle.directive_scan.specs.Groups.{Role, single, opening, elif_line, else_line, endif_line, role_of, Group, nothing, one, conditional, Branches, ended, branch, group_pieces, branches_pieces, IsGroup, IsBranches}
-use Rattle.daemon_cpp.specs.Prep.{World, State, Step, Go, Stop, and_then, Reached, Gives, Ends, with_value, Entering, piece_step, piece_test, group_or, run_group, run_branches}
-use Rattle.daemon_cpp.specs.parts.Reading.{Stage, reading, seeking, passing, stage_of, staged, run_flat, skipped, skip_piece}
+use Rattle.daemon_cpp.specs.Prep.{World, State, PrepStep, Go, Stop, and_then, Reached, Gives, Ends, with_value, Entering, piece_step, piece_test, group_or, run_group, run_branches}
+use Rattle.daemon_cpp.specs.parts.Reading.{ReadingStage, reading, seeking, passing, stage_of, staged, run_flat, skipped, skip_piece}
 
 -- one step after another
 
-pub then-same : (f g : State → Step) (s : Step) → ((x : State) → f x ≡ g x) → and_then f s ≡ and_then g s
+pub then-same : (f g : State → PrepStep) (s : PrepStep) → ((x : State) → f x ≡ g x) → and_then f s ≡ and_then g s
 then-same f g (Go x) h = h x
 then-same f g (Stop d x) h = refl
 
-pub then-then : (f g : State → Step) (s : Step) → and_then f (and_then g s) ≡ and_then (λ x. and_then f (g x)) s
+pub then-then : (f g : State → PrepStep) (s : PrepStep) → and_then f (and_then g s) ≡ and_then (λ x. and_then f (g x)) s
 then-then f g (Go x) = refl
 then-then f g (Stop d x) = refl
 
-pub then-value : {A : Type 0} (f : State → Step) (g : A → State → Step) (r : Reached A) → and_then f (with_value g r) ≡ with_value (λ a x. and_then f (g a x)) r
+pub then-value : {A : Type 0} (f : State → PrepStep) (g : A → State → PrepStep) (r : Reached A) → and_then f (with_value g r) ≡ with_value (λ a x. and_then f (g a x)) r
 then-value f g (Gives a x) = refl
 then-value f g (Ends d x) = refl
 
-pub value-same : {A : Type 0} (f g : A → State → Step) (r : Reached A) → ((a : A) (x : State) → f a x ≡ g a x) → with_value f r ≡ with_value g r
+pub value-same : {A : Type 0} (f g : A → State → PrepStep) (r : Reached A) → ((a : A) (x : State) → f a x ≡ g a x) → with_value f r ≡ with_value g r
 value-same f g (Gives a x) h = h a x
 value-same f g (Ends d x) h = refl
 
@@ -28,7 +28,7 @@ three a b c = append_assoc a b c
 
 module _ (world : World) (entering : Entering) where
   -- a piece that is read at a stage
-  pub at-role : (p : Piece) (ps : List Piece) (state : State) (stage : Stage) (r : Role) → role_of p ≡ r →
+  pub at-role : (p : Piece) (ps : List Piece) (state : State) (stage : ReadingStage) (r : Role) → role_of p ≡ r →
       run_flat world entering stage (p ∷ ps) state ≡ staged world entering (λ next after. run_flat world entering next ps after) p state stage r
   unfolding run_flat
   at-role p ps state stage r h = ap (staged world entering (λ next after. run_flat world entering next ps after) p state stage) h
@@ -198,7 +198,7 @@ module _ (world : World) (entering : Entering) where
       ap (λ ps. run_flat world entering reading ps state) (sym (append-nil (group_pieces g)))
       ∙ read-group g w [] state ∙ go (run_group world entering g state)
     where
-      go : (s : Step) → and_then (λ y. run_flat world entering reading [] y) s ≡ s
+      go : (s : PrepStep) → and_then (λ y. run_flat world entering reading [] y) s ≡ s
       go (Go x) = refl
       go (Stop d x) = refl
 

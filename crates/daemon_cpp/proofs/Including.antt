@@ -12,7 +12,7 @@ use Rattle.daemon_cpp.specs.declared.kept.Kept.{Kept}
 use Rattle.daemon_cpp.specs.declared.stop.Stop.{Stop}
 use Rattle.daemon_cpp.specs.declared.stop.Stop.TheVariants as stop
 use Rattle.daemon_cpp.specs.Diagnostics.{Diagnostic, Complaint}
-use Rattle.daemon_cpp.specs.Prep.{World, Here, State, Step, Stop as Stopped, Reached, Gives, Entering, with_value, visit_of, touch, at_line, header_reached, unless_marked, found_file, include_named}
+use Rattle.daemon_cpp.specs.Prep.{World, Here, State, PrepStep, Stop as Stopped, Reached, Gives, Entering, with_value, visit_of, touch, at_line, header_reached, unless_marked, found_file, include_named}
 use Rattle.daemon_cpp.specs.parts.Showing.{Shows, StopsWith, Refuses, Leads, Includes, entered_unless, TellsNothing}
 use Rattle.daemon_cpp.proofs.Steps.{leads-gives, ends-step, at-line}
 
@@ -24,7 +24,7 @@ plain-header kept main file at target header copy is same =
     (λ state shows. ap (λ (t : Target). header_reached at t state) is ∙ ap (λ (h : HeaderName). Gives (Some h) state) (sym same))
 
 -- another way to say what is included
-pub includes-same : (old new : Kept) (main : Path) (file : Here) (at : ℕ) (f g : Entering → State → Step) (r : Result (Option Hit) Stop) →
+pub includes-same : (old new : Kept) (main : Path) (file : Here) (at : ℕ) (f g : Entering → State → PrepStep) (r : Result (Option Hit) Stop) →
     ((entering : Entering) (state : State) → Shows old main file state → g entering state ≡ f entering state) →
     Includes old new main file at f r → Includes old new main file at g r
 includes-same old new main file at f g (Ok None) same includes = λ entering state shows.
@@ -39,7 +39,7 @@ includes-same old new main file at f g (Err stop.Fault) same includes = tt
 includes-same old new main file at f g (Err stop.Memory) same includes = tt
 
 -- a diagnostic at once
-pub includes-refuse : (old : Kept) (main : Path) (file : Here) (at : ℕ) (f : Entering → State → Step) (d : Diagnostic) (e : Stop) →
+pub includes-refuse : (old : Kept) (main : Path) (file : Here) (at : ℕ) (f : Entering → State → PrepStep) (d : Diagnostic) (e : Stop) →
     ((entering : Entering) (state : State) → Shows old main file state → f entering state ≡ Stopped d state) → Refuses d e → Includes old old main file at f (Err e)
 includes-refuse old main file at f d (stop.Ended words) same told = λ entering state shows.
     subst (λ s. StopsWith words old.opened s) (sym (same entering state shows)) (told, shows.opened)
@@ -47,7 +47,7 @@ includes-refuse old main file at f d stop.Fault same told = absurd told
 includes-refuse old main file at f d stop.Memory same told = tt
 
 -- one at a line of the file that is read
-pub includes-complain : (old : Kept) (main : Path) (file : Here) (at : ℕ) (f : Entering → State → Step) (complaint : Complaint) (e : Stop) →
+pub includes-complain : (old : Kept) (main : Path) (file : Here) (at : ℕ) (f : Entering → State → PrepStep) (complaint : Complaint) (e : Stop) →
     ((entering : Entering) (state : State) → f entering state ≡ Stopped (at_line at complaint state) state) →
     Refuses (record { place = spelled file.place; at = at; complaint = complaint }) e → Includes old old main file at f (Err e)
 includes-complain old main file at f complaint e same told =
@@ -56,13 +56,13 @@ includes-complain old main file at f complaint e same told =
     told
 
 -- a search that gave no answer
-pub includes-silent : (old new : Kept) (main : Path) (file : Here) (at : ℕ) (f : Entering → State → Step) (e : Stop) → TellsNothing e → Includes old new main file at f (Err e)
+pub includes-silent : (old new : Kept) (main : Path) (file : Here) (at : ℕ) (f : Entering → State → PrepStep) (e : Stop) → TellsNothing e → Includes old new main file at f (Err e)
 includes-silent old new main file at f (stop.Ended words) silent = absurd silent
 includes-silent old new main file at f stop.Fault silent = tt
 includes-silent old new main file at f stop.Memory silent = tt
 
 -- a value, and the include that follows it
-pub includes-then : {A : Type 0} (old mid new : Kept) (main : Path) (file : Here) (at : ℕ) (f : State → Reached A) (g : A → Entering → State → Step) (x : A) (r : Result (Option Hit) Stop) →
+pub includes-then : {A : Type 0} (old mid new : Kept) (main : Path) (file : Here) (at : ℕ) (f : State → Reached A) (g : A → Entering → State → PrepStep) (x : A) (r : Result (Option Hit) Stop) →
     Leads old mid main file f (Ok x) → Includes mid new main file at (g x) r →
     Includes old new main file at (λ entering state. with_value (λ y after. g y entering after) (f state)) r
 includes-then old mid new main file at f g x (Ok None) first next = λ entering state shows.
@@ -79,7 +79,7 @@ includes-then old mid new main file at f g x (Err (stop.Ended words)) first next
 includes-then old mid new main file at f g x (Err stop.Fault) first next = tt
 includes-then old mid new main file at f g x (Err stop.Memory) first next = tt
 
-pub includes-stop : {A : Type 0} (old new : Kept) (main : Path) (file : Here) (at : ℕ) (f : State → Reached A) (g : A → Entering → State → Step) (e : Stop) →
+pub includes-stop : {A : Type 0} (old new : Kept) (main : Path) (file : Here) (at : ℕ) (f : State → Reached A) (g : A → Entering → State → PrepStep) (e : Stop) →
     Leads old new main file f (Err e) → Includes old new main file at (λ entering state. with_value (λ y after. g y entering after) (f state)) (Err e)
 includes-stop old new main file at f g (stop.Ended words) first = λ entering state shows.
     ends-step (λ y after. g y entering after) words new.opened (f state) (first state shows)

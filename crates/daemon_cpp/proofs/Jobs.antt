@@ -16,12 +16,12 @@ use Rattle.job_words.specs.declared.MacroWord.{MacroWord}
 use Rattle.daemon_cpp.specs.declared.outcome.Outcome.TheVariants as outcome
 use Rattle.daemon_cpp.specs.declared.cpp.Reader.{Reader}
 use Rattle.daemon_cpp.specs.Diagnostics.{NoSource, TextLimit, diagnostic_text}
-use Rattle.daemon_cpp.specs.Prep.{World, Step, world_of, and_then, first_state, run_forced, enter_file, depth_limit, open_source, run_job, prep, outcome_over}
+use Rattle.daemon_cpp.specs.Prep.{World, PrepStep, world_of, and_then, first_state, run_forced, enter_file, depth_limit, open_source, run_job, prep, outcome_over}
 use Rattle.daemon_cpp.specs.parts.Files.{IsShown, ComesTo, told_of, source_behind, source_told}
 use Rattle.daemon_cpp.proofs.Limits.{within, past}
 
 -- all files of a job, behind a step
-abbrev whole : World → List Text → Hit → Step → Step
+abbrev whole : World → List Text → Hit → PrepStep → PrepStep
 whole world names source step = and_then (λ state. open_source world source state) (and_then (λ state. run_forced world (enter_file world depth_limit) names state) step)
 
 -- a source behind its first marker, and one whose first marker doesn't fit
@@ -31,14 +31,14 @@ unfolding run_forced begun
 begins-told world macros source names reader short shows = record {
   state = first_state macros source;
   shows = shows;
-  same = sym (ap (λ (step : Step). told_of (whole world names source step)) (within (first_state macros source) short));
+  same = sym (ap (λ (step : PrepStep). told_of (whole world names source step)) (within (first_state macros source) short));
 }
 
 pub source-full : (world : World) (macros : List MacroWord) (source : Hit) (names : List Text) → text_limit < length (begun (presumed_name source.0.place)).text →
     record { outcome = outcome.Diag (diagnostic_text (record { place = spelled source.0.place; at = 0; complaint = TextLimit })); opened = [] } ≡ source_told world macros source names
 unfolding begun
 source-full world macros source names full =
-    sym (ap (λ (step : Step). told_of (whole world names source step)) (past (first_state macros source) full))
+    sym (ap (λ (step : PrepStep). told_of (whole world names source step)) (past (first_state macros source) full))
 
 -- a job whose source was searched
 prep-is : (world : World) (job : JobData) (o : Option Hit) → o ≡ world.find (source_ask job.source) → (run_job world job o).outcome ≡ (prep world job).outcome

@@ -7,7 +7,7 @@ use Rattle.daemon_cpp.specs.declared.kept.Kept.{Kept}
 use Rattle.daemon_cpp.specs.declared.stop.Stop.{Stop}
 use Rattle.daemon_cpp.specs.declared.stop.Stop.TheVariants as stop
 use Rattle.daemon_cpp.specs.Diagnostics.{TextLimit, diagnostic_text}
-use Rattle.daemon_cpp.specs.Prep.{Here, State, Step, say}
+use Rattle.daemon_cpp.specs.Prep.{Here, State, PrepStep, say}
 use Rattle.daemon_cpp.specs.parts.Showing.{Shows, StopsWith, Refuses, Goes}
 use Rattle.daemon_cpp.specs.parts.Files.{Turns}
 use Rattle.daemon_cpp.proofs.Limits.{within, say-one, say-full}
@@ -32,7 +32,7 @@ unfolding after_events
 goes-none old main file x = λ state shows. (state, (within state (subst (λ (o : Laid). length o.text ≤ text_limit) (sym shows.output) shows.within), shows))
 
 -- one event, behind which another file may be read
-pub turns-one : {A : Type 0} (old : Kept) (output : Laid) (main : Path) (from to : Here) (step : State → Step) (event : Event) (x : A) →
+pub turns-one : {A : Type 0} (old : Kept) (output : Laid) (main : Path) (from to : Here) (step : State → PrepStep) (event : Event) (x : A) →
     ((state : State) → Shows old main from state → step state ≡ say (event ∷ []) (record state { here = to })) →
     output ≡ after_event old.layout event → length output.text ≤ text_limit → Turns old (record old { layout = output }) main from to step (Ok x)
 turns-one old output main from to step event x says grown fits = λ state shows. (
@@ -41,12 +41,12 @@ turns-one old output main from to step event x says grown fits = λ state shows.
 )
 
 -- one that doesn't fit
-pub turns-full : (A : Type 0) (old new : Kept) (main : Path) (from to : Here) (step : State → Step) (event : Event) (e : Stop) →
+pub turns-full : (A : Type 0) (old new : Kept) (main : Path) (from to : Here) (step : State → PrepStep) (event : Event) (e : Stop) →
     ((state : State) → Shows old main from state → step state ≡ say (event ∷ []) (record state { here = to })) →
     text_limit < length (after_event old.layout event).text → new.opened ≡ old.opened → Refuses (record { place = spelled main; at = 0; complaint = TextLimit }) e →
     Turns {A = A} old new main from to step (Err e)
 turns-full A old new main from to step event (stop.Ended words) says long same told = λ state shows.
-    subst (λ (s : Step). StopsWith words new.opened s) (sym (says state shows ∙ say-full event old.layout (record state { here = to }) shows.output long))
+    subst (λ (s : PrepStep). StopsWith words new.opened s) (sym (says state shows ∙ say-full event old.layout (record state { here = to }) shows.output long))
     (told ∙ ap (λ (p : Path). diagnostic_text (record { place = spelled p; at = 0; complaint = TextLimit })) (sym shows.source), shows.opened ∙ sym same)
 turns-full A old new main from to step event stop.Fault says long same told = absurd told
 turns-full A old new main from to step event stop.Memory says long same told = tt

@@ -16,17 +16,17 @@ use Rattle.daemon_cpp.specs.declared.pieces.Move.TheVariants.{Onward, Renumber}
 use Rattle.daemon_cpp.specs.declared.stop.Stop.{Stop}
 use Rattle.daemon_cpp.specs.declared.stop.Stop.TheVariants as stop
 use Rattle.daemon_cpp.specs.Diagnostics.{Diagnostic, TextLimit}
-use Rattle.daemon_cpp.specs.Prep.{World, Here, State, Step, Go, Stop as Stopped, Entering, with_value, of_job, limited, say, line_read, line_set, line_step, directive_step, piece_step}
-use Rattle.daemon_cpp.specs.parts.Showing.{Shows, StopsWith, Refuses, Leads, Goes, Moves, onward}
+use Rattle.daemon_cpp.specs.Prep.{World, Here, State, PrepStep, Go, Stop as Stopped, Entering, with_value, of_job, limited, say, line_read, line_set, line_step, directive_step, piece_step}
+use Rattle.daemon_cpp.specs.parts.Showing.{Shows, StopsWith, Refuses, Leads, Goes, Moves, moves_onward}
 use Rattle.daemon_cpp.proofs.Steps.{of-job}
 
 -- a step that is done leads to the next piece
-pub moves-onward : {A : Type 0} (old new : Kept) (main : Path) (file : Here) (step : State → Step) (done : Result A Stop) (r : Result Move Stop) →
-    r ≡ onward done → Goes old new main file step done → Moves old new main file (λ entering state. step state) r
+pub moves-onward : {A : Type 0} (old new : Kept) (main : Path) (file : Here) (step : State → PrepStep) (done : Result A Stop) (r : Result Move Stop) →
+    r ≡ moves_onward done → Goes old new main file step done → Moves old new main file (λ entering state. step state) r
 moves-onward {A} old new main file step done r is goes =
     subst (λ (m : Result Move Stop). Moves old new main file (λ entering state. step state) m) (sym is) (go done goes)
   where
-    go : (d : Result A Stop) → Goes old new main file step d → Moves old new main file (λ entering state. step state) (onward d)
+    go : (d : Result A Stop) → Goes old new main file step d → Moves old new main file (λ entering state. step state) (moves_onward d)
     go (Ok x) told = λ entering state shows. told state shows
     go (Err (stop.Ended words)) told = λ entering state shows. told state shows
     go (Err stop.Fault) told = tt
@@ -44,7 +44,7 @@ piece-moves world old new main file piece same r is moves =
     subst (λ (p : Piece). Moves old new main file (λ entering state. piece_step world entering p state) r) (sym is) moves
 
 -- a diagnostic at once, where nothing that is told was written
-pub moves-refuse : (old new : Kept) (main : Path) (file : Here) (f : Entering → State → Step) (d : Diagnostic) (e : Stop) → new.opened ≡ old.opened →
+pub moves-refuse : (old new : Kept) (main : Path) (file : Here) (f : Entering → State → PrepStep) (d : Diagnostic) (e : Stop) → new.opened ≡ old.opened →
     ((entering : Entering) (state : State) → Shows old main file state → (after : State) × ((f entering state ≡ Stopped d after) × (after.opened ≡ state.opened))) →
     Refuses d e → Moves old new main file f (Err e)
 moves-refuse old new main file f d (stop.Ended words) opened same told = λ entering state shows.

@@ -15,40 +15,40 @@ use Rattle.daemon_cpp.specs.declared.kept.Kept.{Kept}
 use Rattle.daemon_cpp.specs.declared.stop.Stop.{Stop}
 use Rattle.daemon_cpp.specs.declared.stop.Stop.TheVariants as stop
 use Rattle.daemon_cpp.specs.Diagnostics.{Diagnostic, TooLarge, WorkLimit}
-use Rattle.daemon_cpp.specs.Prep.{World, Here, Entering, State, Step, Go, Stop as Stopped, and_then, say, here_at, complain, complain_of_job, malformed_step, run_group, run_outline, run_file, opening_cost, open_file}
+use Rattle.daemon_cpp.specs.Prep.{World, Here, Entering, State, PrepStep, Go, Stop as Stopped, and_then, say, here_at, complain, complain_of_job, malformed_step, run_group, run_outline, run_file, opening_cost, open_file}
 use Rattle.daemon_cpp.specs.parts.Reading.{run_flat, reading, run_body, malformed_told, work_after}
-use Rattle.daemon_cpp.specs.parts.Showing.{Shows, StopsWith, Refuses, Goes, Opens, Begins, TellsNothing}
+use Rattle.daemon_cpp.specs.parts.Showing.{Shows, StopsWith, Refuses, Goes, Opens, BeginsFile, TellsNothing}
 use Rattle.daemon_cpp.proofs.Steps.{stops-on}
 use Rattle.daemon_cpp.proofs.Flat.{read-file}
 
 -- another way to say what is opened
-pub begins-same : (old new : Kept) (main : Path) (file : Here) (world : World) (f g : Entering → State → Step) (r : Result (List Piece) Stop) →
-    ((entering : Entering) (state : State) → Shows old main file state → g entering state ≡ f entering state) → Begins old new main file world f r → Begins old new main file world g r
+pub begins-same : (old new : Kept) (main : Path) (file : Here) (world : World) (f g : Entering → State → PrepStep) (r : Result (List Piece) Stop) →
+    ((entering : Entering) (state : State) → Shows old main file state → g entering state ≡ f entering state) → BeginsFile old new main file world f r → BeginsFile old new main file world g r
 begins-same old new main file world f g (Ok pieces) same begins = λ entering state shows.
     let one = begins entering state shows in
     (one.0, (same entering state shows ∙ one.1.0, one.1.1))
 begins-same old new main file world f g (Err (stop.Ended words)) same begins = λ entering state shows.
-    subst (λ (s : Step). StopsWith words new.opened s) (sym (same entering state shows)) (begins entering state shows)
+    subst (λ (s : PrepStep). StopsWith words new.opened s) (sym (same entering state shows)) (begins entering state shows)
 begins-same old new main file world f g (Err stop.Fault) same begins = tt
 begins-same old new main file world f g (Err stop.Memory) same begins = tt
 
 -- a diagnostic at once
-pub begins-refuse : (old : Kept) (main : Path) (file : Here) (world : World) (f : Entering → State → Step) (d : Diagnostic) (e : Stop) →
-    ((entering : Entering) (state : State) → Shows old main file state → f entering state ≡ Stopped d state) → Refuses d e → Begins old old main file world f (Err e)
+pub begins-refuse : (old : Kept) (main : Path) (file : Here) (world : World) (f : Entering → State → PrepStep) (d : Diagnostic) (e : Stop) →
+    ((entering : Entering) (state : State) → Shows old main file state → f entering state ≡ Stopped d state) → Refuses d e → BeginsFile old old main file world f (Err e)
 begins-refuse old main file world f d (stop.Ended words) same told = λ entering state shows.
-    subst (λ (s : Step). StopsWith words old.opened s) (sym (same entering state shows)) (told, shows.opened)
+    subst (λ (s : PrepStep). StopsWith words old.opened s) (sym (same entering state shows)) (told, shows.opened)
 begins-refuse old main file world f d stop.Fault same told = absurd told
 begins-refuse old main file world f d stop.Memory same told = tt
 
 -- events in front of the pieces
 pub begins-announced : {A : Type 0} (old new : Kept) (main : Path) (file : Here) (world : World) (events : List Event) (pieces : List Piece) (x : A) → Goes old new main file (λ state. say events state) (Ok x) →
-    Begins old new main file world (λ entering state. and_then (λ after. run_flat world entering reading pieces after) (say events state)) (Ok pieces)
+    BeginsFile old new main file world (λ entering state. and_then (λ after. run_flat world entering reading pieces after) (say events state)) (Ok pieces)
 begins-announced old new main file world events pieces x goes = λ entering state shows.
     let one = goes state shows in
     (one.0, (ap (and_then (λ after. run_flat world entering reading pieces after)) one.1.0, one.1.1))
 
 pub begins-full : (A : Type 0) (old new : Kept) (main : Path) (file : Here) (world : World) (events : List Event) (pieces : List Piece) (e : Stop) → Goes old new main file {A = A} (λ state. say events state) (Err e) →
-    Begins old new main file world (λ entering state. and_then (λ after. run_flat world entering reading pieces after) (say events state)) (Err e)
+    BeginsFile old new main file world (λ entering state. and_then (λ after. run_flat world entering reading pieces after) (say events state)) (Err e)
 begins-full A old new main file world events pieces (stop.Ended words) goes = λ entering state shows.
     stops-on (λ after. run_flat world entering reading pieces after) words new.opened (say events state) (goes state shows)
 begins-full A old new main file world events pieces stop.Fault goes = tt
@@ -60,7 +60,7 @@ malformed-here world entering (malformed.WithoutIf name at) state = refl
 malformed-here world entering (malformed.AfterElse name at) state = refl
 malformed-here world entering (malformed.Unended at) state = refl
 
-then-same : (f g : State → Step) → ((s : State) → f s ≡ g s) → (step : Step) → and_then f step ≡ and_then g step
+then-same : (f g : State → PrepStep) → ((s : State) → f s ≡ g s) → (step : PrepStep) → and_then f step ≡ and_then g step
 then-same f g same (Go s) = same s
 then-same f g same (Stopped d s) = refl
 
@@ -100,8 +100,8 @@ work-paid world entering events file state rest some =
 -- a file goes on with the work that is left
 pub begins-paid : (old new : Kept) (rest : ℕ) (main : Path) (file : Here) (world : World) (events : List Event) (tokens : LexedFile) (r : Result (List Piece) Stop) →
     ((entering : Entering) → Some rest ≡ work_after (opening_cost world entering tokens) old.work.left) →
-    Begins (record old { work = record { left = rest } }) new main file world (λ entering state. run_file world entering events tokens tokens.unended state) r →
-    Begins old new main file world (λ entering state. run_body world entering events tokens state) r
+    BeginsFile (record old { work = record { left = rest } }) new main file world (λ entering state. run_file world entering events tokens tokens.unended state) r →
+    BeginsFile old new main file world (λ entering state. run_body world entering events tokens state) r
 begins-paid old new rest main file world events tokens r some begins = by r begins
   where
     paid-state : (state : State) → Shows old main file state → Shows (record old { work = record { left = rest } }) main file (record state { left = rest })
@@ -119,13 +119,13 @@ begins-paid old new rest main file world events tokens r some begins = by r begi
     same : (entering : Entering) (state : State) → Shows old main file state → run_body world entering events tokens state ≡ run_file world entering events tokens tokens.unended (record state { left = rest })
     same entering state shows = work-paid world entering events tokens state rest (some entering ∙ ap (work_after (opening_cost world entering tokens)) (sym shows.left))
 
-    by : (r : Result (List Piece) Stop) → Begins (record old { work = record { left = rest } }) new main file world (λ entering state. run_file world entering events tokens tokens.unended state) r →
-        Begins old new main file world (λ entering state. run_body world entering events tokens state) r
+    by : (r : Result (List Piece) Stop) → BeginsFile (record old { work = record { left = rest } }) new main file world (λ entering state. run_file world entering events tokens tokens.unended state) r →
+        BeginsFile old new main file world (λ entering state. run_body world entering events tokens state) r
     by (Ok pieces) begins = λ entering state shows.
         let one = begins entering (record state { left = rest }) (paid-state state shows) in
         (one.0, (same entering state shows ∙ one.1.0, one.1.1))
     by (Err (stop.Ended words)) begins = λ entering state shows.
-        subst (λ (s : Step). StopsWith words new.opened s) (sym (same entering state shows)) (begins entering (record state { left = rest }) (paid-state state shows))
+        subst (λ (s : PrepStep). StopsWith words new.opened s) (sym (same entering state shows)) (begins entering (record state { left = rest }) (paid-state state shows))
     by (Err stop.Fault) begins = tt
     by (Err stop.Memory) begins = tt
 
@@ -174,24 +174,24 @@ pub opens-large : (old : Kept) (main : Path) (world : World) (hit : Hit) (events
     Refuses (record { place = spelled hit.0.place; at = 0; complaint = TooLarge }) e →
     Opens old (record old { opened = old.opened ++ hit.0.place ∷ [] }) main world hit (λ entering state. open_file world entering events hit state) (Err e)
 opens-large old main world hit events (stop.Ended words) is told = λ entering file state shows.
-    subst (λ (s : Step). StopsWith words (old.opened ++ hit.0.place ∷ []) s) (sym (too-large world entering events hit state is)) (told, (noted-shows old main file hit state shows).opened)
+    subst (λ (s : PrepStep). StopsWith words (old.opened ++ hit.0.place ∷ []) s) (sym (too-large world entering events hit state is)) (told, (noted-shows old main file hit state shows).opened)
 opens-large old main world hit events stop.Fault is told = absurd told
 opens-large old main world hit events stop.Memory is told = tt
 
 -- one that isn't
 pub opens-body : (old new : Kept) (main : Path) (world : World) (hit : Hit) (events : List Event) (body : Text) (r : Result (List Piece) Stop) → Some body ≡ body_within (world.body hit.1.real) →
-    Begins (record old { opened = old.opened ++ hit.0.place ∷ [] }) new main (here_at hit) world (λ entering state. run_body world entering events (lexed world.trigraphs body) state) r →
+    BeginsFile (record old { opened = old.opened ++ hit.0.place ∷ [] }) new main (here_at hit) world (λ entering state. run_body world entering events (lexed world.trigraphs body) state) r →
     Opens old new main world hit (λ entering state. open_file world entering events hit state) r
 opens-body old new main world hit events body (Ok pieces) is begins = λ entering file state shows.
     let one = begins entering (noted hit state) (noted-shows old main file hit state shows) in
     (one.0, (of-size world entering events hit state body is ∙ one.1.0, one.1.1))
 opens-body old new main world hit events body (Err (stop.Ended words)) is begins = λ entering file state shows.
-    subst (λ (s : Step). StopsWith words new.opened s) (sym (of-size world entering events hit state body is)) (begins entering (noted hit state) (noted-shows old main file hit state shows))
+    subst (λ (s : PrepStep). StopsWith words new.opened s) (sym (of-size world entering events hit state body is)) (begins entering (noted hit state) (noted-shows old main file hit state shows))
 opens-body old new main world hit events body (Err stop.Fault) is begins = tt
 opens-body old new main world hit events body (Err stop.Memory) is begins = tt
 
 -- where a tree tells nothing
-pub opens-nothing : (old new : Kept) (main : Path) (world : World) (hit : Hit) (step : Entering → State → Step) (e : Stop) → TellsNothing e → Opens old new main world hit step (Err e)
+pub opens-nothing : (old new : Kept) (main : Path) (world : World) (hit : Hit) (step : Entering → State → PrepStep) (e : Stop) → TellsNothing e → Opens old new main world hit step (Err e)
 opens-nothing old new main world hit step (stop.Ended words) silent = absurd silent
 opens-nothing old new main world hit step stop.Fault silent = tt
 opens-nothing old new main world hit step stop.Memory silent = tt

@@ -19,10 +19,10 @@ use Rattle.daemon_cpp.specs.declared.cpp.OpenFile.{OpenFile}
 use Rattle.daemon_cpp.specs.declared.cpp.Left.{Left}
 use Rattle.daemon_cpp.specs.declared.cpp.Reader.{Reader}
 use Rattle.daemon_cpp.specs.Diagnostics.{TooNested, diagnostic_text}
-use Rattle.daemon_cpp.specs.Prep.{World, Here, Entering, State, Step, Go, Stop as Stopped, and_then, with_value, piece_step, piece_test, found_file, complain, open_file, enter_file, back_in, depth_limit, run_forced, open_source, here_at}
+use Rattle.daemon_cpp.specs.Prep.{World, Here, Entering, State, PrepStep, Go, Stop as Stopped, and_then, with_value, piece_step, piece_test, found_file, complain, open_file, enter_file, back_in, depth_limit, run_forced, open_source, here_at}
 use Rattle.daemon_cpp.specs.parts.Reading.{Frame, run_flat, staged, stage_of, reading, seeking, entering_at}
 use Rattle.daemon_cpp.specs.parts.Showing.{Shows, StopsWith, Refuses, Leads, Moves, Seeks, Includes, Opens}
-use Rattle.daemon_cpp.specs.parts.Files.{After, here_of, rest_of, frame_of, frames_of, told_of, told_behind, run_rest, LeadsTo, StepsTo, EntersTo, ComesTo, opened_file, GoesInto, Brings, IsEnd, Turns, AllRead, work_ahead, source_behind, behind_piece, Follows, NamedTo, InsideTo}
+use Rattle.daemon_cpp.specs.parts.Files.{After, here_of, pieces_left, frame_of, frames_of, told_of, told_behind, run_rest, RestLeadsTo, StepsTo, EntersTo, ComesTo, opened_file, GoesInto, Brings, IsEnd, Turns, AllRead, work_ahead, source_behind, behind_piece, MoveLeadsTo, NamedTo, InsideTo}
 use Rattle.daemon_cpp.proofs.Steps.{stops-on, ends-step}
 use Rattle.daemon_cpp.proofs.Skipping.{filler}
 use Rattle.daemon_cpp.proofs.Flat.{at-role}
@@ -58,44 +58,44 @@ brings-before first before reader after (Err stop.Memory) to brings = tt
 
 -- ---- a piece ----
 
-pub rest-at : (file : OpenFile) (piece : Piece) → piece ≡ get_or file.pieces file.next piece → file.next < length file.pieces → rest_of file ≡ piece ∷ drop (file.next + 1) file.pieces
+pub rest-at : (file : OpenFile) (piece : Piece) → piece ≡ get_or file.pieces file.next piece → file.next < length file.pieces → pieces_left file ≡ piece ∷ drop (file.next + 1) file.pieces
 rest-at file piece is below = drop_more file.pieces file.next piece below ∙ ap (λ (p : Piece). p ∷ drop (file.next + 1) file.pieces) (sym is)
 
 single-first : (world : World) (frames : List Frame) (file : OpenFile) (piece : Piece) (state : State) → piece ≡ get_or file.pieces file.next piece → file.next < length file.pieces → role_of piece ≡ single →
-    run_rest world frames (rest_of file) state ≡ and_then (λ after. run_rest world frames (drop (file.next + 1) file.pieces) after) (piece_step world (entering_at world (length frames)) piece state)
+    run_rest world frames (pieces_left file) state ≡ and_then (λ after. run_rest world frames (drop (file.next + 1) file.pieces) after) (piece_step world (entering_at world (length frames)) piece state)
 single-first world frames file piece state is below role =
     ap (λ (ps : List Piece). run_rest world frames ps state) (rest-at file piece is below)
     ∙ at-role world (entering_at world (length frames)) piece (drop (file.next + 1) file.pieces) state reading single role
 
 -- a piece that stands by itself
 module _ (world : World) (behind : After) (reader : Reader) (new : Kept) (piece : Piece) (is : piece ≡ get_or reader.file.pieces reader.file.next piece) (below : reader.file.next < length reader.file.pieces) (role : role_of piece ≡ single) where
-  read-first : (whole : Told) (left : LeadsTo world behind reader whole) →
+  read-first : (whole : Told) (left : RestLeadsTo world behind reader whole) →
       told_behind world behind (frames_of reader) (and_then (λ after. run_rest world (frames_of reader) (drop (reader.file.next + 1) reader.file.pieces) after) (piece_step world (entering_at world (length (frames_of reader))) piece left.state)) ≡ whole
   read-first whole left =
-      sym (ap (λ (step : Step). told_behind world behind (frames_of reader) step) (single-first world (frames_of reader) reader.file piece left.state is below role)) ∙ left.same
+      sym (ap (λ (step : PrepStep). told_behind world behind (frames_of reader) step) (single-first world (frames_of reader) reader.file piece left.state is below role)) ∙ left.same
 
   pub piece-brings : (r : Result Move Stop) → Moves reader.kept new reader.source (here_of reader.file) (λ entering state. piece_step world entering piece state) r →
-      Brings (LeadsTo world behind reader) (behind_piece reader new) (λ move whole. Follows world behind (behind_piece reader new) move whole) r
+      Brings (RestLeadsTo world behind reader) (behind_piece reader new) (λ move whole. MoveLeadsTo world behind (behind_piece reader new) move whole) r
   piece-brings (Ok Onward) moves = λ whole left.
       let one = moves (entering_at world (length (frames_of reader))) left.state left.shows in
       record {
         state = one.0;
         shows = one.1.1;
-        same = sym (ap (λ (step : Step). told_behind world behind (frames_of reader) (and_then (λ after. run_rest world (frames_of reader) (drop (reader.file.next + 1) reader.file.pieces) after) step)) one.1.0) ∙ read-first whole left;
+        same = sym (ap (λ (step : PrepStep). told_behind world behind (frames_of reader) (and_then (λ after. run_rest world (frames_of reader) (drop (reader.file.next + 1) reader.file.pieces) after) step)) one.1.0) ∙ read-first whole left;
       }
   piece-brings (Ok (Enter at inner)) moves = λ whole left.
       let one = moves (entering_at world (length (frames_of reader))) left.state left.shows in
       record {
         state = one.0;
         shows = one.1.1;
-        same = sym (ap (λ (step : Step). told_behind world behind (frames_of reader) (and_then (λ after. run_rest world (frames_of reader) (drop (reader.file.next + 1) reader.file.pieces) after) step)) one.1.0) ∙ read-first whole left;
+        same = sym (ap (λ (step : PrepStep). told_behind world behind (frames_of reader) (and_then (λ after. run_rest world (frames_of reader) (drop (reader.file.next + 1) reader.file.pieces) after) step)) one.1.0) ∙ read-first whole left;
       }
   piece-brings (Ok (Renumber at numbers)) moves = λ whole left.
       let one = moves (entering_at world (length (frames_of reader))) left.state left.shows in
       record {
         state = one.0;
         shows = one.1.1;
-        same = sym (ap (λ (step : Step). told_behind world behind (frames_of reader) (and_then (λ after. run_rest world (frames_of reader) (drop (reader.file.next + 1) reader.file.pieces) after) step)) one.1.0) ∙ read-first whole left;
+        same = sym (ap (λ (step : PrepStep). told_behind world behind (frames_of reader) (and_then (λ after. run_rest world (frames_of reader) (drop (reader.file.next + 1) reader.file.pieces) after) step)) one.1.0) ∙ read-first whole left;
       }
   piece-brings (Err (stop.Ended words)) moves = λ whole left.
       stopped world behind (frames_of reader) words new.opened (and_then (λ after. run_rest world (frames_of reader) (drop (reader.file.next + 1) reader.file.pieces) after) (piece_step world (entering_at world (length (frames_of reader))) piece left.state))
@@ -105,9 +105,9 @@ module _ (world : World) (behind : After) (reader : Reader) (new : Kept) (piece 
   piece-brings (Err stop.Memory) moves = tt
 
 -- a step between two files
-pub turns-brings : {A : Type 0} (world : World) (behind : After) (reader after : Reader) (from : Here) (step : State → Step) (r : Result A Stop) →
-    after.source ≡ reader.source → after.around ≡ reader.around → rest_of after.file ≡ rest_of reader.file →
-    Turns reader.kept after.kept reader.source from (here_of after.file) step r → Brings (StepsTo world behind reader from step) after (λ done. LeadsTo world behind after) r
+pub turns-brings : {A : Type 0} (world : World) (behind : After) (reader after : Reader) (from : Here) (step : State → PrepStep) (r : Result A Stop) →
+    after.source ≡ reader.source → after.around ≡ reader.around → pieces_left after.file ≡ pieces_left reader.file →
+    Turns reader.kept after.kept reader.source from (here_of after.file) step r → Brings (StepsTo world behind reader from step) after (λ done. RestLeadsTo world behind after) r
 turns-brings world behind reader after from step (Ok x) source around rest turns = λ whole steps.
     let one = turns steps.state steps.shows in
     record {
@@ -115,13 +115,13 @@ turns-brings world behind reader after from step (Ok x) source around rest turns
       shows = subst (λ (p : Path). Shows after.kept p (here_of after.file) one.0) (sym source) one.1.1;
       same =
           ap (λ (rest : List Piece). told_behind world behind (frames_of after) (run_rest world (frames_of after) rest one.0)) rest
-          ∙ ap (λ (left : Vec Left Global). told_behind world behind (map frame_of left.items) (run_rest world (map frame_of left.items) (rest_of reader.file) one.0)) around
-          ∙ sym (ap (λ (s : Step). told_behind world behind (frames_of reader) (and_then (λ after. run_rest world (frames_of reader) (rest_of reader.file) after) s)) one.1.0)
+          ∙ ap (λ (left : Vec Left Global). told_behind world behind (map frame_of left.items) (run_rest world (map frame_of left.items) (pieces_left reader.file) one.0)) around
+          ∙ sym (ap (λ (s : PrepStep). told_behind world behind (frames_of reader) (and_then (λ after. run_rest world (frames_of reader) (pieces_left reader.file) after) s)) one.1.0)
           ∙ steps.same;
     }
 turns-brings world behind reader after from step (Err (stop.Ended words)) source around rest turns = λ whole steps.
-    stopped world behind (frames_of reader) words after.kept.opened (and_then (λ after. run_rest world (frames_of reader) (rest_of reader.file) after) (step steps.state))
-    (stops-on (λ after. run_rest world (frames_of reader) (rest_of reader.file) after) words after.kept.opened (step steps.state) (turns steps.state steps.shows))
+    stopped world behind (frames_of reader) words after.kept.opened (and_then (λ after. run_rest world (frames_of reader) (pieces_left reader.file) after) (step steps.state))
+    (stops-on (λ after. run_rest world (frames_of reader) (pieces_left reader.file) after) words after.kept.opened (step steps.state) (turns steps.state steps.shows))
     ∙ steps.same
 turns-brings world behind reader after from step (Err stop.Fault) source around rest turns = tt
 turns-brings world behind reader after from step (Err stop.Memory) source around rest turns = tt
@@ -130,26 +130,26 @@ turns-brings world behind reader after from step (Err stop.Memory) source around
 
 -- the file goes on at another piece
 pub goes-on-at : (world : World) (behind : After) (reader : Reader) (n : ℕ) →
-    ((entering : Entering) (state : State) → run_flat world entering reading (rest_of reader.file) state ≡ run_flat world entering reading (drop n reader.file.pieces) state) →
-    (whole : Told) → LeadsTo world behind reader whole → LeadsTo world behind (record reader { file = record reader.file { next = n } }) whole
+    ((entering : Entering) (state : State) → run_flat world entering reading (pieces_left reader.file) state ≡ run_flat world entering reading (drop n reader.file.pieces) state) →
+    (whole : Told) → RestLeadsTo world behind reader whole → RestLeadsTo world behind (record reader { file = record reader.file { next = n } }) whole
 goes-on-at world behind reader n same whole left = record {
   state = left.state;
   shows = left.shows;
-  same = sym (ap (λ (step : Step). told_behind world behind (frames_of reader) step) (same (entering_at world (length (frames_of reader))) left.state)) ∙ left.same;
+  same = sym (ap (λ (step : PrepStep). told_behind world behind (frames_of reader) step) (same (entering_at world (length (frames_of reader))) left.state)) ∙ left.same;
 }
 
 pub seeks-brings : (world : World) (behind : After) (reader : Reader) (new : Kept) (r : Result ℕ Stop) →
-    Seeks reader.kept new reader.source (here_of reader.file) world reader.file.pieces (λ entering state. run_flat world entering reading (rest_of reader.file) state) r →
-    Brings (LeadsTo world behind reader) (record reader { kept = new }) (λ n whole. LeadsTo world behind (record reader { kept = new; file = record reader.file { next = n } }) whole) r
+    Seeks reader.kept new reader.source (here_of reader.file) world reader.file.pieces (λ entering state. run_flat world entering reading (pieces_left reader.file) state) r →
+    Brings (RestLeadsTo world behind reader) (record reader { kept = new }) (λ n whole. RestLeadsTo world behind (record reader { kept = new; file = record reader.file { next = n } }) whole) r
 seeks-brings world behind reader new (Ok n) seeks = λ whole left.
     let one = seeks (entering_at world (length (frames_of reader))) left.state left.shows in
     record {
       state = one.0;
       shows = one.1.1;
-      same = sym (ap (λ (step : Step). told_behind world behind (frames_of reader) step) one.1.0) ∙ left.same;
+      same = sym (ap (λ (step : PrepStep). told_behind world behind (frames_of reader) step) one.1.0) ∙ left.same;
     }
 seeks-brings world behind reader new (Err (stop.Ended words)) seeks = λ whole left.
-    stopped world behind (frames_of reader) words new.opened (run_rest world (frames_of reader) (rest_of reader.file) left.state) (seeks (entering_at world (length (frames_of reader))) left.state left.shows) ∙ left.same
+    stopped world behind (frames_of reader) words new.opened (run_rest world (frames_of reader) (pieces_left reader.file) left.state) (seeks (entering_at world (length (frames_of reader))) left.state left.shows) ∙ left.same
 seeks-brings world behind reader new (Err stop.Fault) seeks = tt
 seeks-brings world behind reader new (Err stop.Memory) seeks = tt
 
@@ -170,7 +170,7 @@ module _ (main : Path) (file : Here) (world : World) (pieces : List Piece) (line
   pub opening-stops : (old new : Kept) (e : Stop) → Leads old new main file {A = Bool} (λ state. piece_test world p state) (Err e) →
       Seeks old new main file world pieces (λ entering state. run_flat world entering reading (drop line pieces) state) (Err e)
   opening-stops old new (stop.Ended words) leads = λ entering state shows.
-      subst (λ (s : Step). StopsWith words new.opened s) (sym (opening-first entering state))
+      subst (λ (s : PrepStep). StopsWith words new.opened s) (sym (opening-first entering state))
       (ends-step (λ holds after. run_flat world entering (stage_of holds) (drop (line + 1) pieces) after) words new.opened (piece_test world p state) (leads state shows))
   opening-stops old new stop.Fault leads = tt
   opening-stops old new stop.Memory leads = tt
@@ -184,7 +184,7 @@ module _ (main : Path) (file : Here) (world : World) (pieces : List Piece) (line
       (two.0, (opening-first entering state ∙ ap (with_value (λ holds after. run_flat world entering (stage_of holds) (drop (line + 1) pieces) after)) one.1.0 ∙ two.1.0, two.1.1))
   opening-seeks old mid new (Err (stop.Ended words)) leads seeks = λ entering state shows.
       let one = leads state shows in
-      subst (λ (s : Step). StopsWith words new.opened s) (sym (opening-first entering state ∙ ap (with_value (λ holds after. run_flat world entering (stage_of holds) (drop (line + 1) pieces) after)) one.1.0))
+      subst (λ (s : PrepStep). StopsWith words new.opened s) (sym (opening-first entering state ∙ ap (with_value (λ holds after. run_flat world entering (stage_of holds) (drop (line + 1) pieces) after)) one.1.0))
       (seeks entering one.0 one.1.1)
   opening-seeks old mid new (Err stop.Fault) leads seeks = tt
   opening-seeks old mid new (Err stop.Memory) leads seeks = tt
@@ -203,21 +203,21 @@ pub too-deep : {A : Type 0} (world : World) (behind : After) (reader : Reader) (
 too-deep world behind reader at inner after (stop.Ended words) deep told = λ whole enters_to.
     let past : 200 ≤ length (frames_of reader) = omega (arith, deep, length-map reader.around.items frame_of) in
     let nested = too-nested world (length (frames_of reader)) at inner enters_to.state past in
-    stopped world behind (frames_of reader) words reader.kept.opened (and_then (λ s. run_rest world (frames_of reader) (rest_of reader.file) s) (complain at TooNested enters_to.state))
+    stopped world behind (frames_of reader) words reader.kept.opened (and_then (λ s. run_rest world (frames_of reader) (pieces_left reader.file) s) (complain at TooNested enters_to.state))
     (told ∙ ap (λ (h : Here). diagnostic_text (record { place = spelled h.place; at = at; complaint = TooNested })) (sym enters_to.shows.here), enters_to.shows.opened)
-    ∙ sym (ap (λ (step : Step). told_behind world behind (frames_of reader) (and_then (λ s. run_rest world (frames_of reader) (rest_of reader.file) s) step)) nested)
+    ∙ sym (ap (λ (step : PrepStep). told_behind world behind (frames_of reader) (and_then (λ s. run_rest world (frames_of reader) (pieces_left reader.file) s) step)) nested)
     ∙ enters_to.same
 too-deep world behind reader at inner after stop.Fault deep told = absurd told
 too-deep world behind reader at inner after stop.Memory deep told = tt
 
 -- the step that enters a file, level by level
 enter-step : (world : World) (behind : After) (reader : Reader) (at : ℕ) (inner : Hit) (whole : Told) → length reader.around.items < 200 → (enters_to : EntersTo world behind reader at inner whole) →
-    told_behind world behind (frames_of reader) (and_then (λ s. run_rest world (frames_of reader) (rest_of reader.file) s) (and_then (λ s. back_in (here_of reader.file) at s)
+    told_behind world behind (frames_of reader) (and_then (λ s. run_rest world (frames_of reader) (pieces_left reader.file) s) (and_then (λ s. back_in (here_of reader.file) at s)
     (open_file world (entering_at world (suc (length (frames_of reader)))) (enter (presumed_name inner.0.place) ∷ []) inner enters_to.state))) ≡ whole
 enter-step world behind reader at inner whole shallow enters_to =
     let below : length (frames_of reader) < 200 = omega (arith, shallow, length-map reader.around.items frame_of) in
     let opens = open_file world (entering_at world (suc (length (frames_of reader)))) (enter (presumed_name inner.0.place) ∷ []) inner enters_to.state in
-    let behind_step = λ (step : Step). told_behind world behind (frames_of reader) (and_then (λ s. run_rest world (frames_of reader) (rest_of reader.file) s) step) in
+    let behind_step = λ (step : PrepStep). told_behind world behind (frames_of reader) (and_then (λ s. run_rest world (frames_of reader) (pieces_left reader.file) s) step) in
     sym (ap (λ (h : Here). behind_step (and_then (λ s. back_in h at s) opens)) enters_to.shows.here)
     ∙ sym (ap behind_step (enters world (length (frames_of reader)) at inner enters_to.state below))
     ∙ enters_to.same
@@ -225,8 +225,8 @@ enter-step world behind reader at inner whole shallow enters_to =
 -- a reader that has gone into a file
 inside : (world : World) (behind : After) (reader after : Reader) (at : ℕ) (inner : Hit) (pieces : List Piece) (state : State) (whole : Told) →
     GoesInto reader (opened_file inner pieces) at after → Shows reader.kept reader.source (here_at inner) state →
-    told_behind world behind (frames_of reader) (and_then (λ s. run_rest world (frames_of reader) (rest_of reader.file) s) (and_then (λ s. back_in (here_of reader.file) at s) (run_flat world (entering_at world (suc (length (frames_of reader)))) reading pieces state))) ≡ whole →
-    LeadsTo world behind after whole
+    told_behind world behind (frames_of reader) (and_then (λ s. run_rest world (frames_of reader) (pieces_left reader.file) s) (and_then (λ s. back_in (here_of reader.file) at s) (run_flat world (entering_at world (suc (length (frames_of reader)))) reading pieces state))) ≡ whole →
+    RestLeadsTo world behind after whole
 inside world behind reader after at inner pieces state whole goes shows same =
     let left : Left = record { file = reader.file; at = at } in
     let frames : frames_of after ≡ frames_of reader ++ frame_of left ∷ [] = ap (map frame_of) goes.around ∙ map-append frame_of reader.around.items (left ∷ []) in
@@ -237,7 +237,7 @@ inside world behind reader after at inner pieces state whole goes shows same =
           subst (λ (h : Here). Shows after.kept after.source h state) (ap here_of (sym goes.file_is))
           (subst (λ (p : Path). Shows after.kept p (here_at inner) state) (sym goes.source) (subst (λ (k : Kept). Shows k reader.source (here_at inner) state) (sym goes.kept) shows));
       same =
-          ap (λ (file : OpenFile). told_behind world behind (frames_of after) (run_rest world (frames_of after) (rest_of file) state)) goes.file_is
+          ap (λ (file : OpenFile). told_behind world behind (frames_of after) (run_rest world (frames_of after) (pieces_left file) state)) goes.file_is
           ∙ ap (λ (fs : List Frame). told_behind world behind fs (run_rest world fs pieces state)) frames
           ∙ ap (λ (n : ℕ). told_behind world behind (frames_of reader ++ frame_of left ∷ []) (run_flat world (entering_at world n) reading pieces state)) longer
           ∙ behind-frame world behind (frames_of reader) (frame_of left) (run_flat world (entering_at world (suc (length (frames_of reader)))) reading pieces state)
@@ -250,13 +250,13 @@ pub opens-brings : (world : World) (behind : After) (reader : Reader) (new : Kep
 opens-brings world behind reader new at inner (Ok pieces) shallow opens = λ whole enters_to after goes.
     let one = opens (entering_at world (suc (length (frames_of reader)))) (here_of reader.file) enters_to.state enters_to.shows in
     inside world behind (record reader { kept = new }) after at inner pieces one.0 whole goes one.1.1
-    (sym (ap (λ (step : Step). told_behind world behind (frames_of reader) (and_then (λ s. run_rest world (frames_of reader) (rest_of reader.file) s) (and_then (λ s. back_in (here_of reader.file) at s) step))) one.1.0)
+    (sym (ap (λ (step : PrepStep). told_behind world behind (frames_of reader) (and_then (λ s. run_rest world (frames_of reader) (pieces_left reader.file) s) (and_then (λ s. back_in (here_of reader.file) at s) step))) one.1.0)
     ∙ enter-step world behind reader at inner whole shallow enters_to)
 opens-brings world behind reader new at inner (Err (stop.Ended words)) shallow opens = λ whole enters_to.
     let opening = open_file world (entering_at world (suc (length (frames_of reader)))) (enter (presumed_name inner.0.place) ∷ []) inner enters_to.state in
     let back = and_then (λ s. back_in (here_of reader.file) at s) opening in
-    stopped world behind (frames_of reader) words new.opened (and_then (λ s. run_rest world (frames_of reader) (rest_of reader.file) s) back)
-    (stops-on (λ s. run_rest world (frames_of reader) (rest_of reader.file) s) words new.opened back
+    stopped world behind (frames_of reader) words new.opened (and_then (λ s. run_rest world (frames_of reader) (pieces_left reader.file) s) back)
+    (stops-on (λ s. run_rest world (frames_of reader) (pieces_left reader.file) s) words new.opened back
     (stops-on (λ s. back_in (here_of reader.file) at s) words new.opened opening (opens (entering_at world (suc (length (frames_of reader)))) (here_of reader.file) enters_to.state enters_to.shows)))
     ∙ enter-step world behind reader at inner whole shallow enters_to
 opens-brings world behind reader new at inner (Err stop.Fault) shallow opens = tt
@@ -266,17 +266,17 @@ opens-brings world behind reader new at inner (Err stop.Memory) shallow opens = 
 
 pub came-back : (world : World) (behind : After) (reader after : Reader) (outer : Left) (whole : Told) → length reader.file.pieces ≤ reader.file.next → reader.around.items ≡ after.around.items ++ outer ∷ [] →
     after.source ≡ reader.source → after.kept ≡ reader.kept → after.file ≡ outer.file →
-    LeadsTo world behind reader whole → StepsTo world behind after (here_of reader.file) (λ state. back_in (here_of outer.file) outer.at state) whole
+    RestLeadsTo world behind reader whole → StepsTo world behind after (here_of reader.file) (λ state. back_in (here_of outer.file) outer.at state) whole
 came-back world behind reader after outer whole ends around_is source kept file left =
     let frames : frames_of reader ≡ frames_of after ++ frame_of outer ∷ [] = ap (map frame_of) around_is ∙ map-append frame_of after.around.items (outer ∷ []) in
     record {
       state = left.state;
       shows = subst (λ (p : Path). Shows after.kept p (here_of reader.file) left.state) (sym source) (subst (λ (k : Kept). Shows k reader.source (here_of reader.file) left.state) (sym kept) left.shows);
       same =
-          ap (λ (f : OpenFile). told_behind world behind (frames_of after) (and_then (λ s. run_rest world (frames_of after) (rest_of f) s) (back_in (here_of outer.file) outer.at left.state))) file
+          ap (λ (f : OpenFile). told_behind world behind (frames_of after) (and_then (λ s. run_rest world (frames_of after) (pieces_left f) s) (back_in (here_of outer.file) outer.at left.state))) file
           ∙ sym (behind-frame world behind (frames_of after) (frame_of outer) (Go left.state))
           ∙ sym (ap (λ (fs : List Frame). told_behind world behind fs (Go left.state)) frames)
-          ∙ sym (ap (λ (step : Step). told_behind world behind (frames_of reader) step) (none-left world (frames_of reader) left.state))
+          ∙ sym (ap (λ (step : PrepStep). told_behind world behind (frames_of reader) step) (none-left world (frames_of reader) left.state))
           ∙ sym (ap (λ (rest : List Piece). told_behind world behind (frames_of reader) (run_rest world (frames_of reader) rest left.state)) (drop_all reader.file.next reader.file.pieces ends))
           ∙ left.same;
     }
@@ -284,14 +284,14 @@ came-back world behind reader after outer whole ends around_is source kept file 
 -- ---- all files ----
 
 alone-behind : (world : World) (behind : After) (reader : Reader) (state : State) → length reader.file.pieces ≤ reader.file.next → reader.around.items ≡ [] →
-    told_behind world behind (frames_of reader) (run_rest world (frames_of reader) (rest_of reader.file) state) ≡ told_of (behind state)
+    told_behind world behind (frames_of reader) (run_rest world (frames_of reader) (pieces_left reader.file) state) ≡ told_of (behind state)
 alone-behind world behind reader state ends alone =
     ap (λ (rest : List Piece). told_behind world behind (frames_of reader) (run_rest world (frames_of reader) rest state)) (drop_all reader.file.next reader.file.pieces ends)
-    ∙ ap (λ (step : Step). told_behind world behind (frames_of reader) step) (none-left world (frames_of reader) state)
+    ∙ ap (λ (step : PrepStep). told_behind world behind (frames_of reader) step) (none-left world (frames_of reader) state)
     ∙ ap (λ (items : List Left). told_behind world behind (map frame_of items) (Go state)) alone
     ∙ at-end world behind (Go state)
 
-pub all-read : (world : World) (behind : After) (reader : Reader) (whole : Told) → AllRead reader → LeadsTo world behind reader whole → ComesTo behind reader whole
+pub all-read : (world : World) (behind : After) (reader : Reader) (whole : Told) → AllRead reader → RestLeadsTo world behind reader whole → ComesTo behind reader whole
 all-read world behind reader whole read left = record {
   state = left.state;
   shows = left.shows;
@@ -301,7 +301,7 @@ all-read world behind reader whole read left = record {
 -- ---- a file of the job's words ----
 
 -- what a name of the job's words does
-abbrev pub named_step : World → Text → Entering → State → Step
+abbrev pub named_step : World → Text → Entering → State → PrepStep
 named_step world name entering state = found_file world entering 0 false name state (world.find (forced_ask name))
 
 -- the files of a name and of the names behind it
@@ -319,7 +319,7 @@ named-brings world source name names reader new (Ok None) read includes = λ who
     record {
       state = one.0;
       shows = one.1.1;
-      same = sym (ap (λ (step : Step). told_of (and_then (λ after. source_behind world source names after) step)) one.1.0) ∙ sym (named-first world source name names comes.state) ∙ comes.same;
+      same = sym (ap (λ (step : PrepStep). told_of (and_then (λ after. source_behind world source names after) step)) one.1.0) ∙ sym (named-first world source name names comes.state) ∙ comes.same;
     }
 named-brings world source name names reader new (Ok (Some hit)) read includes = λ whole comes.
     let one = includes (enter_file world depth_limit) comes.state comes.shows in
@@ -328,16 +328,16 @@ named-brings world source name names reader new (Ok (Some hit)) read includes = 
       state = one.0;
       shows = one.1.1;
       same =
-          ap (λ (items : List Left). told_behind world behind (map frame_of items) (and_then (λ s. run_rest world (map frame_of items) (rest_of reader.file) s) (entering_at world (length (map frame_of items)) 0 hit one.0))) read.alone
-          ∙ at-end world behind (and_then (λ s. run_rest world [] (rest_of reader.file) s) (entering_at world 0 0 hit one.0))
+          ap (λ (items : List Left). told_behind world behind (map frame_of items) (and_then (λ s. run_rest world (map frame_of items) (pieces_left reader.file) s) (entering_at world (length (map frame_of items)) 0 hit one.0))) read.alone
+          ∙ at-end world behind (and_then (λ s. run_rest world [] (pieces_left reader.file) s) (entering_at world 0 0 hit one.0))
           ∙ ap (λ (rest : List Piece). told_of (and_then behind (and_then (λ s. run_rest world [] rest s) (entering_at world 0 0 hit one.0)))) (drop_all reader.file.next reader.file.pieces read.ended)
-          ∙ ap (λ (step : Step). told_of (and_then behind step)) (then-nothing world (entering_at world 0 0 hit one.0))
-          ∙ sym (ap (λ (step : Step). told_of (and_then behind step)) one.1.0)
+          ∙ ap (λ (step : PrepStep). told_of (and_then behind step)) (then-nothing world (entering_at world 0 0 hit one.0))
+          ∙ sym (ap (λ (step : PrepStep). told_of (and_then behind step)) one.1.0)
           ∙ sym (named-first world source name names comes.state)
           ∙ comes.same;
     }
   where
-    then-nothing : (world : World) (step : Step) → and_then (λ s. run_rest world [] [] s) step ≡ step
+    then-nothing : (world : World) (step : PrepStep) → and_then (λ s. run_rest world [] [] s) step ≡ step
     then-nothing world (Go state) = none-left world [] state
     then-nothing world (Stopped d state) = refl
 named-brings world source name names reader new (Err (stop.Ended words)) read includes = λ whole comes.
@@ -366,7 +366,7 @@ source-next world source state = refl
 
 pub source-brings : (world : World) (source : Hit) (reader : Reader) (new : Kept) (r : Result (List Piece) Stop) → AllRead reader →
     Opens reader.kept new reader.source world source (λ entering state. open_file world entering [] source state) r →
-    Brings (ComesTo (source_behind world source []) reader) (record reader { kept = new }) (λ pieces whole. LeadsTo world (λ state. Go state) (record reader { kept = new; file = opened_file source pieces }) whole) r
+    Brings (ComesTo (source_behind world source []) reader) (record reader { kept = new }) (λ pieces whole. RestLeadsTo world (λ state. Go state) (record reader { kept = new; file = opened_file source pieces }) whole) r
 source-brings world source reader new (Ok pieces) read opens = λ whole comes.
     let one = opens (enter_file world depth_limit) (here_of reader.file) comes.state comes.shows in
     record {
@@ -400,6 +400,6 @@ less-here before after spent around pieces later below =
 pub less-inside : (before reader after : Reader) (at : ℕ) (inner : Hit) (pieces : List Piece) → length pieces + 1 + (reader.kept.work.left + reader.kept.work.left) ≤ before.kept.work.left + before.kept.work.left →
     reader.file ≡ before.file → reader.around ≡ before.around → GoesInto reader (opened_file inner pieces) at after → work_ahead after < suc (work_ahead before)
 less-inside before reader after at inner pieces paid same_file same_around goes =
-    let weight : Left → ℕ = λ left. length (rest_of left.file) + 1 in
+    let weight : Left → ℕ = λ left. length (pieces_left left.file) + 1 in
     let pushed = sum_by_push weight reader.around.items (record { file = reader.file; at = at }) in
     rw (goes.kept, goes.file_is, goes.around, pushed, same_file, same_around) (omega (arith, paid))

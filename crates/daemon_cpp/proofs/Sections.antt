@@ -7,8 +7,8 @@ use Rattle.tree_model.specs.Paths.{Path}
 use Rattle.daemon_cpp.specs.declared.kept.Kept.{Kept}
 use Rattle.daemon_cpp.specs.declared.stop.Stop.{Stop}
 use Rattle.daemon_cpp.specs.declared.stop.Stop.TheVariants as stop
-use Rattle.daemon_cpp.specs.Prep.{World, Entering, Here, State, Step, with_value, piece_test}
-use Rattle.daemon_cpp.specs.parts.Reading.{Stage, run_flat, reading, seeking, passing, stage_of, skipped, skip_piece, is_endif}
+use Rattle.daemon_cpp.specs.Prep.{World, Entering, Here, State, PrepStep, with_value, piece_test}
+use Rattle.daemon_cpp.specs.parts.Reading.{ReadingStage, run_flat, reading, seeking, passing, stage_of, skipped, skip_piece, is_endif}
 use Rattle.daemon_cpp.specs.parts.Showing.{Leads, Seeks, SeeksLine, GoesOnAt, StopsWith}
 use Rattle.daemon_cpp.proofs.Flat.{at-role, seek-skipped, pass-skipped}
 use Rattle.daemon_cpp.proofs.Skipping.{filler}
@@ -149,9 +149,9 @@ module _ (world : World) (pieces : List Piece) (main : Path) (file : Here) where
         test-stops stop.Memory leads = tt
 
   -- one line after another
-  module _ (old mid new : Kept) (step : Entering → State → Step) (next : ℕ)
+  module _ (old mid new : Kept) (step : Entering → State → PrepStep) (next : ℕ)
       (first : GoesOnAt old mid main file world pieces step (seeking 0) next) where
-    pub line-on : (stage : Stage) (n : ℕ) →
+    pub line-on : (stage : ReadingStage) (n : ℕ) →
         GoesOnAt mid new main file world pieces (λ entering state. run_flat world entering (seeking 0) (drop next pieces) state) stage n →
         GoesOnAt old new main file world pieces step stage n
     line-on stage n then = λ entering state shows.

@@ -70,8 +70,8 @@ lays-init o table here mode units ts =
 pub shown-expansion : (kept : Kept) (main : Path) (places : Places) (state : State) (mode : Mode) (tokens : List Token) → Shows kept main (here_seen places) state →
     expanded_in mode tokens state ≡ expanded_by (lookup kept.macros) (place_of places.presumed.now) mode 0 kept.work.left (map unmarked tokens)
 shown-expansion kept main places state mode tokens shows =
-    ap (λ (m : Table). expanded_by m (prep.place_of state.here) mode 0 state.left (map unmarked tokens)) shows.macros
-    ∙ ap (λ (h : Here). expanded_by (lookup kept.macros) (prep.place_of h) mode 0 state.left (map unmarked tokens)) shows.here
+    ap (λ (m : Table). expanded_by m (prep.place_here state.here) mode 0 state.left (map unmarked tokens)) shows.macros
+    ∙ ap (λ (h : Here). expanded_by (lookup kept.macros) (prep.place_here h) mode 0 state.left (map unmarked tokens)) shows.here
     ∙ ap (λ (n : ℕ). expanded_by (lookup kept.macros) (place_of places.presumed.now) mode 0 n (map unmarked tokens)) shows.left
 
 -- ---- lines of directives ----

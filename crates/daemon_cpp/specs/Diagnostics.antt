@@ -47,19 +47,19 @@ pub record Diagnostic : Type 0 where
   pub complaint : Complaint
 
 -- the name of a directive that goes on with a conditional or ends it (6.10.1)
-abbrev pub branch_name : BranchName → Text
-branch_name Elif = codes "elif"
-branch_name Else = codes "else"
-branch_name Endif = codes "endif"
+abbrev pub branch_spelling : BranchName → Text
+branch_spelling Elif = codes "elif"
+branch_spelling Else = codes "else"
+branch_spelling Endif = codes "endif"
 
 -- a token of an error directive, with a space in front where white space stands before it
 abbrev pub error_token : Token → Text
 error_token t = (if t.space then 32 ∷ [] else []) ++ shown t.text
 
 -- the name of a header as it is asked for, in angles or else in quotes (6.4.7)
-abbrev pub header_name : Bool → Text → Text
-header_name true name = codes "<" ++ (shown name ++ codes ">")
-header_name false name = codes "\"" ++ (shown name ++ codes "\"")
+abbrev pub header_shown : Bool → Text → Text
+header_shown true name = codes "<" ++ (shown name ++ codes ">")
+header_shown false name = codes "\"" ++ (shown name ++ codes "\"")
 
 -- a spelling between quotes
 abbrev pub quoted : Text → Text
@@ -69,10 +69,10 @@ abbrev pub words_of : Complaint → Text
 words_of NoSource = codes "cannot find source"
 words_of TooLarge = codes "file too large"
 words_of OpenComment = codes "unterminated comment"
-words_of (WithoutIf name) = codes "#" ++ (branch_name name ++ codes " without #if")
-words_of (AfterElse name) = codes "#" ++ (branch_name name ++ codes " after #else")
+words_of (WithoutIf name) = codes "#" ++ (branch_spelling name ++ codes " without #if")
+words_of (AfterElse name) = codes "#" ++ (branch_spelling name ++ codes " after #else")
 words_of Unended = codes "unterminated conditional"
-words_of (NotFound angle name) = codes "cannot find " ++ header_name angle name
+words_of (NotFound angle name) = codes "cannot find " ++ header_shown angle name
 words_of TooNested = codes "includes nested more than 200 deep"
 words_of NoHeaderName = codes "no header name"
 words_of (ErrorLine tokens) = codes "#error" ++ flat_map error_token tokens

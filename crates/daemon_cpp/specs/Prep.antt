@@ -111,8 +111,8 @@ abbrev pub visit_of : Here → Visit
 visit_of here = record { place = here.place; found = here.found }
 
 -- what `__FILE__` and `__LINE__` go by there
-abbrev pub place_of : Here → Place
-place_of here = record { name = here.name; shift = here.shift }
+abbrev pub place_here : Here → Place
+place_here here = record { name = here.name; shift = here.shift }
 
 abbrev pub presumed_line : Here → ℕ → ℤ
 presumed_line here line = pos line +ℤ here.shift
@@ -130,11 +130,11 @@ pub record State : Type 0 where
   pub here : Here
 
 -- preprocessing goes on in a state, or the first diagnostic ended it in one
-pub data Step : Type 0 where
-  Go : State → Step
-  Stop : Diagnostic → State → Step
+pub data PrepStep : Type 0 where
+  Go : State → PrepStep
+  Stop : Diagnostic → State → PrepStep
 
-abbrev pub and_then : (State → Step) → Step → Step
+abbrev pub and_then : (State → PrepStep) → PrepStep → PrepStep
 and_then next (Go state) = next state
 and_then next (Stop diagnostic state) = Stop diagnostic state
 
@@ -144,7 +144,7 @@ pub data Reached (A : Type 0) : Type 0 where
   Ends : Diagnostic → State → Reached A
 
 -- what follows a value
-abbrev pub with_value : {A : Type 0} → (A → State → Step) → Reached A → Step
+abbrev pub with_value : {A : Type 0} → (A → State → PrepStep) → Reached A → PrepStep
 with_value next (Gives x state) = next x state
 with_value next (Ends diagnostic state) = Stop diagnostic state
 
@@ -159,21 +159,21 @@ at_line at complaint state = record { place = spelled state.here.place; at = at;
 abbrev pub of_job : Complaint → State → Diagnostic
 of_job complaint state = record { place = spelled state.source; at = 0; complaint = complaint }
 
-abbrev pub complain : ℕ → Complaint → State → Step
+abbrev pub complain : ℕ → Complaint → State → PrepStep
 complain at complaint state = Stop (at_line at complaint state) state
 
-abbrev pub complain_of_job : Complaint → State → Step
+abbrev pub complain_of_job : Complaint → State → PrepStep
 complain_of_job complaint state = Stop (of_job complaint state) state
 
 abbrev pub refuse : {A : Type 0} → ℕ → Complaint → State → Reached A
 refuse at complaint state = Ends (at_line at complaint state) state
 
 -- the text may not pass its limit
-abbrev pub limited : State → Step
+abbrev pub limited : State → PrepStep
 limited state = cond (nat_le (length state.output.text) text_limit) (Go state) (complain_of_job TextLimit state)
 
 -- more output
-abbrev pub say : List Event → State → Step
+abbrev pub say : List Event → State → PrepStep
 say events state = limited (record state { output = after_events state.output events })
 
 abbrev pub touch : Located → State → State
@@ -181,7 +181,7 @@ touch located state = record state { touched = state.touched ++ located ∷ [] }
 
 -- what entering a file does, from an include on a line
 abbrev pub Entering : Type 0
-Entering = ℕ → Hit → State → Step
+Entering = ℕ → Hit → State → PrepStep
 
 -- ---- expansion ----
 
@@ -190,7 +190,7 @@ tokens_of e = map (λ m. m.token) e.tokens
 
 -- tokens as they are expanded in the file that is read, with the work that is left
 abbrev pub expanded_in : Mode → List Token → State → Result Expanded Failure
-expanded_in mode tokens state = expanded_by state.macros (place_of state.here) mode 0 state.left (map unmarked tokens)
+expanded_in mode tokens state = expanded_by state.macros (place_here state.here) mode 0 state.left (map unmarked tokens)
 
 -- the line of the name whose expansion failed
 abbrev pub failure_line : Failure → ℕ
@@ -209,11 +209,11 @@ failure_at at (Deep line) state = at_line at DeepArguments state
 failure_at at Work state = of_job WorkLimit state
 
 -- tokens of text that were expanded (6.10.3), before any of them is laid out
-abbrev pub text_expanded : Result Expanded Failure → State → Step
+abbrev pub text_expanded : Result Expanded Failure → State → PrepStep
 text_expanded (Ok e) state = say (map put (tokens_of e)) (record state { left = e.units })
 text_expanded (Err failure) state = Stop (failure_at (failure_line failure) failure state) state
 
-abbrev pub text_step : List Token → State → Step
+abbrev pub text_step : List Token → State → PrepStep
 text_step tokens state = text_expanded (expanded_in mode.Text tokens state) state
 
 -- tokens of a directive that were expanded; what fails is told at the directive's line
@@ -234,16 +234,16 @@ define_complaint define_error.Hash = LoneHash
 define_complaint define_error.Memory = BadName
 
 -- a definition that was read (6.10.3); no reading is want of memory
-abbrev pub define_step : ℕ → Result Named DefineError → State → Step
+abbrev pub define_step : ℕ → Result Named DefineError → State → PrepStep
 define_step at (Ok found) state = Go (record state { macros = with_macro state.macros found.name (Some found.definition) })
 define_step at (Err error) state = complain at (define_complaint error) state
 
 -- a name loses its definition, if it may have one (6.10.3.5 paragraph 2)
-abbrev pub undef_named : ℕ → Text → Bool → State → Step
+abbrev pub undef_named : ℕ → Text → Bool → State → PrepStep
 undef_named at name true state = Go (record state { macros = with_macro state.macros name None })
 undef_named at name false state = complain at BadName state
 
-abbrev pub undef_step : ℕ → List Token → State → Step
+abbrev pub undef_step : ℕ → List Token → State → PrepStep
 undef_step at [] state = complain at BadName state
 undef_step at (t ∷ ts) state = undef_named at t.text (names_macro t) state
 
@@ -257,14 +257,14 @@ line_number t =
     then Some value else None
 
 -- what a line directive says: a number, and maybe a name
-abbrev pub with_name : Option ℕ → Option Text → Option NewLine
-with_name None name = None
-with_name (Some number) name = Some (record { number = number; name = name })
+abbrev pub number_and_name : Option ℕ → Option Text → Option NewLine
+number_and_name None name = None
+number_and_name (Some number) name = Some (record { number = number; name = name })
 
 unfoldable pub new_line : List Token → Option NewLine
 new_line [] = None
-new_line (t ∷ []) = with_name (line_number t) None
-new_line (t ∷ u ∷ []) = if is_plain_string u then with_name (line_number t) (Some (between u.text)) else None
+new_line (t ∷ []) = number_and_name (line_number t) None
+new_line (t ∷ u ∷ []) = if is_plain_string u then number_and_name (line_number t) (Some (between u.text)) else None
 new_line (t ∷ u ∷ v ∷ ts) = None
 
 -- the file goes on with a presumed line behind the directive, and maybe under another name
@@ -272,7 +272,7 @@ abbrev pub renumbered : ℕ → NewLine → Here → Here
 renumbered at new here = record here { name = unwrap_or new.name here.name; shift = pos new.number -ℤ pos (at + 1) }
 
 -- a marker of the file that is read, behind a directive on a line
-abbrev pub mark_here : ℕ → State → Step
+abbrev pub mark_here : ℕ → State → PrepStep
 mark_here at state = say (mark state.here.name (presumed_line state.here (at + 1)) at ∷ []) state
 
 -- a number and maybe a name, or nothing that a line directive may say
@@ -289,10 +289,10 @@ abbrev pub line_read : ℕ → List Token → State → Reached NewLine
 line_read at tokens state = line_written at (new_line tokens) tokens state
 
 -- the file goes on as a line directive says
-abbrev pub line_set : ℕ → NewLine → State → Step
+abbrev pub line_set : ℕ → NewLine → State → PrepStep
 line_set at new state = mark_here at (record state { here = renumbered at new state.here })
 
-abbrev pub line_step : ℕ → List Token → State → Step
+abbrev pub line_step : ℕ → List Token → State → PrepStep
 line_step at tokens state = with_value (λ new after. line_set at new after) (line_read at tokens state)
 
 -- ---- files that are asked for ----
@@ -325,15 +325,15 @@ token_more t None = None
 token_more t (Some ts) = Some (t ∷ ts)
 
 -- what a `defined` and its operand are made of
-pub data Sort : Type 0 where
-  defining : Sort
-  naming : Sort
-  opening_mark : Sort
-  closing_mark : Sort
-  plain : Sort
+pub data DefinedSort : Type 0 where
+  defining : DefinedSort
+  naming : DefinedSort
+  opening_mark : DefinedSort
+  closing_mark : DefinedSort
+  plain : DefinedSort
 
-unfoldable pub sort_of : Token → Sort
-sort_of t =
+unfoldable pub defined_sort_of : Token → DefinedSort
+defined_sort_of t =
     if is_word (codes "defined") t then defining
     else (if is_identifier t then naming
     else (if is_open t then opening_mark
@@ -342,7 +342,7 @@ sort_of t =
 
 module _ (defined : Text → Bool) where
   -- a token, by what it is; each `defined` with its operand becomes 1 or 0
-  abbrev pub defined_before : (DefinedStage → Option (List Token)) → Token → Sort → DefinedStage → Option (List Token)
+  abbrev pub defined_before : (DefinedStage → Option (List Token)) → Token → DefinedSort → DefinedStage → Option (List Token)
   defined_before next t defining outside = next (named_next t)
   defined_before next t naming outside = token_more t (next outside)
   defined_before next t opening_mark outside = token_more t (next outside)
@@ -372,7 +372,7 @@ module _ (defined : Text → Bool) where
 
   unfoldable pub defined_from : DefinedStage → List Token → Option (List Token)
   defined_from stage [] = at_line_end stage
-  defined_from stage (t ∷ ts) = defined_before (λ next. defined_from next ts) t (sort_of t) stage
+  defined_from stage (t ∷ ts) = defined_before (λ next. defined_from next ts) t (defined_sort_of t) stage
 
 -- the tokens with each `defined X` and `defined (X)` answered; None where a `defined` has no operand
 unfoldable pub with_defined : (Text → Bool) → List Token → Option (List Token)
@@ -465,25 +465,25 @@ module _ (world : World) where
 
 module _ (world : World) (entering : Entering) where
   -- a file that was found: nothing more happens where it is read once and was marked
-  abbrev pub unless_marked : Bool → ℕ → Hit → State → Step
+  abbrev pub unless_marked : Bool → ℕ → Hit → State → PrepStep
   unless_marked true at hit state = Go state
   unless_marked false at hit state = entering at hit state
 
   -- a name on a line, in angles or else in quotes, whose search gave this
-  abbrev pub found_file : ℕ → Bool → Text → State → Option Hit → Step
+  abbrev pub found_file : ℕ → Bool → Text → State → Option Hit → PrepStep
   found_file at angle name state None = complain at (NotFound angle name) state
   found_file at angle name state (Some hit) = unless_marked (is_marked hit.1.real state) at hit (touch hit.1 state)
 
   -- an include, or an include_next, of a name on a line (6.10.2)
-  abbrev pub include_named : Bool → ℕ → Option HeaderName → State → Step
+  abbrev pub include_named : Bool → ℕ → Option HeaderName → State → PrepStep
   include_named next at None state = complain at NoHeaderName state
   include_named next at (Some header) state = found_file at header.angle header.name state (world.find (header_ask (visit_of state.here) next header.angle header.name))
 
-  abbrev pub include : Bool → ℕ → Target → State → Step
+  abbrev pub include : Bool → ℕ → Target → State → PrepStep
   include next at target state = with_value (λ header after. include_named next at header after) (header_reached at target state)
 
   -- a directive on a line (6.10); the lines of conditionals stand in no group by themselves
-  abbrev pub directive_step : ℕ → Directive → State → Step
+  abbrev pub directive_step : ℕ → Directive → State → PrepStep
   directive_step at (named.Include target) state = include false at target state
   directive_step at (named.Next target) state = include true at target state
   directive_step at (named.Define tokens) state = define_step at (defined_by tokens) state
@@ -502,51 +502,51 @@ module _ (world : World) (entering : Entering) where
   directive_step at named.Null state = Go state
   directive_step at named.Unknown state = complain at UnknownDirective state
 
-  abbrev pub piece_step : Piece → State → Step
+  abbrev pub piece_step : Piece → State → PrepStep
   piece_step (Run tokens) state = text_step tokens state
   piece_step (Line at what) state = directive_step at what state
 
   -- a group, or what stands behind it
-  abbrev pub group_or : (State → Step) → (State → Step) → Bool → State → Step
+  abbrev pub group_or : (State → PrepStep) → (State → PrepStep) → Bool → State → PrepStep
   group_or group behind true state = group state
   group_or group behind false state = behind state
 
   -- The pieces of a group in order. Of a conditional the first group whose line holds is read, or none; lines behind that aren't
   -- evaluated, and the other groups aren't read (6.10.1 paragraphs 5 and 6).
   unfoldable mutual
-    pub run_group : Group → State → Step
+    pub run_group : Group → State → PrepStep
     run_group nothing state = Go state
     run_group (one piece group) state = and_then (λ after. run_group group after) (piece_step piece state)
     run_group (conditional opening group branches behind) state =
         and_then (λ after. run_group behind after)
         (with_value (λ holds after. group_or (λ more. run_group group more) (λ more. run_branches branches more) holds after) (piece_test world opening state))
 
-    pub run_branches : Branches → State → Step
+    pub run_branches : Branches → State → PrepStep
     run_branches (ended last) state = Go state
     run_branches (branch line group branches) state =
         with_value (λ holds after. group_or (λ more. run_group group more) (λ more. run_branches branches more) holds after) (piece_test world line state)
 
   -- a file whose conditionals don't nest (6.10)
-  abbrev pub malformed_step : Option Malformed → State → Step
+  abbrev pub malformed_step : Option Malformed → State → PrepStep
   malformed_step None state = Go state
   malformed_step (Some (malformed.WithoutIf name at)) state = complain at (complaint.WithoutIf name) state
   malformed_step (Some (malformed.AfterElse name at)) state = complain at (complaint.AfterElse name) state
   malformed_step (Some (malformed.Unended at)) state = complain at complaint.Unended state
 
   -- the groups of a file, behind these events
-  abbrev pub run_outline : List Event → Outline → State → Step
+  abbrev pub run_outline : List Event → Outline → State → PrepStep
   run_outline events (whole group) state = and_then (λ after. run_group group after) (say events state)
   run_outline events (stray piece) state = malformed_step (malformed_by (stray piece)) state
   run_outline events (after_else piece) state = malformed_step (malformed_by (after_else piece)) state
   run_outline events (unended piece) state = malformed_step (malformed_by (unended piece)) state
 
   -- a file with its comment that never ends, if it has one
-  abbrev pub run_file : List Event → LexedFile → Option ℕ → State → Step
+  abbrev pub run_file : List Event → LexedFile → Option ℕ → State → PrepStep
   run_file events file None state = run_outline events (outline role_of (pieces file.lines)) state
   run_file events file (Some line) state = complain line OpenComment state
 
   -- work that costs so many units
-  abbrev pub paid : ℕ → (State → Step) → State → Step
+  abbrev pub paid : ℕ → (State → PrepStep) → State → PrepStep
   paid cost next state =
       cond (nat_le cost state.left) (next (record state { left = state.left - cost })) (complain_of_job WorkLimit state)
 
@@ -555,7 +555,7 @@ module _ (world : World) (entering : Entering) where
   opening_cost file = suc (length (flat_map (λ line. line) file.lines))
 
   -- a file is opened, and read behind these events
-  unfoldable pub open_file : List Event → Hit → State → Step
+  unfoldable pub open_file : List Event → Hit → State → PrepStep
   open_file events hit state =
       let body = world.body hit.1.real in
       let file = lexed world.trigraphs body in
@@ -565,7 +565,7 @@ module _ (world : World) (entering : Entering) where
       (complain 0 TooLarge inside)
 
 -- back in the file that was read before, from its line
-abbrev pub back_in : Here → ℕ → State → Step
+abbrev pub back_in : Here → ℕ → State → PrepStep
 back_in here at state = say (back here.name (presumed_line here (at + 1)) at ∷ []) (record state { here = here })
 
 -- entering an included file, with so many levels of includes left
@@ -595,7 +595,7 @@ outcome_of_text source text =
     (outcome.Text text)
     (outcome.Diag (diagnostic_text (record { place = spelled source; at = 0; complaint = TextLimit })))
 
-abbrev pub prepared : Step → Prepared
+abbrev pub prepared : PrepStep → Prepared
 prepared (Go state) = record { outcome = outcome_of_text state.source (finished state.output); touched = state.touched; opened = state.opened }
 prepared (Stop diagnostic state) = record { outcome = outcome.Diag (diagnostic_text diagnostic); touched = state.touched; opened = state.opened }
 
@@ -617,13 +617,13 @@ first_state macros hit = record {
 }
 
 -- the files of the job's words, one after another, each as by an include on line 0 of the source
-unfoldable pub run_forced : World → Entering → List Text → State → Step
+unfoldable pub run_forced : World → Entering → List Text → State → PrepStep
 run_forced world entering [] state = Go state
 run_forced world entering (name ∷ names) state =
     and_then (λ after. run_forced world entering names after) (found_file world entering 0 false name state (world.find (forced_ask name)))
 
 -- the source, in front of all else
-abbrev pub open_source : World → Hit → State → Step
+abbrev pub open_source : World → Hit → State → PrepStep
 open_source world hit state = open_file world (enter_file world depth_limit) [] hit state
 
 -- a job whose source's search gave this

@@ -24,7 +24,7 @@ ghost use Rattle.directive_scan.specs.Groups.{role_of, single, opening};
 ghost use Rattle.directive_scan.specs.Spots.{role_told};
 ghost use Rattle.daemon_cpp.specs.parts.Reading.{run_flat, reading};
 ghost use Rattle.daemon_cpp.specs.parts.Showing.{Seeks, IsBetween, here_seen};
-ghost use Rattle.daemon_cpp.specs.parts.Files.{After, LeadsTo, EntersTo, ComesTo, Brings, IsEnd, Turns, here_of, told_of, ended_told, opened_file, GoesInto, AllRead, work_ahead, source_behind, source_told};
+ghost use Rattle.daemon_cpp.specs.parts.Files.{After, RestLeadsTo, EntersTo, ComesTo, Brings, IsEnd, Turns, here_of, told_of, ended_told, opened_file, GoesInto, AllRead, work_ahead, source_behind, source_told};
 
 use crate::condition::test_line;
 use crate::diagnostic::{Diagnostic, Problem};
@@ -390,7 +390,7 @@ impl Reader {
     ) -> Result<(), Stop>
         requires { AllRead self.old }
         ensures same { T.told tree.new ≡ T.told tree.old }
-        ensures brings { ForSome (T.told tree.old) (λ told. Brings (ComesTo (source_behind (world_of told job.now.setup) source.now job.now.forced) self.old) self.new (λ done. LeadsTo (world_of told job.now.setup) Go self.new) result) }
+        ensures brings { ForSome (T.told tree.old) (λ told. Brings (ComesTo (source_behind (world_of told job.now.setup) source.now job.now.forced) self.old) self.new (λ done. RestLeadsTo (world_of told job.now.setup) Go self.new) result) }
         ensures cause { HasCause Stop.Fault (T.faults tree.old) (T.faults tree.new) result }
     {
         match self.read_forced(alloc, tree, job) {
@@ -409,7 +409,7 @@ impl Reader {
     ) -> Result<(), Stop>
         requires { AllRead self.old }
         ensures same { T.told tree.new ≡ T.told tree.old }
-        ensures brings { ForSome (T.told tree.old) (λ told. Brings (ComesTo (source_behind (world_of told setup.now) source.now []) self.old) self.new (λ done. LeadsTo (world_of told setup.now) Go self.new) result) }
+        ensures brings { ForSome (T.told tree.old) (λ told. Brings (ComesTo (source_behind (world_of told setup.now) source.now []) self.old) self.new (λ done. RestLeadsTo (world_of told setup.now) Go self.new) result) }
         ensures cause { HasCause Stop.Fault (T.faults tree.old) (T.faults tree.new) result }
     {
         match open_file(
@@ -496,7 +496,7 @@ impl Reader {
     // Reads the file and those around it, up to their ends.
     fn read<T: Tree>(&mut self, alloc: Global, tree: &mut T, setup: &Setup) -> Result<(), Stop>
         ensures same { T.told tree.new ≡ T.told tree.old }
-        ensures brings { ForSome (T.told tree.old) (λ told. (behind : After) → Brings (LeadsTo (world_of told setup.now) behind self.old) self.new (λ done. ComesTo behind self.new) result) }
+        ensures brings { ForSome (T.told tree.old) (λ told. (behind : After) → Brings (RestLeadsTo (world_of told setup.now) behind self.old) self.new (λ done. ComesTo behind self.new) result) }
         ensures read { OnOk result (AllRead self.new) }
         ensures cause { HasCause Stop.Fault (T.faults tree.old) (T.faults tree.new) result }
     {
@@ -526,7 +526,7 @@ impl Reader {
     ) -> Result<(), Stop>
         requires { self.old.file.next < length self.old.file.pieces }
         ensures same { T.told tree.new ≡ T.told tree.old }
-        ensures brings { ForSome (T.told tree.old) (λ told. (behind : After) → Brings (LeadsTo (world_of told setup.now) behind self.old) self.new (λ done. LeadsTo (world_of told setup.now) behind self.new) result) }
+        ensures brings { ForSome (T.told tree.old) (λ told. (behind : After) → Brings (RestLeadsTo (world_of told setup.now) behind self.old) self.new (λ done. RestLeadsTo (world_of told setup.now) behind self.new) result) }
         ensures advances { OnOk result (work_ahead self.new < work_ahead self.old) }
         ensures cause { HasCause Stop.Fault (T.faults tree.old) (T.faults tree.new) result }
     {
@@ -550,7 +550,7 @@ impl Reader {
         requires below { self.old.file.next < length self.old.file.pieces }
         requires role { (p : Piece) → role_of (get_or self.old.file.pieces self.old.file.next p) ≡ single }
         ensures same { T.told tree.new ≡ T.told tree.old }
-        ensures brings { ForSome (T.told tree.old) (λ told. (behind : After) → Brings (LeadsTo (world_of told setup.now) behind self.old) self.new (λ done. LeadsTo (world_of told setup.now) behind self.new) result) }
+        ensures brings { ForSome (T.told tree.old) (λ told. (behind : After) → Brings (RestLeadsTo (world_of told setup.now) behind self.old) self.new (λ done. RestLeadsTo (world_of told setup.now) behind self.new) result) }
         ensures advances { OnOk result (work_ahead self.new < work_ahead self.old) }
         ensures cause { HasCause Stop.Fault (T.faults tree.old) (T.faults tree.new) result }
     {
@@ -584,7 +584,7 @@ impl Reader {
         requires below { self.old.file.next < length self.old.file.pieces }
         requires role { (p : Piece) → role_of (get_or self.old.file.pieces self.old.file.next p) ≡ opening }
         ensures same { T.told tree.new ≡ T.told tree.old }
-        ensures brings { ForSome (T.told tree.old) (λ told. (behind : After) → Brings (LeadsTo (world_of told setup.now) behind self.old) self.new (λ done. LeadsTo (world_of told setup.now) behind self.new) result) }
+        ensures brings { ForSome (T.told tree.old) (λ told. (behind : After) → Brings (RestLeadsTo (world_of told setup.now) behind self.old) self.new (λ done. RestLeadsTo (world_of told setup.now) behind self.new) result) }
         ensures advances { OnOk result (work_ahead self.new < work_ahead self.old) }
         ensures cause { HasCause Stop.Fault (T.faults tree.old) (T.faults tree.new) result }
     {
@@ -615,7 +615,7 @@ impl Reader {
     fn leave_group(&mut self, name: BranchName)
         requires below { self.old.file.next < length self.old.file.pieces }
         requires role { (p : Piece) → role_of (get_or self.old.file.pieces self.old.file.next p) ≡ role_told (Nesting.Branch name) }
-        ensures leads { (world : World) (behind : After) (whole : Told) → LeadsTo world behind self.old whole → LeadsTo world behind self.new whole }
+        ensures leads { (world : World) (behind : After) (whole : Told) → RestLeadsTo world behind self.old whole → RestLeadsTo world behind self.new whole }
         ensures advances { work_ahead self.new < work_ahead self.old }
     {
         self.file.next = behind_group(&self.file.pieces, self.file.next, name);
@@ -631,7 +631,7 @@ impl Reader {
         inner: (Visit, Located),
     ) -> Result<(), Stop>
         ensures same { T.told tree.new ≡ T.told tree.old }
-        ensures brings { ForSome (T.told tree.old) (λ told. (behind : After) → Brings (EntersTo (world_of told setup.now) behind self.old at inner) self.new (λ done. LeadsTo (world_of told setup.now) behind self.new) result) }
+        ensures brings { ForSome (T.told tree.old) (λ told. (behind : After) → Brings (EntersTo (world_of told setup.now) behind self.old at inner) self.new (λ done. RestLeadsTo (world_of told setup.now) behind self.new) result) }
         ensures advances { OnOk result (work_ahead self.new < suc (work_ahead self.old)) }
         ensures cause { HasCause Stop.Fault (T.faults tree.old) (T.faults tree.new) result }
     {
@@ -667,7 +667,7 @@ impl Reader {
     fn come_back(&mut self, alloc: Global) -> Result<(), Stop>
         requires ended { length self.old.file.pieces ≤ self.old.file.next }
         requires around { 0 < length self.old.around.items }
-        ensures brings { (world : World) (behind : After) → Brings (LeadsTo world behind self.old) self.new (λ done. LeadsTo world behind self.new) result }
+        ensures brings { (world : World) (behind : After) → Brings (RestLeadsTo world behind self.old) self.new (λ done. RestLeadsTo world behind self.new) result }
         ensures advances { OnOk result (work_ahead self.new < work_ahead self.old) }
         ensures no_fault { IsErrOf result Stop.Fault → ⊥ }
     {

@@ -4,8 +4,8 @@ ghost use Rattle.pp_tokens.specs.declared.Token.{Token};
 ghost use Rattle.pp_tokens.specs.declared.Kind.TheVariants.{Number};
 ghost use Rattle.pp_tokens.specs.Marks.{is_word};
 ghost use Rattle.macro_defs.specs.Table.{lookup};
-ghost use Rattle.daemon_cpp.specs.Prep.{is_defined, with_defined, zeroed, answer_token, sort_of, DefinedStage, outside, named_next, in_parentheses, closing_next, at_line_end};
-ghost use Rattle.daemon_cpp.specs.parts.Showing.{sort_told, is_defining, is_name_sort, is_opening_sort, is_closing_sort, stage_told, answered_behind, stage_reached};
+ghost use Rattle.daemon_cpp.specs.Prep.{is_defined, with_defined, zeroed, answer_token, defined_sort_of, DefinedStage, outside, named_next, in_parentheses, closing_next, at_line_end};
+ghost use Rattle.daemon_cpp.specs.parts.Showing.{defined_sort_told, is_defining, is_name_sort, is_opening_sort, is_closing_sort, defined_stage_told, answered_behind, stage_reached};
 
 use base_types::{Bytes, List};
 use macro_defs::MacroTable;
@@ -55,7 +55,7 @@ pub fn with_defined(
 
 // Whether a line may end at a stage: where no `defined` stands open.
 fn may_end(stage: &Stage) -> bool
-    ensures { (test : List ℕ → Bool) → at_line_end test (stage_told stage.now) ≡ if result then Some [] else None }
+    ensures { (test : List ℕ → Bool) → at_line_end test (defined_stage_told stage.now) ≡ if result then Some [] else None }
 {
     match stage {
         Stage::Outside => true,
@@ -73,7 +73,7 @@ fn next(
     stage: Stage,
     token: Token,
 ) -> Result<Option<Stage>, AllocError>
-    ensures { IfOk result (λ s. (rest : List Token) → stage_reached (is_defined (lookup macros.now)) answered.new s rest ≡ answered_behind (is_defined (lookup macros.now)) answered.old (stage_told stage) (token ∷ rest)) }
+    ensures { IfOk result (λ s. (rest : List Token) → stage_reached (is_defined (lookup macros.now)) answered.new s rest ≡ answered_behind (is_defined (lookup macros.now)) answered.old (defined_stage_told stage) (token ∷ rest)) }
 {
     match stage {
         Stage::Outside => next_outside(answered, token),
@@ -147,9 +147,9 @@ fn next_closing(
     Ok(None)
 }
 
-#[tactic(auto, unfolding(crate::specs::Prep::sort_of))]
+#[tactic(auto, unfolding(crate::specs::Prep::defined_sort_of))]
 fn sort_of(token: &Token) -> Sort
-    ensures { sort_told result ≡ sort_of token.now }
+    ensures { defined_sort_told result ≡ defined_sort_of token.now }
 {
     if is_word(token, b"defined") {
         Sort::Defining
@@ -165,13 +165,13 @@ fn sort_of(token: &Token) -> Sort
 }
 
 fn defines(sort: Sort) -> bool
-    ensures { result ≡ is_defining (sort_told sort) }
+    ensures { result ≡ is_defining (defined_sort_told sort) }
 {
     matches!(sort, Sort::Defining)
 }
 
 fn names(sort: Sort) -> bool
-    ensures { result ≡ is_name_sort (sort_told sort) }
+    ensures { result ≡ is_name_sort (defined_sort_told sort) }
 {
     match sort {
         Sort::Defining => true,
@@ -183,13 +183,13 @@ fn names(sort: Sort) -> bool
 }
 
 fn opens(sort: Sort) -> bool
-    ensures { result ≡ is_opening_sort (sort_told sort) }
+    ensures { result ≡ is_opening_sort (defined_sort_told sort) }
 {
     matches!(sort, Sort::OpeningMark)
 }
 
 fn closes(sort: Sort) -> bool
-    ensures { result ≡ is_closing_sort (sort_told sort) }
+    ensures { result ≡ is_closing_sort (defined_sort_told sort) }
 {
     matches!(sort, Sort::ClosingMark)
 }

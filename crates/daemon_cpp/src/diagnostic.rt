@@ -2,7 +2,7 @@
 ghost use Rattle.std.specs.Prelude.{◌≡◌, ◌≤◌, ◌++◌, ◌∷◌, [], length, codes, IfOk, OnOk};
 ghost use Rattle.std.specs.List.{flat_map};
 ghost use Rattle.std.specs.Fmt.{decimal};
-ghost use Rattle.daemon_cpp.specs.Diagnostics.{NotFound, ErrorLine, BadPaste, quoted, branch_name, error_token, diagnostic_text, words_of};
+ghost use Rattle.daemon_cpp.specs.Diagnostics.{NotFound, ErrorLine, BadPaste, quoted, branch_spelling, error_token, diagnostic_text, words_of};
 ghost use Rattle.daemon_cpp.specs.parts.Problems.{complaint_of};
 
 use base_types::Bytes;
@@ -139,7 +139,7 @@ fn add_words(alloc: Global, text: &mut Vec<u8>, problem: Problem<'_>) -> Result<
 }
 
 fn branch_name(name: BranchName) -> &'static [u8]
-    ensures { result.now ≡ branch_name name }
+    ensures { result.now ≡ branch_spelling name }
 {
     match name {
         BranchName::Elif => b"elif",
@@ -150,7 +150,7 @@ fn branch_name(name: BranchName) -> &'static [u8]
 
 // Adds what is wrong with a directive of this name.
 fn add_branch(text: &mut Vec<u8>, name: BranchName, words: &[u8]) -> Result<(), AllocError>
-    ensures { OnOk result (text.new.items ≡ text.old.items ++ (codes "#" ++ (branch_name name ++ words.now))) }
+    ensures { OnOk result (text.new.items ≡ text.old.items ++ (codes "#" ++ (branch_spelling name ++ words.now))) }
 {
     text.push(b'#')?;
     text.extend_from_slice(branch_name(name))?;

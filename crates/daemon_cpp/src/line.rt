@@ -4,7 +4,7 @@ ghost use Rattle.std.specs.List.{list_all};
 ghost use Rattle.pp_tokens.specs.declared.Kind.TheVariants.{Number};
 ghost use Rattle.directive_scan.specs.HeaderNames as header_names;
 ghost use Rattle.cond_eval.specs.Constants.{digit_value, is_digit_in, value_behind};
-ghost use Rattle.daemon_cpp.specs.Prep.{line_number, with_name, new_line, line_told, line_read, expand_line as line_expanded, reach};
+ghost use Rattle.daemon_cpp.specs.Prep.{line_number, number_and_name, new_line, line_told, line_read, expand_line as line_expanded, reach};
 ghost use Rattle.daemon_cpp.specs.parts.Showing.{Leads, here_seen, TellsLine};
 ghost use Rattle.macro_expand.specs.declared.outcome.Mode.TheVariants as mode;
 
@@ -95,7 +95,7 @@ fn new_line(alloc: Global, tokens: &[Token]) -> Result<Option<NewLine>, AllocErr
 
 // A number, and a name in quotes.
 fn named_line(alloc: Global, number: &Token, name: &Token) -> Result<Option<NewLine>, AllocError>
-    ensures is { IfOk result (λ new. new ≡ (if header_names.is_plain_string name.now then with_name (line_number number.now) (Some (header_names.between name.now.text)) else None)) }
+    ensures is { IfOk result (λ new. new ≡ (if header_names.is_plain_string name.now then number_and_name (line_number number.now) (Some (header_names.between name.now.text)) else None)) }
     ensures narrow { IfOk result (λ new. IfSome new (λ n. n.number ≤ 2147483647)) }
 {
     if !is_plain_string(name) {
@@ -107,7 +107,7 @@ fn named_line(alloc: Global, number: &Token, name: &Token) -> Result<Option<NewL
 
 fn with_name(number: Option<u32>, name: Option<Bytes>) -> Option<NewLine>
     requires { IfSome number (λ n. n ≤ 2147483647) }
-    ensures is { result ≡ with_name number name }
+    ensures is { result ≡ number_and_name number name }
     ensures narrow { IfSome result (λ n. n.number ≤ 2147483647) }
 {
     match number {

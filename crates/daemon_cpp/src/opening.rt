@@ -7,7 +7,7 @@ ghost use Rattle.pp_tokens.specs.Lines.{lexed, LexedFile};
 ghost use Rattle.daemon_cpp.specs.Prep.{World, Here, world_of, and_then, say, run_outline, run_file, open_file};
 ghost use Rattle.daemon_cpp.specs.parts.Reading.{front_events, work_after, run_body, malformed_told, run_flat, reading};
 ghost use Rattle.daemon_cpp.specs.parts.FileTexts.{IsTextOf};
-ghost use Rattle.daemon_cpp.specs.parts.Showing.{Opens, Begins, Goes, Refuses};
+ghost use Rattle.daemon_cpp.specs.parts.Showing.{Opens, BeginsFile, Goes, Refuses};
 
 use crate::diagnostic::Problem;
 use crate::kept::Kept;
@@ -65,7 +65,7 @@ fn open_body(
     body: Bytes,
 ) -> Result<Pieces, Stop>
     requires { length body ≤ 16777216 }
-    ensures begins { (world : World) (file : Here) → file.place ≡ found.now.0.place → Begins kept.old kept.new source.now file world
+    ensures begins { (world : World) (file : Here) → file.place ≡ found.now.0.place → BeginsFile kept.old kept.new source.now file world
         (λ entering state. run_body world entering (front_events included found.now.0.place) (lexed setup.now.trigraphs body) state) result }
     ensures shortens { IfOk result (λ pieces. length pieces + 1 + (kept.new.work.left + kept.new.work.left) ≤ kept.old.work.left + kept.old.work.left) }
     ensures no_fault { IsErrOf result Stop.Fault → ⊥ }
@@ -99,7 +99,7 @@ fn open_text(
     included: bool,
     text: FileText,
 ) -> Result<Pieces, Stop>
-    ensures begins { (world : World) (file : Here) (lexed : LexedFile) → file.place ≡ place.now → IsTextOf lexed text → Begins kept.old kept.new source.now file world
+    ensures begins { (world : World) (file : Here) (lexed : LexedFile) → file.place ≡ place.now → IsTextOf lexed text → BeginsFile kept.old kept.new source.now file world
         (λ entering state. run_file world entering (front_events included place.now) lexed lexed.unended state) result }
     ensures pieces { IfOk result (λ opened. opened ≡ text.pieces) }
     ensures work { kept.new.work ≡ kept.old.work }
@@ -120,7 +120,7 @@ fn open_pieces(
     included: bool,
     pieces: Pieces,
 ) -> Result<Pieces, Stop>
-    ensures begins { (world : World) (file : Here) → file.place ≡ place.now → Begins kept.old kept.new source.now file world
+    ensures begins { (world : World) (file : Here) → file.place ≡ place.now → BeginsFile kept.old kept.new source.now file world
         (λ entering state. run_outline world entering (front_events included place.now) (outline role_of pieces) state) result }
     ensures pieces { IfOk result (λ opened. opened ≡ pieces) }
     ensures work { kept.new.work ≡ kept.old.work }
@@ -154,7 +154,7 @@ fn announced(
     included: bool,
     pieces: Pieces,
 ) -> Result<Pieces, Stop>
-    ensures begins { (world : World) (file : Here) → Begins kept.old kept.new source.now file world
+    ensures begins { (world : World) (file : Here) → BeginsFile kept.old kept.new source.now file world
         (λ entering state. and_then (λ after. run_flat world entering reading pieces after) (say (front_events included place.now) state)) result }
     ensures pieces { IfOk result (λ opened. opened ≡ pieces) }
     ensures work { kept.new.work ≡ kept.old.work }

@@ -5,7 +5,7 @@ ghost use Rattle.base_types.specs.Causes.{HasCause};
 ghost use Rattle.directive_scan.specs.Spots.{directive_seen, piece_seen};
 ghost use Rattle.cpp_output.specs.Layout.{pragma};
 ghost use Rattle.daemon_cpp.specs.Prep.{Go, world_of, say, line_step, include, directive_step, piece_step};
-ghost use Rattle.daemon_cpp.specs.parts.Showing.{Moves, IsNumbered, here_seen, onward};
+ghost use Rattle.daemon_cpp.specs.parts.Showing.{Moves, IsNumbered, here_seen, moves_onward};
 
 use crate::define::{define, undefine};
 use crate::diagnostic::Problem;
@@ -52,7 +52,7 @@ pub fn run_piece<T: Tree>(
 
 // The next piece is read where nothing stopped.
 fn onward(done: Result<(), Stop>) -> Result<Move, Stop>
-    ensures { result ≡ onward done }
+    ensures { result ≡ moves_onward done }
 {
     match done {
         Ok(()) => Ok(Move::Onward),

@@ -30,7 +30,7 @@ use Rattle.search_path.specs.declared.asking.Visit.{Visit}
 use Rattle.search_path.specs.declared.asking.Ask.{Ask}
 use Rattle.job_words.specs.JobOf.{JobData}
 use Rattle.daemon_cpp.specs.Diagnostics.{WorkLimit, TooLarge}
-use Rattle.daemon_cpp.specs.Prep.{World, here_at, presumed_line, State, Step, Go, Stop, and_then, Reached, Gives, Ends, with_value, reach, complain, complain_of_job, limited, say, touch, Entering, header_reached, is_marked, answer_token, answered_condition, probed, probe_named, probe, answer_parts, parts_condition, condition, directive_test, piece_test, unless_marked, found_file, include_named, include, directive_step, piece_step, group_or, run_group, run_branches, malformed_step, run_outline, run_file, paid, opening_cost, open_file, back_in, enter_file, first_state, run_forced}
+use Rattle.daemon_cpp.specs.Prep.{World, here_at, presumed_line, State, PrepStep, Go, Stop, and_then, Reached, Gives, Ends, with_value, reach, complain, complain_of_job, limited, say, touch, Entering, header_reached, is_marked, answer_token, answered_condition, probed, probe_named, probe, answer_parts, parts_condition, condition, directive_test, piece_test, unless_marked, found_file, include_named, include, directive_step, piece_step, group_or, run_group, run_branches, malformed_step, run_outline, run_file, paid, opening_cost, open_file, back_in, enter_file, first_state, run_forced}
 use Rattle.sheet_build.specs.Sheet.{asking, SheetData, asked_for, sheet_from}
 use Rattle.closure_fixpoint.specs.Closure.{Answers, first_definitions, Known}
 use Rattle.mirror_soundness.proofs.TableLaws.{first_among}
@@ -52,7 +52,7 @@ pub record Agree (part world : World) (sheet : Visit → SheetData) (job : JobDa
   pub bodies : (l : Located) → Known (answers_by world sheet) job visits l → part.body l.real ≡ world.body l.real
 
 -- a job whose source was found: the files of its words, and then the source
-abbrev pub job_step : JobData → World → ℕ → Hit → Step
+abbrev pub job_step : JobData → World → ℕ → Hit → PrepStep
 job_step job w depth hit =
     and_then (λ state. open_file w (enter_file w depth) [] hit state)
     (and_then (λ state. run_forced w (enter_file w depth) job.forced state) (limited (first_state job.macros hit)))
@@ -68,7 +68,7 @@ module _ (fact : ChoiceFactHolds) (outlines : OutlineHolds) (m g : World) (sheet
   abbrev pub Holds : Visit → State → Type 0
   Holds visit state = kept.Holds all job visits visit state
 
-  abbrev pub Keeps : Visit → Step → Type 0
+  abbrev pub Keeps : Visit → PrepStep → Type 0
   Keeps visit step = kept.Keeps all job visits visit step
 
   abbrev pub KeepsWith : {A : Type 0} → Visit → (A → Type 0) → Reached A → Type 0
@@ -87,20 +87,20 @@ module _ (fact : ChoiceFactHolds) (outlines : OutlineHolds) (m g : World) (sheet
   KnowsAll visit header = asked_by.KnowsAll g sheet job visits Home visit header
 
   -- both worlds make the same step, which keeps what holds
-  abbrev pub Alike : Visit → Step → Step → Type 0
+  abbrev pub Alike : Visit → PrepStep → PrepStep → Type 0
   Alike visit s t = (s ≡ t) × Keeps visit t
 
   -- both worlds reach the same value, of which this holds
   abbrev pub AlikeWith : {A : Type 0} → Visit → (A → Type 0) → Reached A → Reached A → Type 0
   AlikeWith visit P r s = (r ≡ s) × KeepsWith visit P s
 
-  then_alike : (visit after : Visit) (s t : Step) (next_m next_g : State → Step) → Alike visit s t
+  then_alike : (visit after : Visit) (s t : PrepStep) (next_m next_g : State → PrepStep) → Alike visit s t
       → ((state : State) → Holds visit state → Alike after (next_m state) (next_g state))
       → Alike after (and_then next_m s) (and_then next_g t)
   then_alike visit after s t next_m next_g alike next =
-      subst (λ (step : Step). Alike after (and_then next_m step) (and_then next_g t)) (sym alike.0) (go t alike.1)
+      subst (λ (step : PrepStep). Alike after (and_then next_m step) (and_then next_g t)) (sym alike.0) (go t alike.1)
     where
-      go : (step : Step) → Keeps visit step → Alike after (and_then next_m step) (and_then next_g step)
+      go : (step : PrepStep) → Keeps visit step → Alike after (and_then next_m step) (and_then next_g step)
       go (Go state) keeps = next state keeps
       go (Stop diagnostic state) keeps = (refl, keeps)
 
@@ -114,7 +114,7 @@ module _ (fact : ChoiceFactHolds) (outlines : OutlineHolds) (m g : World) (sheet
       go (Gives x state) keeps = next x state keeps.0 keeps.1
       go (Ends diagnostic state) keeps = (refl, keeps)
 
-  value_alike : {A : Type 0} (visit : Visit) (P : A → Type 0) (r s : Reached A) (next_m next_g : A → State → Step) → AlikeWith visit P r s
+  value_alike : {A : Type 0} (visit : Visit) (P : A → Type 0) (r s : Reached A) (next_m next_g : A → State → PrepStep) → AlikeWith visit P r s
       → ((x : A) (state : State) → Holds visit state → P x → Alike visit (next_m x state) (next_g x state))
       → Alike visit (with_value next_m r) (with_value next_g s)
   value_alike {A} visit P r s next_m next_g alike next =
@@ -279,7 +279,7 @@ module _ (fact : ChoiceFactHolds) (outlines : OutlineHolds) (m g : World) (sheet
     piece_alike visit ps (Line at what) state read h there = directive_alike visit ps at what state read h there
 
     -- a group, or what stands behind it
-    either_alike : (visit : Visit) (group_m group_g behind_m behind_g : State → Step)
+    either_alike : (visit : Visit) (group_m group_g behind_m behind_g : State → PrepStep)
         → ((state : State) → Holds visit state → Alike visit (group_m state) (group_g state))
         → ((state : State) → Holds visit state → Alike visit (behind_m state) (behind_g state))
         → (b : Bool) (state : State) → Holds visit state → Alike visit (group_or m e group_m behind_m b state) (group_or g d group_g behind_g b state)
@@ -346,7 +346,7 @@ module _ (fact : ChoiceFactHolds) (outlines : OutlineHolds) (m g : World) (sheet
     inside_of hit state = record state { here = here_at hit; opened = state.opened ++ hit.0.place ∷ [] }
 
     -- a file of these bytes that is opened
-    abbrev opened_as : World → Entering → List Event → Hit → State → Bool → Text → Step
+    abbrev opened_as : World → Entering → List Event → Hit → State → Bool → Text → PrepStep
     opened_as w f events hit state trigraphs body =
         let file = lexed trigraphs body in
         cond (nat_le (length body) body_limit)

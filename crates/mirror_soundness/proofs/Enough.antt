@@ -12,7 +12,7 @@ use Rattle.search_path.specs.Laws.{SearchesLocate, IsFoundInPart, IsFoundInNoPar
 use Rattle.search_path.specs.declared.asking.Visit.{Visit}
 use Rattle.macro_expand.specs.Laws.{ChoiceFactHolds}
 use Rattle.job_words.specs.JobOf.{JobData}
-use Rattle.daemon_cpp.specs.Prep.{World, Step, Go, Stop, prepared, run_job, prep, world_of, depth_limit}
+use Rattle.daemon_cpp.specs.Prep.{World, PrepStep, Go, Stop, prepared, run_job, prep, world_of, depth_limit}
 use Rattle.sheet_build.specs.Laws.{PlacesLocate}
 use Rattle.sheet_build.specs.Sheet.{SheetData, sheet_of}
 use Rattle.closure_fixpoint.specs.Closure.{Known}
@@ -27,11 +27,11 @@ use Rattle.mirror_soundness.proofs.Alike.{OutlineHolds, Agree, job_step, job_ali
 use Rattle.mirror_soundness.proofs.Worlds.{agrees_with_itself, agrees_with_entries}
 
 -- the searches that succeeded up to a step
-abbrev touched_in : Step → List Located
+abbrev touched_in : PrepStep → List Located
 touched_in (Go state) = state.touched
 touched_in (Stop diagnostic state) = state.touched
 
-prepared_touched : (step : Step) → (prepared step).touched ≡ touched_in step
+prepared_touched : (step : PrepStep) → (prepared step).touched ≡ touched_in step
 prepared_touched (Go state) = refl
 prepared_touched (Stop diagnostic state) = refl
 
@@ -48,7 +48,7 @@ module _ (fact : ChoiceFactHolds) (outlines : OutlineHolds) (m g : World) (sheet
       go None is = refl
       go (Some hit) is = ap prepared (job_alike fact outlines m g sheet job visits Home a depth_limit hit is).0
 
-  kept_touched : (visit : Visit) (step : Step) → Keeps (answers_by g sheet) job visits visit step → (l : Located) → Member l (touched_in step) → Known (answers_by g sheet) job visits l
+  kept_touched : (visit : Visit) (step : PrepStep) → Keeps (answers_by g sheet) job visits visit step → (l : Located) → Member l (touched_in step) → Known (answers_by g sheet) job visits l
   kept_touched visit (Go state) keeps = keeps.touched
   kept_touched visit (Stop diagnostic state) keeps = keeps
 

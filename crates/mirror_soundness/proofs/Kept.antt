@@ -26,7 +26,7 @@ use Rattle.search_path.specs.declared.asking.Visit.{Visit}
 use Rattle.job_words.specs.JobOf.{JobData}
 use Rattle.daemon_cpp.specs.declared.line.NewLine.{NewLine}
 use Rattle.daemon_cpp.specs.Diagnostics.{TextLimit, NoIdentifier}
-use Rattle.daemon_cpp.specs.Prep.{Here, visit_of, place_of, State, Step, Go, Stop, Reached, Gives, Ends, with_value, reach, complain_of_job, refuse, limited, say, touch, tokens_of, expanded_in, text_expanded, text_step, line_expanded, expand_line, define_step, undef_named, undef_step, new_line, renumbered, presumed_line, line_told, line_written, line_read, line_set, line_step, with_defined, zeroed, truth_of, probe_free, defined_answered, expanded_condition, answered_condition, is_defined, name_condition}
+use Rattle.daemon_cpp.specs.Prep.{Here, visit_of, place_here, State, PrepStep, Go, Stop, Reached, Gives, Ends, with_value, reach, complain_of_job, refuse, limited, say, touch, tokens_of, expanded_in, text_expanded, text_step, line_expanded, expand_line, define_step, undef_named, undef_step, new_line, renumbered, presumed_line, line_told, line_written, line_read, line_set, line_step, with_defined, zeroed, truth_of, probe_free, defined_answered, expanded_condition, answered_condition, is_defined, name_condition}
 use Rattle.closure_fixpoint.specs.Closure.{Answers, definitions, known_name, Known}
 use Rattle.mirror_soundness.proofs.TableLaws.{IsAmong, defined_among, undefined_among}
 
@@ -49,7 +49,7 @@ module _ (all : Answers) (job : JobData) (visits : List Visit) where
     pub touched : (l : Located) → Member l state.touched → IsKnown l
     pub presumed : (all.sheet visit).has_line ≡ false → state.here.name ≡ presumed_name visit.place
 
-  abbrev pub Keeps : Visit → Step → Type 0
+  abbrev pub Keeps : Visit → PrepStep → Type 0
   Keeps visit (Go state) = Holds visit state
   Keeps visit (Stop diagnostic state) = (l : Located) → Member l state.touched → IsKnown l
 
@@ -63,7 +63,7 @@ module _ (all : Answers) (job : JobData) (visits : List Visit) where
   reach_keeps visit P Q (Gives x state) next keeps each = each x state keeps.0 keeps.1
   reach_keeps visit P Q (Ends diagnostic state) next keeps each = keeps
 
-  pub value_keeps : {A : Type 0} (visit : Visit) (P : A → Type 0) (r : Reached A) (next : A → State → Step) → KeepsWith visit P r
+  pub value_keeps : {A : Type 0} (visit : Visit) (P : A → Type 0) (r : Reached A) (next : A → State → PrepStep) → KeepsWith visit P r
       → ((x : A) (state : State) → Holds visit state → P x → Keeps visit (next x state)) → Keeps visit (with_value next r)
   value_keeps visit P (Gives x state) next keeps each = each x state keeps.0 keeps.1
   value_keeps visit P (Ends diagnostic state) next keeps each = keeps
@@ -98,10 +98,10 @@ module _ (all : Answers) (job : JobData) (visits : List Visit) where
   }
 
   -- the presumed name that the analysis knows of a file is the one in force
-  pub knows : (visit : Visit) (state : State) → Holds visit state → Knows (known_name (all.sheet visit) visit) (place_of state.here)
+  pub knows : (visit : Visit) (state : State) → Holds visit state → Knows (known_name (all.sheet visit) visit) (place_here state.here)
   knows visit state h = go (all.sheet visit).has_line refl
     where
-      go : (b : Bool) → (all.sheet visit).has_line ≡ b → Knows (cond b None (Some (presumed_name visit.place))) (place_of state.here)
+      go : (b : Bool) → (all.sheet visit).has_line ≡ b → Knows (cond b None (Some (presumed_name visit.place))) (place_here state.here)
       go true is = tt
       go false is = sym (h.presumed is)
 

@@ -30,7 +30,7 @@ use Rattle.search_path.specs.declared.asking.Visit.{Visit}
 use Rattle.search_path.specs.declared.asking.Form.{Form}
 use Rattle.search_path.specs.declared.asking.Ask.{Ask}
 use Rattle.job_words.specs.JobOf.{JobData}
-use Rattle.daemon_cpp.specs.Prep.{World, place_of, State, Gives, reach, tokens_of, expanded_in, line_expanded, header_reached}
+use Rattle.daemon_cpp.specs.Prep.{World, place_here, State, Gives, reach, tokens_of, expanded_in, line_expanded, header_reached}
 use Rattle.sheet_build.specs.Sheet.{Asking, asking, probes_for, includes_in, probes_in, accepted, definition_in, is_line, ComputedAsk, SheetData, quote_form, computed_of, asked_for, plain_hit, sheet_from}
 use Rattle.closure_fixpoint.specs.Closure.{Answers, first_definitions, with_angle, known_name, MayFind, ByName, ByTokens, first_asks, first_hits, IsClosedFor, Known, AtFirst, Included, Probed, ByMacros, HasLong, HasPresumed}
 use Rattle.mirror_soundness.proofs.ComputedLaws.{may_be_named}
@@ -154,7 +154,7 @@ module _ (world : World) (sheet : Visit → SheetData) (job : JobData) (visits :
     may_find visit ps state c next e header hit read h form stands is names found = record {
       stands = stands;
       header = header;
-      may = may_be_named fact (first_definitions job ++ flat_map (λ v. (sheet v).defs) visits) state.macros (place_of state.here) (known_name (sheet visit) visit) state.left c.tokens e header
+      may = may_be_named fact (first_definitions job ++ flat_map (λ v. (sheet v).defs) visits) state.macros (place_here state.here) (known_name (sheet visit) visit) state.left c.tokens e header
           h.table (knows all job visits visit state h)
           (λ long. a.short (record { visit = visit; c = c; asked = record { visited = read.inside; stands = stands }; holds = long }))
           (λ presumed. a.told (record { visit = visit; c = c; asked = record { visited = read.inside; stands = stands }; holds = presumed }))

@@ -16,19 +16,19 @@ use Rattle.daemon_cpp.specs.declared.cpp.Told.{Told}
 use Rattle.daemon_cpp.specs.declared.cpp.OpenFile.{OpenFile}
 use Rattle.daemon_cpp.specs.declared.cpp.Left.{Left}
 use Rattle.daemon_cpp.specs.declared.cpp.Reader.{Reader}
-use Rattle.daemon_cpp.specs.Prep.{World, Here, State, Step, Go, and_then, limited, first_state, enter_file, depth_limit, run_forced, open_source, prepared, line_set}
-use Rattle.daemon_cpp.specs.parts.Reading.{Frame, run_flat, reading, entering_at, resumed}
+use Rattle.daemon_cpp.specs.Prep.{World, Here, State, PrepStep, Go, and_then, limited, first_state, enter_file, depth_limit, run_forced, open_source, prepared, line_set}
+use Rattle.daemon_cpp.specs.parts.Reading.{Frame, run_flat, reading, entering_at, frames_resumed}
 use Rattle.daemon_cpp.specs.parts.Showing.{Shows, StopsWith}
 
 abbrev pub here_of : OpenFile → Here
 here_of file = record { place = file.visit.place; found = file.visit.found; real = file.real; name = file.numbers.name; shift = file.numbers.shift }
 
 -- the pieces of a file that are left to read
-abbrev pub rest_of : OpenFile → List Piece
-rest_of file = drop file.next file.pieces
+abbrev pub pieces_left : OpenFile → List Piece
+pieces_left file = drop file.next file.pieces
 
 abbrev pub frame_of : Left → Frame
-frame_of left = record { here = here_of left.file; at = left.at; rest = rest_of left.file }
+frame_of left = record { here = here_of left.file; at = left.at; rest = pieces_left left.file }
 
 -- the files around the one that is read, the source first
 abbrev pub frames_of : Reader → List Frame
@@ -39,7 +39,7 @@ abbrev pub IsShown : Reader → State → Type 0
 IsShown reader state = Shows reader.kept reader.source (here_of reader.file) state
 
 -- what is told of a step: its outcome, and the places of the files opened
-abbrev pub told_of : Step → Told
+abbrev pub told_of : PrepStep → Told
 told_of step = record { outcome = (prepared step).outcome; opened = (prepared step).opened }
 
 -- a diagnostic with this text, and these files opened
@@ -48,27 +48,27 @@ ended_told words opened = record { outcome = outcome.Diag words; opened = opened
 
 -- what comes behind the files that are read
 abbrev pub After : Type 0
-After = State → Step
+After = State → PrepStep
 
 -- what is told where a step in the file that is read is followed by the rest of the files around it, and then by this
-abbrev pub told_behind : World → After → List Frame → Step → Told
-told_behind world behind frames step = told_of (and_then behind (resumed world 0 frames step))
+abbrev pub told_behind : World → After → List Frame → PrepStep → Told
+told_behind world behind frames step = told_of (and_then behind (frames_resumed world 0 frames step))
 
 -- the rest of the file that is read
-abbrev pub run_rest : World → List Frame → List Piece → State → Step
+abbrev pub run_rest : World → List Frame → List Piece → State → PrepStep
 run_rest world frames rest state = run_flat world (entering_at world (length frames)) reading rest state
 
 -- what is left to read, and what comes behind it, lead to this
-pub record LeadsTo (world : World) (behind : After) (reader : Reader) (whole : Told) : Type 0 where
+pub record RestLeadsTo (world : World) (behind : After) (reader : Reader) (whole : Told) : Type 0 where
   pub state : State
   pub shows : IsShown reader state
-  pub same : told_behind world behind (frames_of reader) (run_rest world (frames_of reader) (rest_of reader.file) state) ≡ whole
+  pub same : told_behind world behind (frames_of reader) (run_rest world (frames_of reader) (pieces_left reader.file) state) ≡ whole
 
 -- a step from a state in some file, what is left to read, and what comes behind it, lead to this
-pub record StepsTo (world : World) (behind : After) (reader : Reader) (from : Here) (step : State → Step) (whole : Told) : Type 0 where
+pub record StepsTo (world : World) (behind : After) (reader : Reader) (from : Here) (step : State → PrepStep) (whole : Told) : Type 0 where
   pub state : State
   pub shows : Shows reader.kept reader.source from state
-  pub same : told_behind world behind (frames_of reader) (and_then (λ after. run_rest world (frames_of reader) (rest_of reader.file) after) (step state)) ≡ whole
+  pub same : told_behind world behind (frames_of reader) (and_then (λ after. run_rest world (frames_of reader) (pieces_left reader.file) after) (step state)) ≡ whole
 
 -- a file that is entered from an include on a line of the one that is read
 abbrev pub EntersTo : World → After → Reader → ℕ → Hit → Told → Type 0
@@ -113,7 +113,7 @@ IsEnd reader whole (Err stop.Fault) = Unit {0}
 IsEnd reader whole (Err stop.Memory) = Unit {0}
 
 -- a step between two files, which are shown before and behind it
-abbrev pub Turns : {A : Type 0} → Kept → Kept → Path → Here → Here → (State → Step) → Result A Stop → Type 0
+abbrev pub Turns : {A : Type 0} → Kept → Kept → Path → Here → Here → (State → PrepStep) → Result A Stop → Type 0
 Turns old new main from to step (Ok x) = (state : State) → Shows old main from state → (after : State) × ((step state ≡ Go after) × Shows new main to after)
 Turns old new main from to step (Err (stop.Ended words)) = (state : State) → Shows old main from state → StopsWith words new.opened (step state)
 Turns old new main from to step (Err stop.Fault) = Unit {0}
@@ -128,7 +128,7 @@ pub record AllRead (reader : Reader) : Type 0 where
 -- coming back to it
 abbrev pub work_ahead : Reader → ℕ
 work_ahead reader =
-    reader.kept.work.left + reader.kept.work.left + length (rest_of reader.file) + sum_by (λ (left : Left). length (rest_of left.file) + 1) reader.around.items
+    reader.kept.work.left + reader.kept.work.left + length (pieces_left reader.file) + sum_by (λ (left : Left). length (pieces_left left.file) + 1) reader.around.items
 
 -- what comes behind some of the files of the job's words: the others, and then the source
 abbrev pub source_behind : World → Hit → List Text → After
@@ -146,10 +146,10 @@ abbrev pub behind_piece : Reader → Kept → Reader
 behind_piece reader kept = record reader { kept = kept; file = record reader.file { next = reader.file.next + 1 } }
 
 -- what a piece leads to, of what is left to read
-abbrev pub Follows : World → After → Reader → Move → Told → Type 0
-Follows world behind reader Onward whole = LeadsTo world behind reader whole
-Follows world behind reader (Enter at inner) whole = EntersTo world behind reader at inner whole
-Follows world behind reader (Renumber at numbers) whole = StepsTo world behind reader (here_of reader.file) (λ state. line_set at numbers state) whole
+abbrev pub MoveLeadsTo : World → After → Reader → Move → Told → Type 0
+MoveLeadsTo world behind reader Onward whole = RestLeadsTo world behind reader whole
+MoveLeadsTo world behind reader (Enter at inner) whole = EntersTo world behind reader at inner whole
+MoveLeadsTo world behind reader (Renumber at numbers) whole = StepsTo world behind reader (here_of reader.file) (λ state. line_set at numbers state) whole
 
 -- what a file of the job's words leads to: the names behind it, or its file, and then these
 abbrev pub NamedTo : World → Hit → List Text → Reader → Option Hit → Told → Type 0
@@ -159,4 +159,4 @@ NamedTo world source names reader (Some hit) whole = EntersTo world (source_behi
 -- what opening a file leads to, once it is gone into
 abbrev pub InsideTo : World → After → Reader → ℕ → Hit → List Piece → Told → Type 0
 InsideTo world behind reader at inner pieces whole =
-    (after : Reader) → GoesInto reader (opened_file inner pieces) at after → LeadsTo world behind after whole
+    (after : Reader) → GoesInto reader (opened_file inner pieces) at after → RestLeadsTo world behind after whole

@@ -12,24 +12,24 @@ use Rattle.cpp_output.specs.Layout.{Event, enter}
 use Rattle.tree_model.specs.Paths.{Path, spelled}
 use Rattle.tree_model.specs.Shown.{presumed_name}
 use Rattle.daemon_cpp.specs.Diagnostics.{Diagnostic, WithoutIf, AfterElse, Unended}
-use Rattle.daemon_cpp.specs.Prep.{World, Here, State, Step, Go, and_then, with_value, Entering, piece_step, piece_test, run_file, paid, opening_cost, enter_file, back_in, depth_limit}
+use Rattle.daemon_cpp.specs.Prep.{World, Here, State, PrepStep, Go, and_then, with_value, Entering, piece_step, piece_test, run_file, paid, opening_cost, enter_file, back_in, depth_limit}
 
 -- How the pieces of a file are read: one after another; or none up to the next line of the present conditional, of which no group was
 -- read so far, from within so many conditionals; or none up to its end, behind the group that was read. Conditionals around it need
 -- no place here: a group of each is read.
-pub data Stage : Type 0 where
-  reading : Stage
-  seeking : ℕ → Stage
-  passing : ℕ → Stage
+pub data ReadingStage : Type 0 where
+  reading : ReadingStage
+  seeking : ℕ → ReadingStage
+  passing : ℕ → ReadingStage
 
 -- the stage behind a line of a conditional, by its test
-abbrev pub stage_of : Bool → Stage
+abbrev pub stage_of : Bool → ReadingStage
 stage_of true = reading
 stage_of false = seeking 0
 
 module _ (world : World) (entering : Entering) where
   -- a piece at a stage, by what it is to the nesting, and what follows
-  abbrev pub staged : (Stage → State → Step) → Piece → State → Stage → Role → Step
+  abbrev pub staged : (ReadingStage → State → PrepStep) → Piece → State → ReadingStage → Role → PrepStep
   staged next p state reading single = and_then (λ after. next reading after) (piece_step world entering p state)
   staged next p state reading opening = with_value (λ holds after. next (stage_of holds) after) (piece_test world p state)
   staged next p state reading elif_line = next (passing 0) state
@@ -51,7 +51,7 @@ module _ (world : World) (entering : Entering) where
   staged next p state (passing (suc n)) endif_line = next (passing n) state
 
   -- pieces from a stage on
-  unfoldable pub run_flat : Stage → List Piece → State → Step
+  unfoldable pub run_flat : ReadingStage → List Piece → State → PrepStep
   run_flat stage [] state = Go state
   run_flat stage (p ∷ ps) state = staged (λ next after. run_flat next ps after) p state stage (role_of p)
 
@@ -99,11 +99,11 @@ abbrev pub entering_at : World → ℕ → Entering
 entering_at world level = enter_file world (depth_limit - level)
 
 -- a step in the file that is read, and then the rest of each file that was left; the files are listed from the source inward
-unfoldable pub resumed : World → ℕ → List Frame → Step → Step
-resumed world level [] step = step
-resumed world level (frame ∷ inner) step =
+unfoldable pub frames_resumed : World → ℕ → List Frame → PrepStep → PrepStep
+frames_resumed world level [] step = step
+frames_resumed world level (frame ∷ inner) step =
     and_then (λ after. run_flat world (entering_at world level) reading frame.rest after)
-    (and_then (λ after. back_in frame.here frame.at after) (resumed world (suc level) inner step))
+    (and_then (λ after. back_in frame.here frame.at after) (frames_resumed world (suc level) inner step))
 
 -- the events in front of a file: an included one's marker
 abbrev pub front_events : Bool → Path → List Event
@@ -119,7 +119,7 @@ abbrev pub work_after : ℕ → ℕ → Option ℕ
 work_after cost left = cond (nat_le cost left) (Some (left - cost)) None
 
 -- a file that is opened, by its lexed form: its work is paid
-abbrev pub run_body : World → Entering → List Event → LexedFile → State → Step
+abbrev pub run_body : World → Entering → List Event → LexedFile → State → PrepStep
 run_body world entering events file state = paid world entering (opening_cost world entering file) (run_file world entering events file file.unended) state
 
 -- what is wrong with the conditionals of a file at a place

@@ -14,8 +14,8 @@ use Rattle.daemon_cpp.specs.declared.section.Sought.{Sought}
 use Rattle.daemon_cpp.specs.declared.pieces.Move.{Move}
 use Rattle.daemon_cpp.specs.declared.pieces.Move.TheVariants.{Onward, Enter, Renumber}
 use Rattle.daemon_cpp.specs.Diagnostics.{Diagnostic, diagnostic_text, BadLine, WrongCount, UnendedCall, BadPaste, DeepArguments, WorkLimit, TextLimit}
-use Rattle.daemon_cpp.specs.Prep.{World, Here, State, Step, Go, Stop as Stopped, Reached, Gives, Ends, Entering, is_marked, here_at, line_set, define_complaint, answer_token, answer_parts, probe, reach, Sort, defining, naming, opening_mark, closing_mark, plain, DefinedStage, outside, named_next, in_parentheses, closing_next, defined_from}
-use Rattle.daemon_cpp.specs.parts.Reading.{Stage, run_flat, reading, stage_of}
+use Rattle.daemon_cpp.specs.Prep.{World, Here, State, PrepStep, Go, Stop as Stopped, Reached, Gives, Ends, Entering, is_marked, here_at, line_set, define_complaint, answer_token, answer_parts, probe, reach, DefinedSort, defining, naming, opening_mark, closing_mark, plain, DefinedStage, outside, named_next, in_parentheses, closing_next, defined_from}
+use Rattle.daemon_cpp.specs.parts.Reading.{ReadingStage, run_flat, reading, stage_of}
 use Rattle.macro_defs.specs.declared.definition.DefineError.{DefineError}
 use Rattle.macro_defs.specs.declared.definition.DefineError.TheVariants as define_error
 use Rattle.macro_expand.specs.declared.outcome.ExpandError.{ExpandError}
@@ -59,18 +59,18 @@ pub record Shows (kept : Kept) (main : Path) (file : Here) (state : State) : Typ
   pub here : state.here ≡ file
 
 -- a diagnostic is this text, and these files were opened
-abbrev pub IsTold : Text → List Path → Diagnostic → State → Type 0
-IsTold words opened diagnostic state = (words ≡ diagnostic_text diagnostic) × (state.opened ≡ opened)
+abbrev pub ShowsDiagnostic : Text → List Path → Diagnostic → State → Type 0
+ShowsDiagnostic words opened diagnostic state = (words ≡ diagnostic_text diagnostic) × (state.opened ≡ opened)
 
 -- a value wasn't reached
-abbrev pub EndsWith : {A : Type 0} → Text → List Path → Reached A → Type 0
-EndsWith words opened (Gives x state) = ⊥
-EndsWith words opened (Ends diagnostic state) = IsTold words opened diagnostic state
+abbrev pub IsNotReached : {A : Type 0} → Text → List Path → Reached A → Type 0
+IsNotReached words opened (Gives x state) = ⊥
+IsNotReached words opened (Ends diagnostic state) = ShowsDiagnostic words opened diagnostic state
 
 -- a step ended
-abbrev pub StopsWith : Text → List Path → Step → Type 0
+abbrev pub StopsWith : Text → List Path → PrepStep → Type 0
 StopsWith words opened (Go state) = ⊥
-StopsWith words opened (Stopped diagnostic state) = IsTold words opened diagnostic state
+StopsWith words opened (Stopped diagnostic state) = ShowsDiagnostic words opened diagnostic state
 
 -- why nothing goes on: a diagnostic with this text, or want of memory
 abbrev pub Refuses : Diagnostic → Stop → Type 0
@@ -84,23 +84,23 @@ module _ (old new : Kept) (main : Path) (file : Here) where
   -- a value is reached, in a state that is shown, or a diagnostic; a fault and want of memory tell nothing
   abbrev pub Leads : {A : Type 0} → (State → Reached A) → Result A Stop → Type 0
   Leads r (Ok x) = (state : State) → Shows old main file state → (after : State) × ((r state ≡ Gives x after) × Shows new main file after)
-  Leads r (Err (stop.Ended words)) = (state : State) → Shows old main file state → EndsWith words new.opened (r state)
+  Leads r (Err (stop.Ended words)) = (state : State) → Shows old main file state → IsNotReached words new.opened (r state)
   Leads r (Err stop.Fault) = Unit {0}
   Leads r (Err stop.Memory) = Unit {0}
 
   -- the same of a step
-  abbrev pub Goes : {A : Type 0} → (State → Step) → Result A Stop → Type 0
+  abbrev pub Goes : {A : Type 0} → (State → PrepStep) → Result A Stop → Type 0
   Goes step (Ok x) = (state : State) → Shows old main file state → (after : State) × ((step state ≡ Go after) × Shows new main file after)
   Goes step (Err (stop.Ended words)) = (state : State) → Shows old main file state → StopsWith words new.opened (step state)
   Goes step (Err stop.Fault) = Unit {0}
   Goes step (Err stop.Memory) = Unit {0}
 
   -- an include: the next piece, or a file that is entered from its line
-  abbrev pub IncludesTo : Entering → ℕ → State → Option Hit → Step → Type 0
+  abbrev pub IncludesTo : Entering → ℕ → State → Option Hit → PrepStep → Type 0
   IncludesTo entering at after None step = step ≡ Go after
   IncludesTo entering at after (Some hit) step = step ≡ entering at hit after
 
-  abbrev pub Includes : ℕ → (Entering → State → Step) → Result (Option Hit) Stop → Type 0
+  abbrev pub Includes : ℕ → (Entering → State → PrepStep) → Result (Option Hit) Stop → Type 0
   Includes at step (Ok found) = (entering : Entering) (state : State) → Shows old main file state →
       (after : State) × (IncludesTo entering at after found (step entering state) × Shows new main file after)
   Includes at step (Err (stop.Ended words)) = (entering : Entering) (state : State) → Shows old main file state → StopsWith words new.opened (step entering state)
@@ -108,12 +108,12 @@ module _ (old new : Kept) (main : Path) (file : Here) where
   Includes at step (Err stop.Memory) = Unit {0}
 
   -- a piece: the next one, a file that is entered from an include on a line, or the same file with other numbers behind a line
-  abbrev pub MovesTo : Entering → State → Move → Step → Type 0
+  abbrev pub MovesTo : Entering → State → Move → PrepStep → Type 0
   MovesTo entering after Onward step = step ≡ Go after
   MovesTo entering after (Enter at hit) step = step ≡ entering at hit after
   MovesTo entering after (Renumber at numbers) step = step ≡ line_set at numbers after
 
-  abbrev pub Moves : (Entering → State → Step) → Result Move Stop → Type 0
+  abbrev pub Moves : (Entering → State → PrepStep) → Result Move Stop → Type 0
   Moves step (Ok move) = (entering : Entering) (state : State) → Shows old main file state →
       (after : State) × (MovesTo entering after move (step entering state) × Shows new main file after)
   Moves step (Err (stop.Ended words)) = (entering : Entering) (state : State) → Shows old main file state → StopsWith words new.opened (step entering state)
@@ -121,7 +121,7 @@ module _ (old new : Kept) (main : Path) (file : Here) where
   Moves step (Err stop.Memory) = Unit {0}
 
   -- an if-section goes on at a piece
-  abbrev pub Seeks : World → List Piece → (Entering → State → Step) → Result ℕ Stop → Type 0
+  abbrev pub Seeks : World → List Piece → (Entering → State → PrepStep) → Result ℕ Stop → Type 0
   Seeks world pieces step (Ok n) = (entering : Entering) (state : State) → Shows old main file state →
       (after : State) × ((step entering state ≡ run_flat world entering reading (drop n pieces) after) × Shows new main file after)
   Seeks world pieces step (Err (stop.Ended words)) = (entering : Entering) (state : State) → Shows old main file state → StopsWith words new.opened (step entering state)
@@ -129,7 +129,7 @@ module _ (old new : Kept) (main : Path) (file : Here) where
   Seeks world pieces step (Err stop.Memory) = Unit {0}
 
 -- a file is opened: its pieces are read, in a state inside it
-abbrev pub Opens : Kept → Kept → Path → World → Hit → (Entering → State → Step) → Result (List Piece) Stop → Type 0
+abbrev pub Opens : Kept → Kept → Path → World → Hit → (Entering → State → PrepStep) → Result (List Piece) Stop → Type 0
 Opens old new main world hit step (Ok pieces) = (entering : Entering) (file : Here) (state : State) → Shows old main file state →
     (after : State) × ((step entering state ≡ run_flat world entering reading pieces after) × Shows new main (here_at hit) after)
 Opens old new main world hit step (Err (stop.Ended words)) = (entering : Entering) (file : Here) (state : State) → Shows old main file state →
@@ -138,13 +138,13 @@ Opens old new main world hit step (Err stop.Fault) = Unit {0}
 Opens old new main world hit step (Err stop.Memory) = Unit {0}
 
 -- the same in the file that is opened already
-abbrev pub Begins : Kept → Kept → Path → Here → World → (Entering → State → Step) → Result (List Piece) Stop → Type 0
-Begins old new main file world step (Ok pieces) = (entering : Entering) (state : State) → Shows old main file state →
+abbrev pub BeginsFile : Kept → Kept → Path → Here → World → (Entering → State → PrepStep) → Result (List Piece) Stop → Type 0
+BeginsFile old new main file world step (Ok pieces) = (entering : Entering) (state : State) → Shows old main file state →
     (after : State) × ((step entering state ≡ run_flat world entering reading pieces after) × Shows new main file after)
-Begins old new main file world step (Err (stop.Ended words)) = (entering : Entering) (state : State) → Shows old main file state →
+BeginsFile old new main file world step (Err (stop.Ended words)) = (entering : Entering) (state : State) → Shows old main file state →
     StopsWith words new.opened (step entering state)
-Begins old new main file world step (Err stop.Fault) = Unit {0}
-Begins old new main file world step (Err stop.Memory) = Unit {0}
+BeginsFile old new main file world step (Err stop.Fault) = Unit {0}
+BeginsFile old new main file world step (Err stop.Memory) = Unit {0}
 
 -- a place between two others
 abbrev pub IsBetween : ℕ → ℕ → ℕ → Type 0
@@ -160,12 +160,12 @@ IsNumbered (Renumber at numbers) = numbers.number ≤ 2147483647
 
 module _ (old new : Kept) (main : Path) (file : Here) where
   -- from a piece on, an if-section goes on at a stage
-  abbrev pub GoesOnAt : World → List Piece → (Entering → State → Step) → Stage → ℕ → Type 0
+  abbrev pub GoesOnAt : World → List Piece → (Entering → State → PrepStep) → ReadingStage → ℕ → Type 0
   GoesOnAt world pieces step stage n = (entering : Entering) (state : State) → Shows old main file state →
       (after : State) × ((step entering state ≡ run_flat world entering stage (drop n pieces) after) × Shows new main file after)
 
   -- behind a line of a conditional of which no group was read
-  abbrev pub SeeksLine : World → List Piece → (Entering → State → Step) → Result Sought Stop → Type 0
+  abbrev pub SeeksLine : World → List Piece → (Entering → State → PrepStep) → Result Sought Stop → Type 0
   SeeksLine world pieces step (Ok s) = GoesOnAt world pieces step (stage_of s.is_read) s.next
   SeeksLine world pieces step (Err (stop.Ended words)) = (entering : Entering) (state : State) → Shows old main file state → StopsWith words new.opened (step entering state)
   SeeksLine world pieces step (Err stop.Fault) = Unit {0}
@@ -193,9 +193,9 @@ entered_unless false hit = Some hit
 -- ---- pieces ----
 
 -- what is read leads to the next piece
-abbrev pub onward : {A : Type 0} → Result A Stop → Result Move Stop
-onward (Ok x) = Ok Onward
-onward (Err e) = Err e
+abbrev pub moves_onward : {A : Type 0} → Result A Stop → Result Move Stop
+moves_onward (Ok x) = Ok Onward
+moves_onward (Err e) = Err e
 
 -- ---- text ----
 
@@ -251,9 +251,9 @@ LaysNext true whole output stream left = (whole ≡ laid_from output (to_come st
 LaysNext false whole output stream left = whole ≡ Ok (output, left)
 
 -- how an expansion ends: with so many units left, or in failure
-abbrev pub ending : Result Given Failure → Result ℕ Failure
-ending (Ok g) = Ok g.units
-ending (Err f) = Err f
+abbrev pub units_or_failure : Result Given Failure → Result ℕ Failure
+units_or_failure (Ok g) = Ok g.units
+units_or_failure (Err f) = Err f
 
 abbrev pub IsOkay : {A : Type 0} → Result A Failure → Type 0
 IsOkay (Ok x) = Unit {0}
@@ -281,30 +281,30 @@ TellsLine place at None (Err s) = Refuses (record { place = spelled place; at = 
 -- ---- conditions ----
 
 -- what a token is to a `defined`, as the code has it
-abbrev pub sort_told : SortRead → Sort
-sort_told sort.Defining = defining
-sort_told sort.Naming = naming
-sort_told sort.OpeningMark = opening_mark
-sort_told sort.ClosingMark = closing_mark
-sort_told sort.Plain = plain
+abbrev pub defined_sort_told : SortRead → DefinedSort
+defined_sort_told sort.Defining = defining
+defined_sort_told sort.Naming = naming
+defined_sort_told sort.OpeningMark = opening_mark
+defined_sort_told sort.ClosingMark = closing_mark
+defined_sort_told sort.Plain = plain
 
-abbrev pub is_defining : Sort → Bool
+abbrev pub is_defining : DefinedSort → Bool
 is_defining s = elim s [ defining ↦ true | _ ↦ false ]
 
-abbrev pub is_name_sort : Sort → Bool
+abbrev pub is_name_sort : DefinedSort → Bool
 is_name_sort s = elim s [ defining ↦ true | naming ↦ true | _ ↦ false ]
 
-abbrev pub is_opening_sort : Sort → Bool
+abbrev pub is_opening_sort : DefinedSort → Bool
 is_opening_sort s = elim s [ opening_mark ↦ true | _ ↦ false ]
 
-abbrev pub is_closing_sort : Sort → Bool
+abbrev pub is_closing_sort : DefinedSort → Bool
 is_closing_sort s = elim s [ closing_mark ↦ true | _ ↦ false ]
 
-abbrev pub stage_told : StageRead → DefinedStage
-stage_told stage.Outside = outside
-stage_told (stage.NamedNext word) = named_next word
-stage_told (stage.InParentheses word) = in_parentheses word
-stage_told (stage.ClosingNext word name) = closing_next word name
+abbrev pub defined_stage_told : StageRead → DefinedStage
+defined_stage_told stage.Outside = outside
+defined_stage_told (stage.NamedNext word) = named_next word
+defined_stage_told (stage.InParentheses word) = in_parentheses word
+defined_stage_told (stage.ClosingNext word name) = closing_next word name
 
 -- the tokens so far, and those that are left from a stage on
 abbrev pub answered_behind : (Text → Bool) → List Token → DefinedStage → List Token → Option (List Token)
@@ -313,7 +313,7 @@ answered_behind defined done s others = option_map (λ more. done ++ more) (defi
 -- the same behind a token, which may have left a `defined` without an operand
 abbrev pub stage_reached : (Text → Bool) → List Token → Option StageRead → List Token → Option (List Token)
 stage_reached defined done None others = None
-stage_reached defined done (Some s) others = answered_behind defined done (stage_told s) others
+stage_reached defined done (Some s) others = answered_behind defined done (defined_stage_told s) others
 
 module _ (world : World) where
   -- a part of a condition's line, answered

@@ -2,7 +2,7 @@ use Rattle.std.proofs.Common.{Err, refl, sym, ◌∙◌, subst}
 use Rattle.pp_tokens.specs.Lines.{lexed}
 use Rattle.daemon_cpp.specs.Prep.{world_of, here_at, open_file}
 use Rattle.daemon_cpp.specs.parts.Reading.{front_events, run_body}
-use Rattle.daemon_cpp.specs.parts.Showing.{Opens, Begins}
+use Rattle.daemon_cpp.specs.parts.Showing.{Opens, BeginsFile}
 use Rattle.daemon_cpp.specs.declared.kept.Kept.{Kept}
 use Rattle.daemon_cpp.proofs.Openings.{opens-body, opens-large, opens-nothing}
 use Rattle.daemon_cpp.proofs.opening.open_file.Goals as goal
@@ -11,7 +11,7 @@ pub returns-in-Ok-Some-clause-opens : goal.returns-in-Ok-Some-clause-opens
 returns-in-Ok-Some-clause-opens g c = λ told is.
     opens-body c.args.kept.now c.open_body.new.kept c.args.source.now (world_of told c.args.setup.now) c.args.file.now (front_events c.args.included c.args.file.now.0.place) c.in-Ok-Some.body c.open_body.result
     (sym c.in-Ok-Some.field-0-is ∙ c.in-Ok-Some.ensures.body told is)
-    (subst (λ (k : Kept). Begins k c.open_body.new.kept c.args.source.now (here_at c.args.file.now) (world_of told c.args.setup.now) (λ entering state. run_body (world_of told c.args.setup.now) entering (front_events c.args.included c.args.file.now.0.place) (lexed c.args.setup.now.trigraphs c.in-Ok-Some.body) state) c.open_body.result) c.in_ok-note_opened.ensures
+    (subst (λ (k : Kept). BeginsFile k c.open_body.new.kept c.args.source.now (here_at c.args.file.now) (world_of told c.args.setup.now) (λ entering state. run_body (world_of told c.args.setup.now) entering (front_events c.args.included c.args.file.now.0.place) (lexed c.args.setup.now.trigraphs c.in-Ok-Some.body) state) c.open_body.result) c.in_ok-note_opened.ensures
     (c.open_body.ensures.begins (world_of told c.args.setup.now) (here_at c.args.file.now) refl))
 
 pub returns-in-Ok-None-clause-opens : goal.returns-in-Ok-None-clause-opens

@@ -1,7 +1,7 @@
 use Rattle.std.proofs.Common.{◌≡◌, ◌≤◌, length, Result, Err, ◌∙◌, subst, arith}
 use Rattle.daemon_cpp.specs.declared.stop.Stop.{Stop}
 use Rattle.daemon_cpp.specs.Prep.{world_of}
-use Rattle.daemon_cpp.specs.parts.Files.{LeadsTo, ComesTo, Brings}
+use Rattle.daemon_cpp.specs.parts.Files.{RestLeadsTo, ComesTo, Brings}
 use Rattle.std.proofs.Common.{rules}
 use Rattle.std.proofs.lemmas.List.{nil_from_length}
 use Rattle.std.proofs.lemmas.Grind.{common_steps}
@@ -10,18 +10,18 @@ use Rattle.daemon_cpp.proofs.cpp.Reader.read.Goals as goal
 
 pub returns-in-Err-clause-brings : goal.returns-in-Err-clause-brings
 returns-in-Err-clause-brings g c = λ told is behind.
-    brings-before (LeadsTo (world_of told c.args.setup.now) behind c.args.self.now) (LeadsTo (world_of told c.args.setup.now) behind c.files.self) c.next_piece.new.self (λ (done : Unit {0}). ComesTo behind c.next_piece.new.self) (Err c.in-Err.stop)
+    brings-before (RestLeadsTo (world_of told c.args.setup.now) behind c.args.self.now) (RestLeadsTo (world_of told c.args.setup.now) behind c.files.self) c.next_piece.new.self (λ (done : Unit {0}). ComesTo behind c.next_piece.new.self) (Err c.in-Err.stop)
     (λ whole left. c.files.invariant.left told is behind whole left)
-    (brings-stop {A = Unit {0}} {B = Unit {0}} (LeadsTo (world_of told c.args.setup.now) behind c.files.self) c.next_piece.new.self (λ done. LeadsTo (world_of told c.args.setup.now) behind c.next_piece.new.self) (λ done. ComesTo behind c.next_piece.new.self) c.in-Err.stop
-    (subst (λ (r : Result (Unit {0}) Stop). Brings (LeadsTo (world_of told c.args.setup.now) behind c.files.self) c.next_piece.new.self (λ done. LeadsTo (world_of told c.args.setup.now) behind c.next_piece.new.self) r) c.in-Err.is
+    (brings-stop {A = Unit {0}} {B = Unit {0}} (RestLeadsTo (world_of told c.args.setup.now) behind c.files.self) c.next_piece.new.self (λ done. RestLeadsTo (world_of told c.args.setup.now) behind c.next_piece.new.self) (λ done. ComesTo behind c.next_piece.new.self) c.in-Err.stop
+    (subst (λ (r : Result (Unit {0}) Stop). Brings (RestLeadsTo (world_of told c.args.setup.now) behind c.files.self) c.next_piece.new.self (λ done. RestLeadsTo (world_of told c.args.setup.now) behind c.next_piece.new.self) r) c.in-Err.is
     (c.next_piece.ensures.brings told (c.files.invariant.same ∙ is) behind)))
 
 pub returns-in-Err-come_back-clause-brings : goal.returns-in-Err-come_back-clause-brings
 returns-in-Err-come_back-clause-brings g c = λ told is behind.
-    brings-before (LeadsTo (world_of told c.args.setup.now) behind c.args.self.now) (LeadsTo (world_of told c.args.setup.now) behind c.files.self) c.come_back.new.self (λ (done : Unit {0}). ComesTo behind c.come_back.new.self) (Err c.in-Err-come_back.stop)
+    brings-before (RestLeadsTo (world_of told c.args.setup.now) behind c.args.self.now) (RestLeadsTo (world_of told c.args.setup.now) behind c.files.self) c.come_back.new.self (λ (done : Unit {0}). ComesTo behind c.come_back.new.self) (Err c.in-Err-come_back.stop)
     (λ whole left. c.files.invariant.left told is behind whole left)
-    (brings-stop {A = Unit {0}} {B = Unit {0}} (LeadsTo (world_of told c.args.setup.now) behind c.files.self) c.come_back.new.self (λ done. LeadsTo (world_of told c.args.setup.now) behind c.come_back.new.self) (λ done. ComesTo behind c.come_back.new.self) c.in-Err-come_back.stop
-    (subst (λ (r : Result (Unit {0}) Stop). Brings (LeadsTo (world_of told c.args.setup.now) behind c.files.self) c.come_back.new.self (λ done. LeadsTo (world_of told c.args.setup.now) behind c.come_back.new.self) r) c.in-Err-come_back.is
+    (brings-stop {A = Unit {0}} {B = Unit {0}} (RestLeadsTo (world_of told c.args.setup.now) behind c.files.self) c.come_back.new.self (λ done. RestLeadsTo (world_of told c.args.setup.now) behind c.come_back.new.self) (λ done. ComesTo behind c.come_back.new.self) c.in-Err-come_back.stop
+    (subst (λ (r : Result (Unit {0}) Stop). Brings (RestLeadsTo (world_of told c.args.setup.now) behind c.files.self) c.come_back.new.self (λ done. RestLeadsTo (world_of told c.args.setup.now) behind c.come_back.new.self) r) c.in-Err-come_back.is
     (c.come_back.ensures.brings (world_of told c.args.setup.now) behind)))
 
 pub returns-else-not-is_empty-clause-brings : goal.returns-else-not-is_empty-clause-brings
