@@ -11,7 +11,7 @@ use Rattle.job_frames.specs.Daemon.{IsReply, Daemon}
 use Rattle.daemon_serve.specs.declared.serving.Served.{Served}
 use Rattle.daemon_serve.specs.declared.serving.Served.TheVariants.{Replied, Refused}
 use Rattle.daemon_answers.specs.Answers.{Answers}
-use Rattle.daemon_serve.specs.Serving.{verdict_on, IsFirm, IsReasonOf, IsCut, Tells, IsServed}
+use Rattle.daemon_serve.specs.Serving.{verdict_on, IsFirm, IsReasonOf, IsCut, TellsServed, IsServed}
 
 -- what was sent is what was read, and what is left
 sent-parts : (sent read : List ℕ) (left : Option (List ℕ)) → Some sent ≡ prepend_known read left → (rest : List ℕ) × (left ≡ Some rest) × (sent ≡ read ++ rest)
@@ -32,7 +32,7 @@ done-due v got is e = cc
 reason-due : (v : Verdict Got) (n : ℕ) → v ≡ reason n → v ≡ going → ⊥
 reason-due v n is e = cc
 
-replied : (sent read written : List ℕ) (left : Option (List ℕ)) → Some sent ≡ prepend_known read left → IsFirm read → Tells Answers Replied read left written → IsReply Answers (verdict_on sent) written
+replied : (sent read written : List ℕ) (left : Option (List ℕ)) → Some sent ≡ prepend_known read left → IsFirm read → TellsServed Answers Replied read left written → IsReply Answers (verdict_on sent) written
 replied sent read written left e firm t =
     subst (λ (v : Verdict Got). IsReply Answers v written) (sym (on-sent sent read left e firm (done-due (verdict_on read) t.0 t.1) ∙ t.1)) t.2
 
@@ -54,9 +54,9 @@ module _ {left left' held held' : Option (List ℕ)} {reads reads' puts puts' : 
   pub peer-replied : served ≡ Replied → Daemon Answers sent bytes
   peer-replied e =
       inl (subst (IsReply Answers (verdict_on sent)) (all-put held held' s.written bytes none s.put is)
-      (replied sent s.read s.written left' taken s.firm (subst (λ (x : Served). Tells Answers x s.read left' s.written) e s.tells)))
+      (replied sent s.read s.written left' taken s.firm (subst (λ (x : Served). TellsServed Answers x s.read left' s.written) e s.tells)))
 
   pub peer-refused : (n : ℕ) → served ≡ Refused n → Daemon Answers sent bytes
   peer-refused n e =
-      let t : Tells Answers (Refused n) s.read left' s.written = subst (λ (x : Served). Tells Answers x s.read left' s.written) e s.tells in
+      let t : TellsServed Answers (Refused n) s.read left' s.written = subst (λ (x : Served). TellsServed Answers x s.read left' s.written) e s.tells in
       inl (subst (IsReply Answers (verdict_on sent)) (all-put held held' s.written bytes none s.put is) (refused-by n sent s.read s.written left' taken s.firm t.0 t.1))

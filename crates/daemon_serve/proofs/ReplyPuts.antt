@@ -15,7 +15,7 @@ use Rattle.job_frames.specs.Reply.{reply_bytes}
 use Rattle.job_frames.specs.Daemon.{IsAnswerTo}
 use Rattle.daemon_serve.specs.declared.serving.Served.{Served}
 use Rattle.daemon_serve.specs.declared.serving.Served.TheVariants.{Replied, Memory}
-use Rattle.daemon_serve.specs.Serving.{IsFront}
+use Rattle.daemon_serve.specs.Serving.{IsFrontOf}
 use Rattle.daemon_serve.specs.parts.Parts.{AnswersBy, OnlyReply, PutTells, IsReplyPut}
 
 abbrev pub refusal_text : FrameError → List ℕ
@@ -45,7 +45,7 @@ pub refusal-of : (e f : FrameError) → e ≡ f → refusal_text f ≡ reply_byt
 refusal-of e f is = refusal-spelled f ∙ ap (λ (x : FrameError). reply_bytes (answer.Refused (number_of x))) (sym is)
 
 -- all of a text is a front of it
-pub whole-front : (front whole : List ℕ) → front ≡ whole → IsFront front whole
+pub whole-front : (front whole : List ℕ) → front ≡ whole → IsFrontOf front whole
 whole-front front whole is = (length whole, is ∙ sym (take-length whole))
 
 tells-as : (P Q : Served → List ℕ → Type 0) → ((served : Served) (bytes : List ℕ) → P served bytes → Q served bytes) → (ended : Result Served WriteFault) (written : List ℕ) → PutTells P ended written → PutTells Q ended written

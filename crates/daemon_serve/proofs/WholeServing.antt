@@ -19,7 +19,7 @@ use Rattle.daemon_serve.specs.declared.reading.NoRequest.{NoRequest}
 use Rattle.daemon_serve.specs.declared.reading.NoRequest.TheVariants as no
 use Rattle.daemon_serve.specs.declared.serving.Served.{Served}
 use Rattle.daemon_serve.specs.declared.serving.Served.TheVariants.{Replied, Refused, ReadFault, WriteFault, Memory}
-use Rattle.daemon_serve.specs.Serving.{verdict_on, IsReplyTo, IsFront, IsPartOfReply, IsReasonOf, IsCut, TellsWhole, TellsExactly, Tells, IsServedExactly, IsServed}
+use Rattle.daemon_serve.specs.Serving.{verdict_on, IsReplyTo, IsFrontOf, IsPartOfReply, IsReasonOf, IsCut, TellsWhole, TellsExactly, TellsServed, IsServedExactly, IsServed}
 use Rattle.daemon_serve.specs.parts.Parts.{AnswersBy, OnlyReply, PutTells, refusal_served, fault_served, IsReplyPut, IsRequestRead, IsUnserved}
 use Rattle.daemon_serve.proofs.ReplyPuts.{whole-front}
 use Rattle.daemon_serve.proofs.WholeRequests.{got_of}
@@ -57,13 +57,13 @@ module _ (may : Job → Entries → Answer → Type 0) (firm : RequestsAreFirm) 
   answer-whole job entries read left written is WriteFault a = a
   answer-whole job entries read left written is Memory a = a
 
-  answer-part : (job : Job) (entries : Entries) (read : List ℕ) (left : Option (List ℕ)) (written bytes : List ℕ) → verdict_on read ≡ done (got_of job entries) → IsFront written bytes → (served : Served) → AnswersBy may job entries served bytes → IsPartOfReply may read left written
+  answer-part : (job : Job) (entries : Entries) (read : List ℕ) (left : Option (List ℕ)) (written bytes : List ℕ) → verdict_on read ≡ done (got_of job entries) → IsFrontOf written bytes → (served : Served) → AnswersBy may job entries served bytes → IsPartOfReply may read left written
   answer-part job entries read left written bytes is front Replied a =
       inl (bytes, (subst (λ (v : Verdict Got). IsReply may v bytes) (sym is) a, λ e. absurd (let never : done (got_of job entries) ≡ going = sym is ∙ e in cc)), front)
   answer-part job entries read left written bytes is front (Refused n) a = absurd a
   answer-part job entries read left written bytes is front ReadFault a = absurd a
   answer-part job entries read left written bytes is front WriteFault a = absurd a
-  answer-part job entries read left written bytes is front Memory a = inr (subst (IsFront written) a front)
+  answer-part job entries read left written bytes is front Memory a = inr (subst (IsFrontOf written) a front)
 
   answer-tells : (job : Job) (entries : Entries) (read : List ℕ) (left : Option (List ℕ)) (written : List ℕ) → verdict_on read ≡ done (got_of job entries) → (ended : Result Served sink.WriteFault) → PutTells (AnswersBy may job entries) ended written → TellsExactly may ended read left written
   answer-tells job entries read left written is (Ok served) t = answer-whole job entries read left written is served t
@@ -125,8 +125,8 @@ module _ (may : Job → Entries → Answer → Type 0) (firm : RequestsAreFirm) 
   refusal-reply n read left bytes (inl is) b = (subst (λ (v : Verdict Got). IsReply may v bytes) (sym is.0) b, λ e. absurd (let never : reason n ≡ going = sym is.0 ∙ e in cc))
   refusal-reply n read left bytes (inr is) b = (subst (λ (v : Verdict Got). IsReply may v bytes) (sym is.1) (b ∙ ap (λ (k : ℕ). reply_bytes (answer.Refused k)) is.0), λ e. is.2)
 
-  refusal-part : (e : FrameError) (read : List ℕ) (left : Option (List ℕ)) (written bytes : List ℕ) → Reasoned e read left → bytes ≡ reply_bytes (answer.Refused (number_of e)) → IsFront written bytes → IsPartOfReply may read left written
-  refusal-part e read left written bytes (inl memory) b front = inr (subst (IsFront written) (b ∙ ap (λ (x : FrameError). reply_bytes (answer.Refused (number_of x))) memory) front)
+  refusal-part : (e : FrameError) (read : List ℕ) (left : Option (List ℕ)) (written bytes : List ℕ) → Reasoned e read left → bytes ≡ reply_bytes (answer.Refused (number_of e)) → IsFrontOf written bytes → IsPartOfReply may read left written
+  refusal-part e read left written bytes (inl memory) b front = inr (subst (IsFrontOf written) (b ∙ ap (λ (x : FrameError). reply_bytes (answer.Refused (number_of x))) memory) front)
   refusal-part e read left written bytes (inr is) b front = inl (bytes, refusal-reply (number_of e) read left bytes is b, front)
 
   refused-tells : (e : FrameError) (read : List ℕ) (left : Option (List ℕ)) (written : List ℕ) → Reasoned e read left → (ended : Result Served sink.WriteFault) → PutTells (OnlyReply (refusal_served e) (reply_bytes (answer.Refused (number_of e)))) ended written
@@ -169,14 +169,14 @@ front-writes fault.Fault is = refl
 front-writes fault.Memory is = absurd (cc)
 
 module _ (may : Job → Entries → Answer → Type 0) where
-  whole-tells : (served : Served) (read : List ℕ) (left : Option (List ℕ)) (written : List ℕ) → TellsWhole may served read left written → Tells may served read left written
+  whole-tells : (served : Served) (read : List ℕ) (left : Option (List ℕ)) (written : List ℕ) → TellsWhole may served read left written → TellsServed may served read left written
   whole-tells Replied read left written t = t
   whole-tells (Refused n) read left written t = t
   whole-tells ReadFault read left written t = t
   whole-tells WriteFault read left written t = absurd t
   whole-tells Memory read left written t = inr (whole-front written (reply_bytes (answer.Refused 1)) t)
 
-  front-tells : (e : sink.WriteFault) (read : List ℕ) (left : Option (List ℕ)) (written : List ℕ) → IsPartOfReply may read left written → Tells may (fault_served e) read left written
+  front-tells : (e : sink.WriteFault) (read : List ℕ) (left : Option (List ℕ)) (written : List ℕ) → IsPartOfReply may read left written → TellsServed may (fault_served e) read left written
   front-tells fault.Fault read left written t = t
   front-tells fault.Memory read left written t = t
 

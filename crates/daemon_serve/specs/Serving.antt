@@ -44,13 +44,13 @@ abbrev pub IsReplyTo : (Job → Entries → Answer → Type 0) → List ℕ → 
 IsReplyTo may read left reply = IsReply may (verdict_on read) reply × (verdict_on read ≡ going → IsAtEnd left)
 
 -- a front of a text
-abbrev pub IsFront : List ℕ → List ℕ → Type 0
-IsFront front whole = (k : ℕ) × (front ≡ take k whole)
+abbrev pub IsFrontOf : List ℕ → List ℕ → Type 0
+IsFrontOf front whole = (k : ℕ) × (front ≡ take k whole)
 
 -- a front of that reply, or of the refusal for want of memory
 abbrev pub IsPartOfReply : (Job → Entries → Answer → Type 0) → List ℕ → Option (List ℕ) → List ℕ → Type 0
 IsPartOfReply may read left written =
-    ((reply : List ℕ) × IsReplyTo may read left reply × IsFront written reply) ⊎ IsFront written (reply_bytes (answer.Refused 1))
+    ((reply : List ℕ) × IsReplyTo may read left reply × IsFrontOf written reply) ⊎ IsFrontOf written (reply_bytes (answer.Refused 1))
 
 -- a reason of the bytes that were read
 abbrev pub IsReasonOf : List ℕ → ℕ → Type 0
@@ -74,10 +74,10 @@ TellsExactly may (Ok served) read left written = TellsWhole may served read left
 TellsExactly may (Err e) read left written = IsPartOfReply may read left written
 
 -- what is told where the sink's want of memory is told as any other
-abbrev pub Tells : (Job → Entries → Answer → Type 0) → Served → List ℕ → Option (List ℕ) → List ℕ → Type 0
-Tells may WriteFault read left written = IsPartOfReply may read left written
-Tells may Memory read left written = IsPartOfReply may read left written
-Tells may served read left written = TellsWhole may served read left written
+abbrev pub TellsServed : (Job → Entries → Answer → Type 0) → Served → List ℕ → Option (List ℕ) → List ℕ → Type 0
+TellsServed may WriteFault read left written = IsPartOfReply may read left written
+TellsServed may Memory read left written = IsPartOfReply may read left written
+TellsServed may served read left written = TellsWhole may served read left written
 
 -- One request served, by what the source has left, what the sink holds and the counts of their faults, before and after; and
 -- by an end that tells of the bytes read and written, and stands for a fault of the source or of the sink.
@@ -100,7 +100,7 @@ IsServedExactly may = Serves (TellsExactly may) (Ok ReadFault) (Err fault.Fault)
 
 -- One request served, where the sink's errors are among the ends.
 abbrev pub IsServed : (Job → Entries → Answer → Type 0) → Option (List ℕ) → Option (List ℕ) → ℕ → ℕ → Option (List ℕ) → Option (List ℕ) → ℕ → ℕ → Served → Type 0
-IsServed may = Serves (Tells may) ReadFault WriteFault
+IsServed may = Serves (TellsServed may) ReadFault WriteFault
 
 -- the exit status of a program that served one request
 abbrev pub status_of : Served → ℕ

@@ -3,7 +3,7 @@ ghost use Rattle.std.specs.Prelude.{◌≡◌, ◌≤◌, true, false};
 ghost use Rattle.base_types.specs.Causes.{Rose};
 ghost use Rattle.base_types.specs.Calls.{failures_of};
 ghost use Rattle.base_types.specs.Members.{Member};
-ghost use Rattle.daemon_serve.specs.MemWire.{dial_made, call_made, calls_of};
+ghost use Rattle.daemon_serve.specs.MemWire.{dial_made, call_made, wire_calls};
 
 use base_types::Failing;
 
@@ -33,7 +33,7 @@ impl ExchangeCalls {
 
     // Counts a dial, and says whether it fails.
     pub(crate) fn dial_fails(&mut self) -> bool
-        ensures counted { calls_of self.new.dials self.new.exchange self.new.made self.new.failing.fails ≡ dial_made (calls_of self.old.dials self.old.exchange self.old.made self.old.failing.fails) }
+        ensures counted { wire_calls self.new.dials self.new.exchange self.new.made self.new.failing.fails ≡ dial_made (wire_calls self.old.dials self.old.exchange self.old.made self.old.failing.fails) }
         ensures listed { result ≡ true → Member (self.new.exchange, self.new.made) self.new.failing.fails }
         ensures unlisted { result ≡ false → Member (self.new.exchange, self.new.made) self.new.failing.fails → ⊥ }
         ensures later { self.old.failing.faults ≤ self.new.failing.faults }
@@ -48,7 +48,7 @@ impl ExchangeCalls {
 
     // Counts another call of the exchange, and says whether it fails.
     pub(crate) fn next_fails(&mut self) -> bool
-        ensures counted { calls_of self.new.dials self.new.exchange self.new.made self.new.failing.fails ≡ call_made (calls_of self.old.dials self.old.exchange self.old.made self.old.failing.fails) }
+        ensures counted { wire_calls self.new.dials self.new.exchange self.new.made self.new.failing.fails ≡ call_made (wire_calls self.old.dials self.old.exchange self.old.made self.old.failing.fails) }
         ensures listed { result ≡ true → Member (self.new.exchange, self.new.made) self.new.failing.fails }
         ensures unlisted { result ≡ false → Member (self.new.exchange, self.new.made) self.new.failing.fails → ⊥ }
         ensures later { self.old.failing.faults ≤ self.new.failing.faults }

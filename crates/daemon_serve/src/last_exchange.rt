@@ -2,7 +2,7 @@
 ghost use Rattle.std.specs.Prelude.{◌≡◌, ◌≤◌, ◌<◌, ◌+◌, take, drop, length, IfOk, OnOk, OnErr, cond, nat_eq};
 ghost use Rattle.base_types.specs.Told.{on_last};
 ghost use Rattle.io_edges.specs.Talk.{sending, finishing, taking, ending};
-ghost use Rattle.daemon_serve.specs.MemWire.{AtLast, IsFresh};
+ghost use Rattle.daemon_serve.specs.MemWire.{AtLast, HasReceivedNothing};
 
 use crate::answerer::Answerer;
 use base_types::Bytes;
@@ -33,7 +33,7 @@ pub(crate) fn ask<P: Answerer>(
     peer: &mut P,
     exchanges: &mut Vec<Exchange>,
 ) -> Result<Bytes, AllocError>
-    requires { AtLast IsFresh exchanges.old.items }
+    requires { AtLast HasReceivedNothing exchanges.old.items }
     ensures answer { IfOk result (λ answer. AtLast (λ e. P.may e.sent answer) exchanges.old.items) }
     ensures ok { OnOk result (exchanges.new.items ≡ on_last finishing exchanges.old.items) }
     ensures err { OnErr result (exchanges.new.items ≡ exchanges.old.items) }

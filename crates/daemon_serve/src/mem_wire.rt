@@ -5,7 +5,7 @@ ghost use Rattle.base_types.specs.Calls.{FailsAsListed};
 ghost use Rattle.base_types.specs.Causes.{HasCause};
 ghost use Rattle.base_types.specs.Told.{added};
 ghost use Rattle.io_edges.specs.Talk.{dialled, sending, finishing, taking, ending, on_current, EachAnswered};
-ghost use Rattle.daemon_serve.specs.MemWire.{calls_of, dial_made, call_made, last_call};
+ghost use Rattle.daemon_serve.specs.MemWire.{wire_calls, dial_made, call_made, last_call};
 
 use crate::answerer::Answerer;
 use crate::exchange_calls::ExchangeCalls;
@@ -31,11 +31,11 @@ pub struct MemWire<P: Answerer> {
 }
 
 impl<P: Answerer> Model for MemWire<P> {
-    ghost use Rattle.daemon_serve.specs.MemWire.{Line, calls_of, WireHolds};
+    ghost use Rattle.daemon_serve.specs.MemWire.{Line, wire_calls, WireHolds};
 
     ghost Value = { Line };
 
-    ghost view = { λ w. record { talk = w.exchanges.items; state = w.state; faults = w.calls.failing.faults; calls = calls_of w.calls.dials w.calls.exchange w.calls.made w.calls.failing.fails } };
+    ghost view = { λ w. record { talk = w.exchanges.items; state = w.state; faults = w.calls.failing.faults; calls = wire_calls w.calls.dials w.calls.exchange w.calls.made w.calls.failing.fails } };
 
     ghost invariant = { λ w. WireHolds P.may w.exchanges.items w.answer w.given w.state };
 }
@@ -49,7 +49,7 @@ impl<P: Answerer> MemWire<P> {
         ensures talk { result.talk ≡ [] }
         ensures state { result.state ≡ LinkState.Closed }
         ensures faults { result.faults ≡ 0 }
-        ensures calls { result.calls ≡ calls_of 0 0 0 failing.items }
+        ensures calls { result.calls ≡ wire_calls 0 0 0 failing.items }
     {
         MemWire {
             alloc,

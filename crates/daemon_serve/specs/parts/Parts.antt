@@ -19,7 +19,7 @@ use Rattle.daemon_serve.specs.declared.reading.NoRequest.{NoRequest}
 use Rattle.daemon_serve.specs.declared.reading.NoRequest.TheVariants as no
 use Rattle.daemon_serve.specs.declared.serving.Served.{Served}
 use Rattle.daemon_serve.specs.declared.serving.Served.TheVariants.{Replied, Refused, ReadFault, WriteFault, Memory}
-use Rattle.daemon_serve.specs.Serving.{verdict_on, StopsInTime, IsReasonOf, IsCut, IsFront}
+use Rattle.daemon_serve.specs.Serving.{verdict_on, StopsInTime, IsReasonOf, IsCut, IsFrontOf}
 
 -- While a request is read: nothing is wrong with the bytes read, and the reader says of each text that may come what is to
 -- be said of all bytes.
@@ -93,7 +93,7 @@ OnlyReply whole reply served bytes = (served ≡ whole) × (bytes ≡ reply)
 -- a reply was put whole; or, where the sink didn't take it, a front of one
 abbrev pub PutTells : (Served → List ℕ → Type 0) → Result Served sink.WriteFault → List ℕ → Type 0
 PutTells reply (Ok served) written = reply served written
-PutTells reply (Err e) written = (served : Served) × (bytes : List ℕ) × reply served bytes × IsFront written bytes
+PutTells reply (Err e) written = (served : Served) × (bytes : List ℕ) × reply served bytes × IsFrontOf written bytes
 
 pub record IsReplyPut (reply : Served → List ℕ → Type 0) (held held' : Option (List ℕ)) (puts puts' : ℕ) (ended : Result Served sink.WriteFault) : Type 0 where
   pub written : List ℕ
