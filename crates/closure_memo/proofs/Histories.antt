@@ -6,7 +6,7 @@ use Rattle.std.proofs.lemmas.List.{take-append-le}
 use Rattle.std.proofs.Math.Seq.{take-append_seam}
 use Rattle.std.specs.List.{count_by}
 use Rattle.closure_memo.specs.declared.step.MemoCall.{MemoCall}
-use Rattle.closure_memo.specs.History.{is_new, keeps_key, has_new, new_weight, kept_weight, seen_keys, MayFollow, IsLegal}
+use Rattle.closure_memo.specs.History.{is_new, keeps_key, has_new, new_weight, kept_weight, seen_keys, CallMayFollow, IsLegal}
 
 -- an element of a list that is one longer
 pub get_snoc : {A : Type 0} (xs : List A) (x : A) (i : ℕ) (y : A) → slice_get (xs ++ x ∷ []) i ≡ Some y → ((i < length xs) × (slice_get xs i ≡ Some y)) ⊎ ((i ≡ length xs) × (x ≡ y))
@@ -33,9 +33,9 @@ news_snoc steps s = sum_by-append (λ (s : MemoCall). cond (is_new s.what) 1 0) 
 pub seen_snoc : (steps : List MemoCall) (s : MemoCall) → seen_keys (steps ++ s ∷ []) ≡ max (seen_keys steps) (s.key + 1)
 seen_snoc steps s = fold-append (λ seen (call : MemoCall). max seen (call.key + 1)) 0 steps (s ∷ [])
 
-pub legal_more : (limit : ℕ) (steps : List MemoCall) (s : MemoCall) → IsLegal limit steps → MayFollow limit steps s → kept_weight (steps ++ s ∷ []) ≤ limit → IsLegal limit (steps ++ s ∷ [])
+pub legal_more : (limit : ℕ) (steps : List MemoCall) (s : MemoCall) → IsLegal limit steps → CallMayFollow limit steps s → kept_weight (steps ++ s ∷ []) ≤ limit → IsLegal limit (steps ++ s ∷ [])
 legal_more limit steps s legal may within = record {
-  follows = each_snoc (MayFollow limit) steps s legal.follows may;
+  follows = each_snoc (CallMayFollow limit) steps s legal.follows may;
   within = within;
 }
 

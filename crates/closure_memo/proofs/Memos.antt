@@ -8,8 +8,8 @@ use Rattle.closure_memo.specs.declared.step.MemoCall.{MemoCall}
 use Rattle.closure_memo.specs.declared.step.What.TheVariants as what
 use Rattle.closure_memo.specs.declared.step.Kept.{Kept}
 use Rattle.closure_memo.specs.declared.step.Kept.TheVariants as kept
-use Rattle.closure_memo.specs.History.{is_new, has_new, new_weight, kept_weight, seen_keys, MayFollow, AreNumbered}
-use Rattle.closure_memo.specs.Memo.{Memo, memo_call, value_at, with_place, with_value, publication, what_of, look_of, number_of, with_key, found, after_look, publish_of, after_publish, IsMemo}
+use Rattle.closure_memo.specs.History.{is_new, has_new, new_weight, kept_weight, seen_keys, CallMayFollow, AreNumbered}
+use Rattle.closure_memo.specs.Memo.{Memo, memo_call, value_at, with_place, values_after, publication, what_of, look_of, number_of, with_key, found, after_look, publish_of, after_publish, IsMemo}
 use Rattle.closure_memo.proofs.Histories.{get_snoc, each_snoc, weight_snoc, news_snoc, seen_snoc, legal_more, weight_is_new, weight_stays, weight_first}
 use Rattle.closure_memo.proofs.Keys.{number_within, keys_grow, keys_then, key_is_there, key_then, distinct_then}
 use Rattle.closure_memo.proofs.Values.{value_placed, values_placed, values_more, places_grow, value_set_here, value_set_else}
@@ -72,7 +72,7 @@ module _ {K V : Type 0} (eq : K → K → Bool) (Right : K → V → Type 0) (we
       (keys_then eq key memo.keys number k at)
 
   -- a call that keeps no value keeps the rest
-  plain_keeps : (memo : Memo K V) → IsMemo Right weigh memo → (key : K) → eq key key ≡ true → (s : MemoCall) → s.key ≡ number_of eq key memo.keys → is_new s.what ≡ false → MayFollow memo.limit memo.steps s
+  plain_keeps : (memo : Memo K V) → IsMemo Right weigh memo → (key : K) → eq key key ≡ true → (s : MemoCall) → s.key ≡ number_of eq key memo.keys → is_new s.what ≡ false → CallMayFollow memo.limit memo.steps s
       → (kept_weight (memo.steps ++ s ∷ []) ≡ kept_weight memo.steps)
       × IsMemo Right weigh (record { limit = memo.limit; keys = with_key eq key memo.keys; values = with_place (number_of eq key memo.keys) memo.values; steps = memo.steps ++ s ∷ [] })
   plain_keeps memo holds key same s its other may =
@@ -88,7 +88,7 @@ module _ {K V : Type 0} (eq : K → K → Bool) (Right : K → V → Type 0) (we
         },
       )
 
-  look_follows : (limit : ℕ) (before : List MemoCall) (client number : ℕ) (got : Option V) → is_some got ≡ has_new number before → MayFollow limit before (memo_call client number (look_of got) 0)
+  look_follows : (limit : ℕ) (before : List MemoCall) (client number : ℕ) (got : Option V) → is_some got ≡ has_new number before → CallMayFollow limit before (memo_call client number (look_of got) 0)
   look_follows limit before client number (Some v) is = (sym is, refl)
   look_follows limit before client number None is = (sym is, refl)
 
@@ -171,7 +171,7 @@ module _ {K V : Type 0} (eq : K → K → Bool) (Right : K → V → Type 0) (we
       then_memo k = record {
         limit = memo.limit;
         keys = with_key eq key memo.keys;
-        values = with_value k number v (with_place number memo.values);
+        values = values_after k number v (with_place number memo.values);
         steps = memo.steps ++ memo_call client number (what_of k) (weigh v) ∷ [];
       }
 

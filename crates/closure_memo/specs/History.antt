@@ -84,19 +84,19 @@ seen_keys steps = fold (λ seen call. max seen (call.key + 1)) 0 steps
 
 -- a call with this key, weight and end may come behind these: a Hit and an Already where the key has a New, each other where
 -- it has none, and a Full where the value would pass the limit; a look weighs nothing
-abbrev pub Fits : ℕ → List MemoCall → ℕ → ℕ → What → Type 0
-Fits limit before key weight what.Hit = (has_new key before ≡ true) × (weight ≡ 0)
-Fits limit before key weight what.Miss = (has_new key before ≡ false) × (weight ≡ 0)
-Fits limit before key weight what.New = has_new key before ≡ false
-Fits limit before key weight what.Already = has_new key before ≡ true
-Fits limit before key weight what.Full = (has_new key before ≡ false) × (limit < kept_weight before + weight)
+abbrev pub FitsHistory : ℕ → List MemoCall → ℕ → ℕ → What → Type 0
+FitsHistory limit before key weight what.Hit = (has_new key before ≡ true) × (weight ≡ 0)
+FitsHistory limit before key weight what.Miss = (has_new key before ≡ false) × (weight ≡ 0)
+FitsHistory limit before key weight what.New = has_new key before ≡ false
+FitsHistory limit before key weight what.Already = has_new key before ≡ true
+FitsHistory limit before key weight what.Full = (has_new key before ≡ false) × (limit < kept_weight before + weight)
 
-abbrev pub MayFollow : ℕ → List MemoCall → MemoCall → Type 0
-MayFollow limit before call = Fits limit before call.key call.weight call.what
+abbrev pub CallMayFollow : ℕ → List MemoCall → MemoCall → Type 0
+CallMayFollow limit before call = FitsHistory limit before call.key call.weight call.what
 
 -- each call may come behind those before it, and the News together are within the limit
 pub record IsLegal (limit : ℕ) (steps : List MemoCall) : Type 0 where
-  pub follows : (place : ℕ) (call : MemoCall) → slice_get steps place ≡ Some call → MayFollow limit (take place steps) call
+  pub follows : (place : ℕ) (call : MemoCall) → slice_get steps place ≡ Some call → CallMayFollow limit (take place steps) call
   pub within : kept_weight steps ≤ limit
 
 -- the keys of a history are numbered by first sight: no two numbers have one key, each call's number was seen before or is

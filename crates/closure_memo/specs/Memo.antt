@@ -42,10 +42,10 @@ look_of (Some v) = what.Hit
 look_of None = what.Miss
 
 -- the values after a publication
-abbrev pub with_value : {V : Type 0} → Kept → ℕ → V → List (Option V) → List (Option V)
-with_value kept.New number v values = slice_set values number (Some v)
-with_value kept.Already number v values = values
-with_value kept.Full number v values = values
+abbrev pub values_after : {V : Type 0} → Kept → ℕ → V → List (Option V) → List (Option V)
+values_after kept.New number v values = slice_set values number (Some v)
+values_after kept.Already number v values = values
+values_after kept.Full number v values = values
 
 module _ {K : Type 0} (eq : K → K → Bool) where
   -- the number of a key by first sight; that of a new key is the number of keys
@@ -79,7 +79,7 @@ module _ {K V : Type 0} (eq : K → K → Bool) where
   after_publish client key v weight memo = record {
     limit = memo.limit;
     keys = with_key eq key memo.keys;
-    values = with_value (publish_of key weight memo) (number_of eq key memo.keys) v (with_place (number_of eq key memo.keys) memo.values);
+    values = values_after (publish_of key weight memo) (number_of eq key memo.keys) v (with_place (number_of eq key memo.keys) memo.values);
     steps = memo.steps ++ memo_call client (number_of eq key memo.keys) (what_of (publish_of key weight memo)) weight ∷ [];
   }
 

@@ -2,7 +2,7 @@
 ghost use Rattle.std.specs.Prelude.{◌≡◌, ℕ, ◌+◌, ◌<◌, ◌≤◌, ◌^◌, [], IfOk, OnOk, OnErr, Some, None, length, is_some, cond, slice_get};
 ghost use Rattle.std.specs.Option.{option_map};
 ghost use Rattle.closure_memo.specs.History.{IsLegal, AreNumbered, has_new, is_new, kept_weight};
-ghost use Rattle.closure_memo.specs.Memo.{RightIn, value_at, with_place, with_value, number_of, with_key, look_of, found, after_look, publication, publish_of, after_publish, what_of};
+ghost use Rattle.closure_memo.specs.Memo.{RightIn, value_at, with_place, values_after, number_of, with_key, look_of, found, after_look, publication, publish_of, after_publish, what_of};
 
 use crate::{Kept, MemoCall, Memoised, What};
 use indexmap::IndexSet;
@@ -274,7 +274,7 @@ fn keep_new<V: Drop>(
 )
     requires room { number < length values.old.items }
     requires fits { kept ≡ Kept.New → weights.old + weight < 2 ^ 64 }
-    ensures values { values.new.items ≡ with_value kept number value values.old.items }
+    ensures values { values.new.items ≡ values_after kept number value values.old.items }
     ensures weights { weights.new ≡ weights.old + cond (is_new (what_of kept)) weight 0 }
 {
     if let Kept::New = kept {
