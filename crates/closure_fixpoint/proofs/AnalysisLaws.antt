@@ -23,7 +23,7 @@ use Rattle.sheet_build.specs.Laws.{PlacesLocate}
 use Rattle.closure_fixpoint.specs.declared.job_analysis.Refusal.{Refusal}
 use Rattle.closure_fixpoint.specs.declared.job_analysis.Refusal.TheVariants as refusal
 use Rattle.closure_fixpoint.specs.declared.job_analysis.Analysed.TheVariants as analysed
-use Rattle.closure_fixpoint.specs.Closure.{Answers, answers_of, IsClosureOf, IsMet, IsMetAtClosure, definitions, sets, known_name}
+use Rattle.closure_fixpoint.specs.Closure.{AnalysisAnswers, answers_of, IsClosureOf, IsMet, IsMetAtClosure, definitions, sets, known_name}
 use Rattle.closure_fixpoint.specs.Laws.{ClosuresExist}
 use Rattle.closure_fixpoint.specs.Analysis.{IsNodeOf, AreEntriesOf, Holds, NothingHolds, AnalysisHolds}
 use Rattle.closure_fixpoint.specs.Progress.{RefusedMeans}
@@ -31,7 +31,7 @@ use Rattle.closure_fixpoint.specs.Told.{RefusalMeans}
 use Rattle.closure_fixpoint.specs.Driving.{is_large_in, IsDoneIn}
 use Rattle.closure_fixpoint.specs.Requested.{RefusalsHold}
 use Rattle.closure_fixpoint.specs.declared.entries.Gathered.TheVariants as gathered
-use Rattle.closure_fixpoint.specs.Gathering.{comes_before, AreGathered, HasLarge, is_over, IsGathered}
+use Rattle.closure_fixpoint.specs.Gathering.{comes_before, AreGathered, HasLarge, is_over, GathersNodes}
 use Rattle.closure_fixpoint.proofs.Orders.{in_order}
 use Rattle.closure_fixpoint.proofs.LeadsLaws.{less_itself, parts, long_more, presumed_more}
 use Rattle.closure_fixpoint.proofs.ProgressLaws.{sets-distinct}
@@ -192,7 +192,7 @@ refusals-hold keep holds locates places exist tree job budget heard why whole is
 
 module _ (keep : MoreKeepHeaders HeaderName) (long : MoreKeepLongRuns) (presumed : MoreKeepPresumedRuns) (many : MoreKeepManyRuns) where
   -- what is met at some visits is met at more
-  met-more : (answers : Answers) (job : JobData) (budget : ℕ) (less more : List Visit) → Within less more → (why : Refusal) → IsMet why answers job budget less → IsMet why answers job budget more
+  met-more : (answers : AnalysisAnswers) (job : JobData) (budget : ℕ) (less more : List Visit) → Within less more → (why : Refusal) → IsMet why answers job budget less → IsMet why answers job budget more
   met-more answers job budget less more within refusal.Budget s = record {
     visit = s.visit;
     c = s.c;
@@ -258,7 +258,7 @@ module _ (keep : MoreKeepHeaders HeaderName) (long : MoreKeepLongRuns) (presumed
         nothing small fits refusal.NoSource none = done.done.accepted (answers_of tree job) (is_large_in tree) done.is_true refusal.NoSource none
 
       -- what is gathered answers the job
-      pub gathered-refused : (why : Refusal) → IsGathered tree job nodes (gathered.Refused why) → Holds why tree job budget
+      pub gathered-refused : (why : Refusal) → GathersNodes tree job nodes (gathered.Refused why) → Holds why tree job budget
       gathered-refused refusal.Budget h = absurd h
       gathered-refused refusal.Long h = absurd h
       gathered-refused refusal.Presumed h = absurd h

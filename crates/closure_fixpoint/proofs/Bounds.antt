@@ -32,7 +32,7 @@ use Rattle.search_path.specs.Asks.{forced_ask}
 use Rattle.sheet_build.specs.Sheet.{asked_for}
 use Rattle.closure_fixpoint.specs.Closure.{answers_of, computed_ask, LeadsTo, ByName, ByTokens, first_asks, first_hits, first_visits, IsClosedFor}
 use Rattle.closure_fixpoint.specs.Laws.{ClosuresExist}
-use Rattle.closure_fixpoint.specs.parts.Worklist.{found_number, same_visit}
+use Rattle.closure_fixpoint.specs.parts.Worklist.{found_number, is_found_alike}
 use Rattle.closure_fixpoint.proofs.MemberLaws.{GivenBy, filter_map-Member, MappedBy, map-Member, flat_map-Member, list_any-by}
 use Rattle.closure_fixpoint.proofs.ClosedLaws.{closure_exists}
 use Rattle.closure_fixpoint.proofs.LeadsLaws.{leads_monotone, led, led_sound, led_whole}
@@ -58,8 +58,8 @@ same_number (Chain j) Absolute e = absurd (omega (arith, e))
 same_number (Chain j) Here e = absurd (omega (arith, e))
 same_number (Chain j) (Chain k) e = let same : j ≡ k = omega (arith, e) in ap Chain same
 
-pub same_visit-Decides : (a b : Visit) → Decides (same_visit a b) (a ≡ b)
-same_visit-Decides a b = (
+pub is_found_alike-Decides : (a b : Visit) → Decides (is_found_alike a b) (a ≡ b)
+is_found_alike-Decides a b = (
   λ e.
       let both = and_parts (is_same_path a.place b.place) (nat_eq (found_number a.found) (found_number b.found)) e in
       let place : a.place ≡ b.place = (is_same_path-Decides a.place b.place).0 both.0 in
@@ -246,5 +246,5 @@ module _ (holds : HoldsOfLocated) (locates : SearchesLocate) (tree : FileTree) (
 pub closures_exist : MoreKeepHeaders HeaderName → HoldsOfLocated → SearchesLocate → ClosuresExist
 closures_exist keep holds locates tree job whole =
     closure_exists (first_visits (answers_of tree job) job) (LeadsTo (answers_of tree job) job) (leads_monotone keep (answers_of tree job) job)
-    same_visit same_visit-Decides (led (answers_of tree job) job) (led_sound (answers_of tree job) job) (led_whole (answers_of tree job) job)
+    is_found_alike is_found_alike-Decides (led (answers_of tree job) job) (led_sound (answers_of tree job) job) (led_whole (answers_of tree job) job)
     (all_visits tree job.setup) (all_closed holds locates tree whole job)

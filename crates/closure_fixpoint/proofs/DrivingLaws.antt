@@ -13,7 +13,7 @@ use Rattle.closure_fixpoint.specs.declared.fixpoint.Next.{Next}
 use Rattle.closure_fixpoint.specs.declared.fixpoint.Next.TheVariants as next
 use Rattle.closure_fixpoint.specs.Progress.{Heard, with_search, with_sheet}
 use Rattle.closure_fixpoint.specs.Told.{Progress, IsBegun, OfSearch, OfSheet, PutsSearch, PutsSheet, PutsLarge, AsksSearch, AsksSheet}
-use Rattle.closure_fixpoint.specs.Driving.{is_large_in, IsTrueIn, IsOfTree, GoesOn}
+use Rattle.closure_fixpoint.specs.Driving.{is_large_in, IsTrueIn, IsOfTree, IsOfTreeUnlessBroken}
 
 -- WHAT IS TOLD
 
@@ -61,7 +61,7 @@ module _ (tree : FileTree) (job : JobData) where
 
   module _ (budget : ℕ) where
     -- an analysis that begins was told nothing
-    pub begun : (p : Progress) → IsBegun job budget p → GoesOn tree job budget p
+    pub begun : (p : Progress) → IsBegun job budget p → IsOfTreeUnlessBroken tree job budget p
     begun p is calm = record {
       job_is = ap (λ (q : Progress). q.job) is;
       budget_is = ap (λ (q : Progress). q.budget) is;
@@ -99,7 +99,7 @@ module _ (tree : FileTree) (job : JobData) where
     calm_by true answer breaks never = absurd (never (breaks refl))
     calm_by false answer breaks never = refl
 
-    pub asks_search : (old new : Progress) (answer : Next) (ask : Ask) → answer ≡ next.Search ask → (IsTrue old.broken → answer ≡ next.Memory) → AsksSearch old ask new → GoesOn tree job budget old
+    pub asks_search : (old new : Progress) (answer : Next) (ask : Ask) → answer ≡ next.Search ask → (IsTrue old.broken → answer ≡ next.Memory) → AsksSearch old ask new → IsOfTreeUnlessBroken tree job budget old
         → (include : Bool) × (new.pending ≡ OfSearch ask include) × IsOfTree tree job budget new
     asks_search old new answer ask is breaks asks goes =
         let was : IsOfTree tree job budget old = goes (calm_by old.broken answer breaks (λ e. let never : next.Search ask ≡ next.Memory = sym is ∙ e in absurd (cc))) in (
@@ -108,7 +108,7 @@ module _ (tree : FileTree) (job : JobData) where
           subst (λ (p : Progress). IsOfTree tree job budget p) (sym asks.1.1) (record { job_is = was.job_is; budget_is = was.budget_is; told = was.told }),
         )
 
-    pub asks_sheet : (old new : Progress) (answer : Next) (visit : Visit) → answer ≡ next.Sheet visit → (IsTrue old.broken → answer ≡ next.Memory) → AsksSheet old visit new → GoesOn tree job budget old
+    pub asks_sheet : (old new : Progress) (answer : Next) (visit : Visit) → answer ≡ next.Sheet visit → (IsTrue old.broken → answer ≡ next.Memory) → AsksSheet old visit new → IsOfTreeUnlessBroken tree job budget old
         → (new.pending ≡ OfSheet visit) × IsOfTree tree job budget new
     asks_sheet old new answer visit is breaks asks goes =
         let was : IsOfTree tree job budget old = goes (calm_by old.broken answer breaks (λ e. let never : next.Sheet visit ≡ next.Memory = sym is ∙ e in absurd (cc))) in (

@@ -9,7 +9,7 @@ use Rattle.search_path.specs.declared.asking.Visit.{Visit}
 use Rattle.job_words.specs.JobOf.{JobData}
 use Rattle.sheet_build.specs.Sheet.{SheetData}
 use Rattle.closure_fixpoint.specs.Closure.{first_definitions}
-use Rattle.closure_fixpoint.specs.Naming.{HasJust, definitions_in, targets_in, targets_of, IsRest, Follows}
+use Rattle.closure_fixpoint.specs.Naming.{HasJust, definitions_in, targets_in, asked_targets, IsRest, Follows}
 use Rattle.closure_fixpoint.specs.declared.naming.Naming.{Naming}
 use Rattle.closure_fixpoint.proofs.NamesLaws.{there_behind}
 
@@ -24,7 +24,7 @@ follows_more naming job sheets more follows = record {
   kept = λ number answer is.
       let k = follows.kept number answer is in (
         k.0,
-        subst (λ (ts : List (Option Text × List Token)). slice_get ts number ≡ Some k.0) (sym (flat_map-append targets_in sheets more)) (there_behind (targets_of sheets) (targets_of more) number k.0 k.1),
+        subst (λ (ts : List (Option Text × List Token)). slice_get ts number ≡ Some k.0) (sym (flat_map-append targets_in sheets more)) (there_behind (asked_targets sheets) (asked_targets more) number k.0 k.1),
         k.2,
       );
   left = λ rest is.

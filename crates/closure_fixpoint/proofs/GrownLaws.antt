@@ -9,7 +9,7 @@ use Rattle.search_path.specs.declared.asking.Visit.{Visit}
 use Rattle.sheet_build.specs.Sheet.{SheetData}
 use Rattle.tree_model.proofs.MemberLemmas.{Member-append, Member-append_left, Member-append_right, Member-map}
 use Rattle.closure_fixpoint.specs.Progress.{Heard, with_sheet, visits_told, PlainAreFound}
-use Rattle.closure_fixpoint.specs.parts.Worklist.{same_visit, with_visit, with_visits, with_hit}
+use Rattle.closure_fixpoint.specs.parts.Worklist.{is_found_alike, with_visit, with_visits, with_hit}
 use Rattle.closure_fixpoint.proofs.WantingLaws.{visit_there}
 
 -- the longer list begins with the other
@@ -25,7 +25,7 @@ pub grows_none : (xs : List Visit) → Grows xs xs
 grows_none xs = record { more = []; is = sym (append-nil xs) }
 
 pub grows_visit : (found : List Visit) (visit : Visit) → Grows found (with_visit found visit)
-grows_visit found visit = go (list_any (same_visit visit) found)
+grows_visit found visit = go (list_any (is_found_alike visit) found)
   where
     go : (b : Bool) → Grows found (cond b found (found ++ visit ∷ []))
     go true = grows_none found
@@ -55,9 +55,9 @@ still_there xs ys g visit m = subst (λ (l : List Visit). Member visit l) (sym g
 
 -- what was added is there
 pub visit_added : (found : List Visit) (visit : Visit) → Member visit (with_visit found visit)
-visit_added found visit = go (list_any (same_visit visit) found) refl
+visit_added found visit = go (list_any (is_found_alike visit) found) refl
   where
-    go : (b : Bool) → list_any (same_visit visit) found ≡ b → Member visit (cond b found (found ++ visit ∷ []))
+    go : (b : Bool) → list_any (is_found_alike visit) found ≡ b → Member visit (cond b found (found ++ visit ∷ []))
     go true is = visit_there found visit is
     go false is = Member-append_right visit found (visit ∷ []) (inl refl)
 
@@ -153,9 +153,9 @@ plain_of_sheet heard found visit sheet plain v s hit m n = go (Member-append (v,
 
 -- a visit that wasn't there makes the list longer
 pub grows_by_one : (found : List Visit) (visit : Visit) → (Member visit found → ⊥) → with_visit found visit ≡ found ++ visit ∷ []
-grows_by_one found visit new = go (list_any (same_visit visit) found) refl
+grows_by_one found visit new = go (list_any (is_found_alike visit) found) refl
   where
-    go : (b : Bool) → list_any (same_visit visit) found ≡ b → cond b found (found ++ visit ∷ []) ≡ found ++ visit ∷ []
+    go : (b : Bool) → list_any (is_found_alike visit) found ≡ b → cond b found (found ++ visit ∷ []) ≡ found ++ visit ∷ []
     go true is = absurd (new (visit_there found visit is))
     go false is = refl
 

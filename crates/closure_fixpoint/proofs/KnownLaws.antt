@@ -20,7 +20,7 @@ use Rattle.search_path.specs.declared.asking.Ask.{Ask}
 use Rattle.job_words.specs.JobOf.{JobData}
 use Rattle.sheet_build.specs.Laws.{PlacesLocate}
 use Rattle.sheet_build.specs.Sheet.{asked_for, body_found, body_of_place}
-use Rattle.closure_fixpoint.specs.Closure.{answers_of, computed_ask, first_asks, first_hits, first_visits, LeadsTo, ByName, ByTokens, IsClosedFor, IsClosureOf, Known, AtFirst, Included, Probed, ByMacros}
+use Rattle.closure_fixpoint.specs.Closure.{answers_of, computed_ask, first_asks, first_hits, first_visits, LeadsTo, ByName, ByTokens, IsClosedFor, IsClosureOf, IsKnownSearch, AtFirst, Included, Probed, ByMacros}
 use Rattle.closure_fixpoint.specs.Analysis.{IsNodeOf}
 use Rattle.closure_fixpoint.specs.Driving.{is_large_in}
 use Rattle.closure_fixpoint.proofs.MemberLaws.{GivenBy, filter_map-Member, MappedBy, map-Member}
@@ -73,7 +73,7 @@ module _ (holds : HoldsOfLocated) (locates : SearchesLocate) (tree : FileTree) (
     asked_from visit inside hit s =
         searched_from (asked_for visit s.next s.header) hit (λ other e. from_visit holds locates tree whole job visit other e (closure_home visit inside)) s.found
 
-    pub known_from : (l : Located) → Known (answers_of tree job) job visits l → IsFoundFrom tree l
+    pub known_from : (l : Located) → IsKnownSearch (answers_of tree job) job visits l → IsFoundFrom tree l
     known_from _ (AtFirst hit m) = first_from hit m
     known_from _ (Included visit hit inside m) = asked_from visit inside hit (included_searched tree job visit hit m)
     known_from _ (Probed visit l inside m) =
@@ -82,7 +82,7 @@ module _ (holds : HoldsOfLocated) (locates : SearchesLocate) (tree : FileTree) (
     known_from _ (ByMacros visit c hit inside finds) =
         searched_from (computed_ask visit c finds.header) hit (λ other e. from_visit holds locates tree whole job visit other e (closure_home visit inside)) finds.found
 
-    known_holds : (l : Located) → Known (answers_of tree job) job visits l → (text : Text) × LocatedHolds tree text l
+    known_holds : (l : Located) → IsKnownSearch (answers_of tree job) job visits l → (text : Text) × LocatedHolds tree text l
     known_holds l known =
         let from : IsFoundFrom tree l = known_from l known in (from.text, holds tree from.dir from.text l whole from.there from.located)
 
@@ -90,7 +90,7 @@ module _ (holds : HoldsOfLocated) (locates : SearchesLocate) (tree : FileTree) (
 
     pub record IsVisitFound (visit : Visit) : Type 0 where
       pub located : Located
-      pub known : Known (answers_of tree job) job visits located
+      pub known : IsKnownSearch (answers_of tree job) job visits located
       pub place : located.place ≡ visit.place
 
     -- the first visits, and those that the closure leads to
@@ -151,7 +151,7 @@ module _ (holds : HoldsOfLocated) (locates : SearchesLocate) (tree : FileTree) (
         let P : Option Entry → Type 0 = IsSome in
         there_above path met (subst P (sym (whole.parent name met there)) refl) above
 
-    known_node_there : (l : Located) → Known (answers_of tree job) job visits l → (met path : Path) → Member met l.walked → IsAtOrAbove path met → IsSome (entry_at tree path)
+    known_node_there : (l : Located) → IsKnownSearch (answers_of tree job) job visits l → (met path : Path) → Member met l.walked → IsAtOrAbove path met → IsSome (entry_at tree path)
     known_node_there l known met path walked above = there_above path met ((known_holds l known).1.nodes met walked) above
 
     -- A TOO LARGE FILE

@@ -17,13 +17,13 @@ use Rattle.job_words.specs.JobOf.{JobData}
 use Rattle.sheet_build.specs.Sheet.{ComputedAsk, SheetData, empty_sheet}
 use Rattle.tree_model.proofs.MemberLemmas.{Member-append, Member-append_left, Member-append_right, Member-map, Member-flat_map, Member-filter_map}
 use Rattle.closure_fixpoint.specs.Closed.{IsMonotone}
-use Rattle.closure_fixpoint.specs.Closure.{Answers, first_definitions, of_name, added, distinct, sets_of, computed_ask, known_name, definitions, sets, IsAsked, MayFind, LeadsTo, ByName, ByTokens, HasLong, HasPresumed}
+use Rattle.closure_fixpoint.specs.Closure.{AnalysisAnswers, first_definitions, of_name, definition_added, distinct, definition_sets, computed_ask, known_name, definitions, sets, IsAsked, MayFind, LeadsTo, ByName, ByTokens, HasLong, HasPresumed}
 use Rattle.closure_fixpoint.proofs.MemberLaws.{GivenBy, filter_map-Member, MappedBy, map-Member, MadeBy, flat_map-Member, Contains-from_Member, Member-from_Contains}
 use Rattle.closure_fixpoint.proofs.DistinctLaws.{distinct_there}
 
 -- DEFINITIONS
 
-in_added : (d e : MacroDefinition) (ds : List MacroDefinition) → Member d (added e ds) → Member d (e ∷ ds)
+in_added : (d e : MacroDefinition) (ds : List MacroDefinition) → Member d (definition_added e ds) → Member d (e ∷ ds)
 in_added d e ds m = go (list_any (is_same_definition e) ds) m
   where
     go : (b : Bool) → Member d (cond b ds (e ∷ ds)) → Member d (e ∷ ds)
@@ -40,24 +40,24 @@ in_distinct d (e ∷ ds) m = go (in_added d e (distinct ds) m) (in_distinct d ds
     go (inr n) rest = inr (rest n)
 
 -- more definitions have larger sets
-pub sets_more : (less more : List Named) → Within less more → AreAmong (sets_of less) (sets_of more)
+pub sets_more : (less more : List Named) → Within less more → AreAmong (definition_sets less) (definition_sets more)
 sets_more less more within name d there =
-    let by : GivenBy (of_name name) less d = filter_map-Member (of_name name) d less (in_distinct d (filter_map (of_name name) less) (Member-from_Contains d (sets_of less name) there)) in
-    Contains-from_Member d (sets_of more name)
+    let by : GivenBy (of_name name) less d = filter_map-Member (of_name name) d less (in_distinct d (filter_map (of_name name) less) (Member-from_Contains d (definition_sets less name) there)) in
+    Contains-from_Member d (definition_sets more name)
     (distinct_there d (filter_map (of_name name) more) (Member-filter_map (of_name name) by.by d more (within by.by by.member) by.gives))
 
 -- WHAT IS KNOWN
 
 -- all that is known in one is known in the other: searches that found, and sheets
-pub record IsLess (less more : Answers) : Type 0 where
+pub record IsLess (less more : AnalysisAnswers) : Type 0 where
   pub finds : (ask : Ask) (hit : Hit) → less.find ask ≡ Some hit → more.find ask ≡ Some hit
   pub sheets : (visit : Visit) → (less.sheet visit ≡ more.sheet visit) ⊎ (less.sheet visit ≡ empty_sheet)
 
-pub less_itself : (answers : Answers) → IsLess answers answers
+pub less_itself : (answers : AnalysisAnswers) → IsLess answers answers
 less_itself answers = record { finds = λ ask hit is. is; sheets = λ visit. inl refl }
 
 -- a member of a sheet's list that is known
-there_more : {X : Type 0} (less more : Answers) → IsLess less more → (f : SheetData → List X) → f empty_sheet ≡ [] → (visit : Visit) (x : X) → Member x (f (less.sheet visit))
+there_more : {X : Type 0} (less more : AnalysisAnswers) → IsLess less more → (f : SheetData → List X) → f empty_sheet ≡ [] → (visit : Visit) (x : X) → Member x (f (less.sheet visit))
     → Member x (f (more.sheet visit)) × (less.sheet visit ≡ more.sheet visit)
 there_more {X = X} less more is_less f none visit x m = go (is_less.sheets visit)
   where
@@ -65,7 +65,7 @@ there_more {X = X} less more is_less f none visit x m = go (is_less.sheets visit
     go (inl same) = (subst (λ (s : SheetData). Member x (f s)) same m, same)
     go (inr empty) = let never : Member x [] = subst (λ (xs : List X). Member x xs) none (subst (λ (s : SheetData). Member x (f s)) empty m) in absurd never
 
-module _ (a b : Answers) (is_less : IsLess a b) (job : JobData) (less more : List Visit) (within : Within less more) where
+module _ (a b : AnalysisAnswers) (is_less : IsLess a b) (job : JobData) (less more : List Visit) (within : Within less more) where
   definitions_more : Within (definitions a job less) (definitions b job more)
   definitions_more x m = go (Member-append x (first_definitions job) (flat_map (λ v. (a.sheet v).defs) less) m)
     where
@@ -120,12 +120,12 @@ module _ (a b : Answers) (is_less : IsLess a b) (job : JobData) (less more : Lis
         (keep (sets a job less) (sets b job more) (known_name (a.sheet s.visit) s.visit) s.c.tokens parts s.holds);
   }
 
-pub leads_monotone : MoreKeepHeaders HeaderName → (answers : Answers) (job : JobData) → IsMonotone (LeadsTo answers job)
+pub leads_monotone : MoreKeepHeaders HeaderName → (answers : AnalysisAnswers) (job : JobData) → IsMonotone (LeadsTo answers job)
 leads_monotone keep answers job less more v t within leads = leads_more answers answers (less_itself answers) job less more within keep v t leads
 
 -- ALL THAT A LIST OF VISITS LEADS TO
 
-module _ (answers : Answers) (job : JobData) where
+module _ (answers : AnalysisAnswers) (job : JobData) where
   headers_of : List Visit → Visit → ComputedAsk → List HeaderName
   headers_of set visit c =
       filter_map (λ (r : Run Expanded). header_of_ending header_named r.ending) (computed_runs (sets answers job set) (known_name (answers.sheet visit) visit) c.tokens)

@@ -20,14 +20,14 @@ use Rattle.tree_model.specs.Paths.{Text}
 use Rattle.search_path.specs.declared.asking.Visit.{Visit}
 use Rattle.job_words.specs.JobOf.{JobData}
 use Rattle.sheet_build.specs.Sheet.{SheetData, ComputedAsk, named_pair}
-use Rattle.closure_fixpoint.specs.Closure.{first_definitions, sets_of, known_name}
+use Rattle.closure_fixpoint.specs.Closure.{first_definitions, definition_sets, known_name}
 use Rattle.closure_fixpoint.specs.Targets.{heard_of, RefusesNames, AreNames, NamesSeen}
 use Rattle.closure_fixpoint.specs.declared.job_analysis.Refusal.{Refusal}
 use Rattle.closure_fixpoint.specs.declared.job_analysis.Refusal.TheVariants.{Budget, Long, Presumed, Visits, Large, Request, NoSource}
 use Rattle.closure_fixpoint.specs.declared.naming.Grown.{Grown}
 use Rattle.closure_fixpoint.specs.declared.naming.Kept.{Kept}
 use Rattle.closure_fixpoint.specs.declared.naming.Naming.{Naming}
-use Rattle.closure_fixpoint.specs.Naming.{HasJust, definitions_in, definitions_to, Grew, target_of, targets_of, NamesUnder, IsKept, NoneSince, Puts, IsAgain, IsAnew, AreKept, HoldsStill, IsRest, IsLeft, rest_of, Follows, IsUpToDate}
+use Rattle.closure_fixpoint.specs.Naming.{HasJust, definitions_in, definitions_to, Grew, asked_target, asked_targets, NamesUnder, IsKept, NoneSince, Puts, IsAgain, IsAnew, AnswersAreKept, HoldsStill, IsRest, IsLeft, headers_to_ask, Follows, IsUpToDate}
 use Rattle.closure_fixpoint.specs.Progress.{IsTold}
 use Rattle.search_path.specs.Search.{Hit}
 use Rattle.search_path.specs.declared.asking.Ask.{Ask}
@@ -112,7 +112,7 @@ kept_grown old new definitions grew target answer k = record {
       (k.same name supports (λ m. other (subst (λ (l : List Text). Member name (drop answer.mark l)) (sym grew.log) (drop_left answer.mark old.log.items grew.more name m))));
 }
 
-pub all_grown : (old new : Grown) (definitions : List Named) → Grew old definitions new → (targets : List (Option Text × List Token)) (answers : List Kept) → AreKept old targets answers → AreKept new targets answers
+pub all_grown : (old new : Grown) (definitions : List Named) → Grew old definitions new → (targets : List (Option Text × List Token)) (answers : List Kept) → AnswersAreKept old targets answers → AnswersAreKept new targets answers
 all_grown old new definitions grew targets answers all number answer is =
     let k = all number answer is in (k.0, k.1, kept_grown old new definitions grew k.0 answer k.2)
 
@@ -141,8 +141,8 @@ kept_again grown target answer k none = record {
 }
 
 -- an answer is put
-pub all_put : (grown : Grown) (targets : List (Option Text × List Token)) (old new : List Kept) (number : ℕ) (target : Option Text × List Token) (answer : Kept) → AreKept grown targets old
-    → slice_get targets number ≡ Some target → IsKept grown.sets grown.log.items target answer → Puts old number answer new → AreKept grown targets new
+pub all_put : (grown : Grown) (targets : List (Option Text × List Token)) (old new : List Kept) (number : ℕ) (target : Option Text × List Token) (answer : Kept) → AnswersAreKept grown targets old
+    → slice_get targets number ≡ Some target → IsKept grown.sets grown.log.items target answer → Puts old number answer new → AnswersAreKept grown targets new
 all_put grown targets old new number target answer all there k puts n a is = go (puts n a is)
   where
     go : ((n ≡ number) × (a ≡ answer)) ⊎ (slice_get old n ≡ Some a) → (t : Option Text × List Token) × (slice_get targets n ≡ Some t) × IsKept grown.sets grown.log.items t a
@@ -152,8 +152,8 @@ all_put grown targets old new number target answer all there k puts n a is = go 
 -- WHAT ANSWERS SAY
 
 same_answers : {H : Type 0} → SupportDecides H → (sets : Sets) (definitions : List Named) (file : Option Text) (tokens : List Token) → IsDistinct sets
-    → ((name : Text) → Supports sets file tokens name → SameMembers (sets name) (sets_of definitions name)) → SameAnswers H sets (sets_of definitions) file tokens
-same_answers decides sets definitions file tokens distinct agree = decides sets (sets_of definitions) file tokens distinct (sets-distinct definitions) agree
+    → ((name : Text) → Supports sets file tokens name → SameMembers (sets name) (definition_sets definitions name)) → SameAnswers H sets (definition_sets definitions) file tokens
+same_answers decides sets definitions file tokens distinct agree = decides sets (definition_sets definitions) file tokens distinct (sets-distinct definitions) agree
 
 refusal_same : {H : Type 0} (budget : ℕ) (sets other : Sets) (file : Option Text) (tokens : List Token) → SameAnswers H sets other file tokens → (refusal : Refusal)
     → RefusesNames budget sets file tokens refusal → RefusesNames budget other file tokens refusal
@@ -179,10 +179,10 @@ accepts budget within sets other file tokens same nothing below Request r = r
 accepts budget within sets other file tokens same nothing below NoSource r = r
 
 are_names : SupportDecides HeaderName → (budget within : ℕ) (sets : Sets) (definitions : List Named) (file : Option Text) (tokens : List Token) (names : Names) → NamesUnder within sets file tokens names
-    → within ≤ budget → ((name : Text) → Supports sets file tokens name → SameMembers (sets name) (sets_of definitions name))
-    → (headers : List HeaderName) → headers ≡ names.headers → AreNames budget (sets_of definitions) file tokens headers
+    → within ≤ budget → ((name : Text) → Supports sets file tokens name → SameMembers (sets name) (definition_sets definitions name))
+    → (headers : List HeaderName) → headers ≡ names.headers → AreNames budget (definition_sets definitions) file tokens headers
 are_names decides budget within sets definitions file tokens names under below agree headers is =
-    let same : SameAnswers HeaderName sets (sets_of definitions) file tokens = same_answers decides sets definitions file tokens under.distinct agree in
+    let same : SameAnswers HeaderName sets (definition_sets definitions) file tokens = same_answers decides sets definitions file tokens under.distinct agree in
     record {
       may = λ header m.
           (same.headers header_named header).0
@@ -190,12 +190,12 @@ are_names decides budget within sets definitions file tokens names under below a
       all = λ header may.
           subst (λ (hs : List HeaderName). Member header hs) (sym is)
           (Member-from_Contains header names.headers ((under.exactly.named header).1 ((same.headers header_named header).1 may)));
-      accepted = accepts budget within sets (sets_of definitions) file tokens same under.accepted below;
+      accepted = accepts budget within sets (definition_sets definitions) file tokens same under.accepted below;
     }
 
 -- the names of an answer that holds still
 pub again_seen : SupportDecides HeaderName → (job : JobData) (budget : ℕ) (sheets : List (Visit × SheetData)) (visit : Visit) (sheet : SheetData) (c : ComputedAsk) (sets : Defined) (log : List Text) (answer : Kept)
-    → HasJust sets (first_definitions job ++ definitions_in sheets) → IsKept sets log (target_of visit sheet c) answer → NoneSince log answer → answer.budget ≤ budget
+    → HasJust sets (first_definitions job ++ definitions_in sheets) → IsKept sets log (asked_target visit sheet c) answer → NoneSince log answer → answer.budget ≤ budget
     → (headers : Vec HeaderName Global) → headers.items ≡ answer.names.headers → NamesSeen job budget sheets visit sheet c (Ok headers)
 again_seen decides job budget sheets visit sheet c sets log answer just k none below headers is =
     are_names decides budget answer.budget k.was (first_definitions job ++ definitions_in sheets) (known_name sheet visit) c.tokens answer.names k.names below
@@ -206,23 +206,23 @@ again_seen decides job budget sheets visit sheet c sets log answer just k none b
 
 -- the names of an expansion
 pub anew_seen : SupportDecides HeaderName → (job : JobData) (budget : ℕ) (sheets : List (Visit × SheetData)) (visit : Visit) (sheet : SheetData) (c : ComputedAsk) (grown : Grown) (old new : List Kept) (number : ℕ)
-    → HasJust grown.sets (first_definitions job ++ definitions_in sheets) → (names : Result (Vec HeaderName Global) Refusal) → IsAnew budget grown (target_of visit sheet c) old number names new
+    → HasJust grown.sets (first_definitions job ++ definitions_in sheets) → (names : Result (Vec HeaderName Global) Refusal) → IsAnew budget grown (asked_target visit sheet c) old number names new
     → NamesSeen job budget sheets visit sheet c names
 anew_seen decides job budget sheets visit sheet c grown old new number just (Ok headers) found =
     are_names decides budget budget (kept.sets_of grown.sets) (first_definitions job ++ definitions_in sheets) (known_name sheet visit) c.tokens found.names found.under (omega arith)
     (λ name supports d. just name d) headers.items found.same
 anew_seen decides job budget sheets visit sheet c grown old new number just (Err refusal) (distinct, refuses, same) =
-    refusal_same {H = HeaderName} budget (kept.sets_of grown.sets) (sets_of (first_definitions job ++ definitions_in sheets)) (known_name sheet visit) c.tokens
+    refusal_same {H = HeaderName} budget (kept.sets_of grown.sets) (definition_sets (first_definitions job ++ definitions_in sheets)) (known_name sheet visit) c.tokens
     (same_answers decides (kept.sets_of grown.sets) (first_definitions job ++ definitions_in sheets) (known_name sheet visit) c.tokens distinct (λ name supports d. just name d)) refusal refuses
 
-pub anew_kept : (budget : ℕ) (grown : Grown) (targets : List (Option Text × List Token)) (target : Option Text × List Token) (old new : List Kept) (number : ℕ) → AreKept grown targets old
-    → slice_get targets number ≡ Some target → (names : Result (Vec HeaderName Global) Refusal) → IsAnew budget grown target old number names new → AreKept grown targets new
+pub anew_kept : (budget : ℕ) (grown : Grown) (targets : List (Option Text × List Token)) (target : Option Text × List Token) (old new : List Kept) (number : ℕ) → AnswersAreKept grown targets old
+    → slice_get targets number ≡ Some target → (names : Result (Vec HeaderName Global) Refusal) → IsAnew budget grown target old number names new → AnswersAreKept grown targets new
 anew_kept budget grown targets target old new number all there (Ok headers) found =
     all_put grown targets old new number target (record { names = found.names; budget = budget; mark = length grown.log.items }) all there (kept_now grown target budget found.names found.under) found.puts
-anew_kept budget grown targets target old new number all there (Err refusal) (distinct, refuses, same) = subst (AreKept grown targets) (sym same) all
+anew_kept budget grown targets target old new number all there (Err refusal) (distinct, refuses, same) = subst (AnswersAreKept grown targets) (sym same) all
 
-pub again_kept : (grown : Grown) (targets : List (Option Text × List Token)) (target : Option Text × List Token) (old new : List Kept) (number : ℕ) (headers : List HeaderName) → AreKept grown targets old
-    → slice_get targets number ≡ Some target → (again : IsAgain old number (length grown.log.items) headers new) → NoneSince grown.log.items again.answer → AreKept grown targets new
+pub again_kept : (grown : Grown) (targets : List (Option Text × List Token)) (target : Option Text × List Token) (old new : List Kept) (number : ℕ) (headers : List HeaderName) → AnswersAreKept grown targets old
+    → slice_get targets number ≡ Some target → (again : IsAgain old number (length grown.log.items) headers new) → NoneSince grown.log.items again.answer → AnswersAreKept grown targets new
 again_kept grown targets target old new number headers all there again none =
     let k = all number again.answer again.was in
     let same : target ≡ k.0 = cc in
@@ -255,7 +255,7 @@ follows_next old new job sheets told below is follows begun grew one begun_now s
   sets = λ yes_begun.
       subst (λ (n : ℕ). HasJust new.grown.sets (definitions_to job n sheets)) (sym one)
       (subst (HasJust new.grown.sets) (sym (definitions_next job old.told sheets told below is)) (grew.sets (definitions_to job old.told sheets) (follows.sets begun)));
-  kept = subst (AreKept new.grown (targets_of sheets)) (sym same) (all_grown old.grown new.grown told.1.defs grew (targets_of sheets) old.kept.items follows.kept);
+  kept = subst (AnswersAreKept new.grown (asked_targets sheets)) (sym same) (all_grown old.grown new.grown told.1.defs grew (asked_targets sheets) old.kept.items follows.kept);
   left = λ rest left. follows.left rest (sym rest_same ∙ left);
 }
 
@@ -276,7 +276,7 @@ follows_first old new job unread just told begun same rest_same sheets follows =
   sets = λ yes_begun.
       subst (λ (n : ℕ). HasJust new.grown.sets (definitions_to job n sheets)) (sym (told ∙ (follows.unread unread).0))
       (subst (HasJust new.grown.sets) (sym (append-nil (first_definitions job))) just);
-  kept = subst (AreKept new.grown (targets_of sheets)) (sym (same ∙ (follows.unread unread).1)) (λ number answer is. absurd (cc));
+  kept = subst (AnswersAreKept new.grown (asked_targets sheets)) (sym (same ∙ (follows.unread unread).1)) (λ number answer is. absurd (cc));
   left = λ rest left. follows.left rest (sym rest_same ∙ left);
 }
 
@@ -285,25 +285,25 @@ follows_nothing naming unread told none no_rest job = record {
   few = omega (arith, told);
   unread = λ is. (told, none);
   sets = λ never. absurd (cc);
-  kept = subst (AreKept naming.grown []) (sym none) (λ number answer is. absurd (cc));
+  kept = subst (AnswersAreKept naming.grown []) (sym none) (λ number answer is. absurd (cc));
   left = λ rest left. absurd (cc);
 }
 
 -- ONE QUESTION
 
 pub seen_again : SupportDecides HeaderName → (job : JobData) (budget : ℕ) (sheets : List (Visit × SheetData)) (visit : Visit) (sheet : SheetData) (c : ComputedAsk) (naming : Naming) (number mark : ℕ) (new : List Kept)
-    → IsUpToDate naming job sheets → slice_get (targets_of sheets) number ≡ Some (target_of visit sheet c) → HoldsStill naming budget number
+    → IsUpToDate naming job sheets → slice_get (asked_targets sheets) number ≡ Some (asked_target visit sheet c) → HoldsStill naming budget number
     → (headers : Vec HeaderName Global) → IsAgain naming.kept.items number mark headers.items new → NamesSeen job budget sheets visit sheet c (Ok headers)
 seen_again decides job budget sheets visit sheet c naming number mark new now there still headers again =
     let k = now.follows.kept number still.answer still.is in
-    let target : k.0 ≡ target_of visit sheet c = cc in
+    let target : k.0 ≡ asked_target visit sheet c = cc in
     let answer : again.answer ≡ still.answer = cc in
     again_seen decides job budget sheets visit sheet c naming.grown.sets naming.grown.log.items still.answer now.all
     (subst (λ (t : Option Text × List Token). IsKept naming.grown.sets naming.grown.log.items t still.answer) target k.2) still.untouched still.within headers
     (again.same ∙ ap (λ (a : Kept). a.names.headers) answer)
 
 -- where no answers or others are kept
-follows_kept : (naming : Naming) (job : JobData) (sheets : List (Visit × SheetData)) (new : Vec Kept Global) → IsUpToDate naming job sheets → AreKept naming.grown (targets_of sheets) new.items
+follows_kept : (naming : Naming) (job : JobData) (sheets : List (Visit × SheetData)) (new : Vec Kept Global) → IsUpToDate naming job sheets → AnswersAreKept naming.grown (asked_targets sheets) new.items
     → Follows (record { begun = naming.begun; told = naming.told; grown = naming.grown; kept = new; rest = naming.rest }) job sheets
 follows_kept naming job sheets new now kept_new = record {
   few = now.follows.few;
@@ -314,23 +314,23 @@ follows_kept naming job sheets new now kept_new = record {
 }
 
 pub follows_again : (budget : ℕ) (job : JobData) (sheets : List (Visit × SheetData)) (visit : Visit) (sheet : SheetData) (c : ComputedAsk) (naming : Naming) (number mark : ℕ) (new : Vec Kept Global) → IsUpToDate naming job sheets
-    → slice_get (targets_of sheets) number ≡ Some (target_of visit sheet c) → (still : HoldsStill naming budget number) → mark ≡ length naming.grown.log.items
+    → slice_get (asked_targets sheets) number ≡ Some (asked_target visit sheet c) → (still : HoldsStill naming budget number) → mark ≡ length naming.grown.log.items
     → (headers : List HeaderName) → IsAgain naming.kept.items number mark headers new.items → Follows (record { begun = naming.begun; told = naming.told; grown = naming.grown; kept = new; rest = naming.rest }) job sheets
 follows_again budget job sheets visit sheet c naming number mark new now there still is headers again =
     let same : IsAgain naming.kept.items number (length naming.grown.log.items) headers new.items = subst (λ (m : ℕ). IsAgain naming.kept.items number m headers new.items) is again in
     let answer : same.answer ≡ still.answer = one_answer same.was still.is in
     follows_kept naming job sheets new now
-    (again_kept naming.grown (targets_of sheets) (target_of visit sheet c) naming.kept.items new.items number headers now.follows.kept there same
+    (again_kept naming.grown (asked_targets sheets) (asked_target visit sheet c) naming.kept.items new.items number headers now.follows.kept there same
     (subst (NoneSince naming.grown.log.items) (sym answer) still.untouched))
   where
     one_answer : {a b : Kept} → slice_get naming.kept.items number ≡ Some a → slice_get naming.kept.items number ≡ Some b → a ≡ b
     one_answer p q = cc
 
 pub follows_anew : (budget : ℕ) (job : JobData) (sheets : List (Visit × SheetData)) (target : Option Text × List Token) (naming : Naming) (number : ℕ) (new : Vec Kept Global) → IsUpToDate naming job sheets
-    → slice_get (targets_of sheets) number ≡ Some target → (names : Result (Vec HeaderName Global) Refusal) → IsAnew budget naming.grown target naming.kept.items number names new.items
+    → slice_get (asked_targets sheets) number ≡ Some target → (names : Result (Vec HeaderName Global) Refusal) → IsAnew budget naming.grown target naming.kept.items number names new.items
     → Follows (record { begun = naming.begun; told = naming.told; grown = naming.grown; kept = new; rest = naming.rest }) job sheets
 follows_anew budget job sheets target naming number new now there names is =
-    follows_kept naming job sheets new now (anew_kept budget naming.grown (targets_of sheets) target naming.kept.items new.items number now.follows.kept there names is)
+    follows_kept naming job sheets new now (anew_kept budget naming.grown (asked_targets sheets) target naming.kept.items new.items number now.follows.kept there names is)
 
 -- THE REST OF A TARGET
 
@@ -365,10 +365,10 @@ follows_on naming job sheets rest next follows is =
 -- with all headers of a target
 pub follows_aside : (naming : Naming) (job : JobData) (budget : ℕ) (searches : List (Ask × Option Hit)) (sheets : List (Visit × SheetData)) (visit : Visit) (sheet : SheetData) (c : ComputedAsk) (headers : Vec HeaderName Global)
     → Follows naming job sheets → IsTold (heard_of searches sheets) visit sheet c → NamesSeen job budget sheets visit sheet c (Ok headers)
-    → Follows (record naming { rest = Some (rest_of (length sheets) visit c headers) }) job sheets
+    → Follows (record naming { rest = Some (headers_to_ask (length sheets) visit c headers) }) job sheets
 follows_aside naming job budget searches sheets visit sheet c headers follows told names =
-    follows_with naming job sheets (rest_of (length sheets) visit c headers) follows (
+    follows_with naming job sheets (headers_to_ask (length sheets) visit c headers) follows (
       omega arith,
-      subst (λ (l : List (Visit × SheetData)). IsRest job l (rest_of (length sheets) visit c headers)) (sym (take_all (length sheets) sheets (omega arith)))
+      subst (λ (l : List (Visit × SheetData)). IsRest job l (headers_to_ask (length sheets) visit c headers)) (sym (take_all (length sheets) sheets (omega arith)))
           (record { sheet = sheet; c = c; is_told = record { told = told.told; stands = told.stands }; form_is = refl; include_is = refl; may = names.may }),
     )

@@ -9,14 +9,14 @@ use Rattle.tree_model.specs.Trees.{FileTree}
 use Rattle.tree_model.specs.declared.walk.Located.{Located}
 use Rattle.search_path.specs.declared.asking.Visit.{Visit}
 use Rattle.job_words.specs.JobOf.{JobData}
-use Rattle.closure_fixpoint.specs.Closure.{Answers, answers_of, IsClosureOf, Known, AtFirst, Included, Probed, ByMacros}
+use Rattle.closure_fixpoint.specs.Closure.{AnalysisAnswers, answers_of, IsClosureOf, IsKnownSearch, AtFirst, Included, Probed, ByMacros}
 use Rattle.closure_fixpoint.specs.Analysis.{IsNodeOf}
-use Rattle.closure_fixpoint.specs.Progress.{Heard, IsTrueOf, located_told, DoneMeans}
+use Rattle.closure_fixpoint.specs.Progress.{Heard, HeardIsTrueOf, located_told, DoneMeans}
 use Rattle.closure_fixpoint.specs.Told.{AreNodesOf}
 use Rattle.closure_fixpoint.proofs.LeadsLaws.{less_itself, may_find_more}
 
 -- what is known of some visits is known of more
-pub known_more : MoreKeepHeaders HeaderName → (answers : Answers) (job : JobData) (less more : List Visit) → Within less more → (l : Located) → Known answers job less l → Known answers job more l
+pub known_more : MoreKeepHeaders HeaderName → (answers : AnalysisAnswers) (job : JobData) (less more : List Visit) → Within less more → (l : Located) → IsKnownSearch answers job less l → IsKnownSearch answers job more l
 known_more keep answers job less more within _ (AtFirst hit m) = AtFirst hit m
 known_more keep answers job less more within _ (Included visit hit inside m) = Included visit hit (within visit inside) m
 known_more keep answers job less more within _ (Probed visit l inside m) = Probed visit l (within visit inside) m
@@ -25,7 +25,7 @@ known_more keep answers job less more within _ (ByMacros visit c hit inside f) =
 
 -- where an analysis over a tree is done, the nodes of the located files that it was told are the nodes of the job
 pub nodes_of_done : MoreKeepHeaders HeaderName → (tree : FileTree) (is_large : Visit → Bool) (job : JobData) (budget : ℕ) (heard : Heard) (visits : List Visit) (nodes : List Path)
-    → IsTrueOf (answers_of tree job) is_large heard → DoneMeans job budget heard visits → AreNodesOf (located_told heard) nodes
+    → HeardIsTrueOf (answers_of tree job) is_large heard → DoneMeans job budget heard visits → AreNodesOf (located_told heard) nodes
     → (path : Path) → Member path nodes ↔ IsNodeOf tree job path
 nodes_of_done keep tree is_large job budget heard visits nodes true_of done are path = (to_node, from_node)
   where

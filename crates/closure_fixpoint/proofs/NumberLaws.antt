@@ -9,7 +9,7 @@ use Rattle.pp_tokens.specs.declared.Token.{Token}
 use Rattle.tree_model.specs.Paths.{Text}
 use Rattle.search_path.specs.declared.asking.Visit.{Visit}
 use Rattle.sheet_build.specs.Sheet.{SheetData, ComputedAsk}
-use Rattle.closure_fixpoint.specs.Naming.{target_of, targets_in, targets_of, HasTargetsAt}
+use Rattle.closure_fixpoint.specs.Naming.{asked_target, targets_in, asked_targets, HasTargetsAt}
 use Rattle.closure_fixpoint.proofs.NamesLaws.{there_behind}
 
 zero_add : (n : ℕ) → 0 + n ≡ n
@@ -22,30 +22,30 @@ past_first (x ∷ xs) ys n =
     ap (slice_get (x ∷ (xs ++ ys))) next ∙ past_first xs ys n
 
 at_number : (sheets : List (Visit × SheetData)) (i k : ℕ) (told : Visit × SheetData) (t : Option Text × List Token) → slice_get sheets i ≡ Some told → slice_get (targets_in told) k ≡ Some t
-    → slice_get (targets_of sheets) (length (targets_of (take i sheets)) + k) ≡ Some t
+    → slice_get (asked_targets sheets) (length (asked_targets (take i sheets)) + k) ≡ Some t
 at_number [] i k told t is there = absurd (cc)
 at_number (x ∷ sheets) zero k told t is there =
     let same : x ≡ told = cc in
-    ap (slice_get (targets_in x ++ targets_of sheets)) (zero_add k) ∙ there_behind (targets_in x) (targets_of sheets) k t (subst (λ (y : Visit × SheetData). slice_get (targets_in y) k ≡ Some t) (sym same) there)
+    ap (slice_get (targets_in x ++ asked_targets sheets)) (zero_add k) ∙ there_behind (targets_in x) (asked_targets sheets) k t (subst (λ (y : Visit × SheetData). slice_get (targets_in y) k ≡ Some t) (sym same) there)
 at_number (x ∷ sheets) (suc i) k told t is there =
-    let place : length (targets_in x ++ targets_of (take i sheets)) + k ≡ length (targets_in x) + (length (targets_of (take i sheets)) + k) = omega (arith, length-append (targets_in x) (targets_of (take i sheets))) in
-    ap (slice_get (targets_in x ++ targets_of sheets)) place ∙ past_first (targets_in x) (targets_of sheets) (length (targets_of (take i sheets)) + k) ∙ at_number sheets i k told t is there
+    let place : length (targets_in x ++ asked_targets (take i sheets)) + k ≡ length (targets_in x) + (length (asked_targets (take i sheets)) + k) = omega (arith, length-append (targets_in x) (asked_targets (take i sheets))) in
+    ap (slice_get (targets_in x ++ asked_targets sheets)) place ∙ past_first (targets_in x) (asked_targets sheets) (length (asked_targets (take i sheets)) + k) ∙ at_number sheets i k told t is there
 
 pub numbers_at : (sheets : List (Visit × SheetData)) (i number : ℕ) (told : Visit × SheetData) (targets : List ComputedAsk) → i < length sheets → told ≡ get_or sheets i told → targets ≡ told.1.computed
-    → number ≡ length (targets_of (take i sheets)) → HasTargetsAt sheets number told.0 told.1 targets
+    → number ≡ length (asked_targets (take i sheets)) → HasTargetsAt sheets number told.0 told.1 targets
 numbers_at sheets i number told targets below is all counted k c there =
-    let stands : slice_get (targets_in told) k ≡ Some (target_of told.0 told.1 c) =
-    slice_get-map (target_of told.0 told.1) told.1.computed k
-    ∙ ap (option_map (target_of told.0 told.1)) (ap (λ (cs : List ComputedAsk). slice_get cs k) (sym all) ∙ there) in
-    ap (λ (n : ℕ). slice_get (targets_of sheets) (n + k)) counted ∙ at_number sheets i k told (target_of told.0 told.1 c) (slice_get_read sheets (length sheets) i told refl below is) stands
+    let stands : slice_get (targets_in told) k ≡ Some (asked_target told.0 told.1 c) =
+    slice_get-map (asked_target told.0 told.1) told.1.computed k
+    ∙ ap (option_map (asked_target told.0 told.1)) (ap (λ (cs : List ComputedAsk). slice_get cs k) (sym all) ∙ there) in
+    ap (λ (n : ℕ). slice_get (asked_targets sheets) (n + k)) counted ∙ at_number sheets i k told (asked_target told.0 told.1 c) (slice_get_read sheets (length sheets) i told refl below is) stands
 
 pub counted_next : (sheets : List (Visit × SheetData)) (i number next : ℕ) (told : Visit × SheetData) (targets : List ComputedAsk) → i < length sheets → told ≡ get_or sheets i told → targets ≡ told.1.computed
-    → number ≡ length (targets_of (take i sheets)) → next ≡ number + length targets → next ≡ length (targets_of (take (i + 1) sheets))
+    → number ≡ length (asked_targets (take i sheets)) → next ≡ number + length targets → next ≡ length (asked_targets (take (i + 1) sheets))
 counted_next sheets i number next told targets below is all counted more =
-    let parts : targets_of (take (i + 1) sheets) ≡ targets_of (take i sheets) ++ targets_of (told ∷ []) =
-    ap targets_of (take_more sheets i told below ∙ ap (λ (t : Visit × SheetData). take i sheets ++ t ∷ []) (sym is)) ∙ flat_map-append targets_in (take i sheets) (told ∷ []) in
-    let one : length (targets_of (told ∷ [])) ≡ length told.1.computed = length-append (targets_in told) [] ∙ size (length-map told.1.computed (target_of told.0 told.1)) in
-    let whole : length (targets_of (take (i + 1) sheets)) ≡ length (targets_of (take i sheets)) + length (targets_of (told ∷ [])) = ap length parts ∙ length-append (targets_of (take i sheets)) (targets_of (told ∷ [])) in
+    let parts : asked_targets (take (i + 1) sheets) ≡ asked_targets (take i sheets) ++ asked_targets (told ∷ []) =
+    ap asked_targets (take_more sheets i told below ∙ ap (λ (t : Visit × SheetData). take i sheets ++ t ∷ []) (sym is)) ∙ flat_map-append targets_in (take i sheets) (told ∷ []) in
+    let one : length (asked_targets (told ∷ [])) ≡ length told.1.computed = length-append (targets_in told) [] ∙ size (length-map told.1.computed (asked_target told.0 told.1)) in
+    let whole : length (asked_targets (take (i + 1) sheets)) ≡ length (asked_targets (take i sheets)) + length (asked_targets (told ∷ [])) = ap length parts ∙ length-append (asked_targets (take i sheets)) (asked_targets (told ∷ [])) in
     let same : length targets ≡ length told.1.computed = ap length all in
     omega (arith, one, whole, same, counted, more)
   where

@@ -19,7 +19,7 @@ use Rattle.base_types.specs.Members.{Member}
 use Rattle.tree_model.specs.Paths.{Text, Path, spelled, IsCanonical}
 use Rattle.tree_model.specs.Laws.{SpellingsAreApart}
 use Rattle.tree_model.proofs.MemberLemmas.{Member-append, Member-append_left, Member-append_right}
-use Rattle.closure_fixpoint.specs.Gathering.{comes_before, are_rising, is_repeated, kept, each_once}
+use Rattle.closure_fixpoint.specs.Gathering.{comes_before, are_rising, is_repeated, unless_repeated, paths_once}
 
 -- MEMBERS
 
@@ -85,20 +85,20 @@ up-sorted xs sorted = up-from xs (sorted_far comes_before in_order xs sorted)
 
 -- EACH ONCE
 
-kept-member : (x path : Path) (behind : List Path) → Member x (kept path behind) → x ≡ path
-kept-member x path behind m = by_test (is_repeated path behind) m
+unless_repeated-member : (x path : Path) (behind : List Path) → Member x (unless_repeated path behind) → x ≡ path
+unless_repeated-member x path behind m = by_test (is_repeated path behind) m
   where
     by_test : (b : Bool) → Member x (cond b [] (path ∷ [])) → x ≡ path
     by_test true m = elim m [ ]
     by_test false (inl e) = sym e
     by_test false (inr m) = elim m [ ]
 
-pub once-of : (x : Path) (xs : List Path) → Member x (each_once xs) → Member x xs
+pub once-of : (x : Path) (xs : List Path) → Member x (paths_once xs) → Member x xs
 once-of x [] m = m
-once-of x (y ∷ xs) m = by_part (Member-append x (kept y xs) (each_once xs) m) (once-of x xs)
+once-of x (y ∷ xs) m = by_part (Member-append x (unless_repeated y xs) (paths_once xs) m) (once-of x xs)
   where
-    by_part : Member x (kept y xs) ⊎ Member x (each_once xs) → (Member x (each_once xs) → Member x xs) → Member x (y ∷ xs)
-    by_part (inl k) rest = inl (sym (kept-member x y xs k))
+    by_part : Member x (unless_repeated y xs) ⊎ Member x (paths_once xs) → (Member x (paths_once xs) → Member x xs) → Member x (y ∷ xs)
+    by_part (inl k) rest = inl (sym (unless_repeated-member x y xs k))
     by_part (inr k) rest = inr (rest k)
 
 module _ (apart : SpellingsAreApart) where
@@ -111,14 +111,14 @@ module _ (apart : SpellingsAreApart) where
       not_before true e = cc
       not_before false e = refl
 
-  pub of-once : (xs : List Path) → IsUp xs → ((x : Path) → Member x xs → IsCanonical x) → (x : Path) → Member x xs → Member x (each_once xs)
+  pub of-once : (xs : List Path) → IsUp xs → ((x : Path) → Member x xs → IsCanonical x) → (x : Path) → Member x xs → Member x (paths_once xs)
   of-once [] up each x m = m
   of-once (y ∷ xs) up each x m = by_part m (is_repeated y xs) refl (of-once xs up.1 (λ w n. each w (inr n)))
     where
-      by_part : Member x (y ∷ xs) → (b : Bool) → is_repeated y xs ≡ b → ((w : Path) → Member w xs → Member w (each_once xs)) → Member x (kept y xs ++ each_once xs)
-      by_part (inr n) b e rest = Member-append_right x (kept y xs) (each_once xs) (rest x n)
-      by_part (inl same) true e rest = Member-append_right x (kept y xs) (each_once xs) (rest x (subst (λ (w : Path). Member w xs) same (repeated-next y xs up each e)))
-      by_part (inl same) false e rest = Member-append_left x (kept y xs) (each_once xs) (subst (λ (b : Bool). Member x (cond b [] (y ∷ []))) (sym e) (inl same))
+      by_part : Member x (y ∷ xs) → (b : Bool) → is_repeated y xs ≡ b → ((w : Path) → Member w xs → Member w (paths_once xs)) → Member x (unless_repeated y xs ++ paths_once xs)
+      by_part (inr n) b e rest = Member-append_right x (unless_repeated y xs) (paths_once xs) (rest x n)
+      by_part (inl same) true e rest = Member-append_right x (unless_repeated y xs) (paths_once xs) (rest x (subst (λ (w : Path). Member w xs) same (repeated-next y xs up each e)))
+      by_part (inl same) false e rest = Member-append_left x (unless_repeated y xs) (paths_once xs) (subst (λ (b : Bool). Member x (cond b [] (y ∷ []))) (sym e) (inl same))
 
 all-before : (y : Path) (xs : List Path) → ((x : Path) → Member x xs → comes_before y x ≡ true) → list_all (λ other. comes_before y other) xs ≡ true
 all-before y [] each = refl
@@ -149,7 +149,7 @@ before-all y (z ∷ xs) up e x m = by_test (comes_before y x) refl
     by_test true t = t
     by_test false t = let never : comes_before y z ≡ false = in_order.chain y x z t (not_below m) in let is : comes_before y z ≡ true = was_before (comes_before y z) e in absurd (cc)
 
-pub once-rises : (xs : List Path) → IsUp xs → IsTrue (are_rising (each_once xs))
+pub once-rises : (xs : List Path) → IsUp xs → IsTrue (are_rising (paths_once xs))
 once-rises [] up = refl
 once-rises (y ∷ xs) up = by_test (is_repeated y xs) refl (once-rises xs up.1)
   where
@@ -157,11 +157,11 @@ once-rises (y ∷ xs) up = by_test (is_repeated y xs) refl (once-rises xs up.1)
     both true b ea eb = eb
     both false b ea eb = cc
 
-    by_test : (b : Bool) → is_repeated y xs ≡ b → are_rising (each_once xs) ≡ true → are_rising (cond (is_repeated y xs) [] (y ∷ []) ++ each_once xs) ≡ true
-    by_test true e rest = subst (λ (b : Bool). are_rising (cond b [] (y ∷ []) ++ each_once xs) ≡ true) (sym e) rest
+    by_test : (b : Bool) → is_repeated y xs ≡ b → are_rising (paths_once xs) ≡ true → are_rising (cond (is_repeated y xs) [] (y ∷ []) ++ paths_once xs) ≡ true
+    by_test true e rest = subst (λ (b : Bool). are_rising (cond b [] (y ∷ []) ++ paths_once xs) ≡ true) (sym e) rest
     by_test false e rest =
-        subst (λ (b : Bool). are_rising (cond b [] (y ∷ []) ++ each_once xs) ≡ true) (sym e)
-        (both (list_all (λ other. comes_before y other) (each_once xs)) (are_rising (each_once xs)) (all-before y (each_once xs) (λ x m. before-all y xs up e x (once-of x xs m))) rest)
+        subst (λ (b : Bool). are_rising (cond b [] (y ∷ []) ++ paths_once xs) ≡ true) (sym e)
+        (both (list_all (λ other. comes_before y other) (paths_once xs)) (are_rising (paths_once xs)) (all-before y (paths_once xs) (λ x m. before-all y xs up e x (once-of x xs m))) rest)
 
 -- A SORT
 
@@ -171,9 +171,9 @@ pub up-from_sort : {F : Type 0} {g : Mut F (Bor Path × (Bor Path × Unit {0})) 
 up-from_sort {g = g} {f = f} xs up h =
     up-sorted xs (up comes_before in_order (always_returns_same g (λ a r. is_lt r ≡ comes_before a.0.now a.1.0.now) f (λ a r f' k. (ap is_lt (h a r f' k).0, (h a r f' k).1))))
 
-module _ (nodes xs ys list : List Path) (same : ys ≡ xs) (up : IsUp xs) (once : list ≡ each_once ys) where
-  list-is : list ≡ each_once xs
-  list-is = once ∙ ap each_once same
+module _ (nodes xs ys list : List Path) (same : ys ≡ xs) (up : IsUp xs) (once : list ≡ paths_once ys) where
+  list-is : list ≡ paths_once xs
+  list-is = once ∙ ap paths_once same
 
   pub sorted-rises : IsTrue (are_rising list)
   sorted-rises = subst (λ (l : List Path). IsTrue (are_rising l)) (sym list-is) (once-rises xs up)

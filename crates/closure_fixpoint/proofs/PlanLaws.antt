@@ -17,7 +17,7 @@ use Rattle.closure_fixpoint.specs.declared.wanting.Want.{Want}
 use Rattle.closure_fixpoint.specs.declared.wanting.Want.TheVariants as want
 use Rattle.closure_fixpoint.specs.Closure.{first_asks, known_name}
 use Rattle.closure_fixpoint.specs.Asked.{HasNoAnswer}
-use Rattle.closure_fixpoint.specs.Progress.{Heard, Keeps, IsTold, sets_told, AtFirst, ByFirst, IsMade, WasSearched, IsEnough, IsAccepted}
+use Rattle.closure_fixpoint.specs.Progress.{Heard, FoundKeeps, IsTold, sets_told, AtFirst, ByFirst, SearchIsMade, WasSearched, IsEnough, IsAccepted}
 use Rattle.closure_fixpoint.specs.parts.Wanting.{WantsOfAsk, WantsOfEach}
 use Rattle.closure_fixpoint.specs.Targets.{RefusesNames, WantsOr, IsNextWant, IsRefusedTarget, DoneWithSheets}
 use Rattle.closure_fixpoint.specs.Told.{RefusalMeans}
@@ -45,7 +45,7 @@ wants_first job heard found (Some v) w (ask, m, wants) is =
     let same : v ≡ w = cc in subst (λ (x : Want). IsNextWant job heard found x) same (first_want job heard found ask v m wants)
 
 pub source_made : (job : JobData) (heard : Heard) (found : List Visit) (o : Option Want) → WantsOfEach heard.searches found (first_asks job) o → o ≡ None → WasSearched heard (source_ask job.source)
-source_made job heard found None all is = let made : IsMade heard.searches found (source_ask job.source) true = all (source_ask job.source) (inl refl) in (made.got, made.told)
+source_made job heard found None all is = let made : SearchIsMade heard.searches found (source_ask job.source) true = all (source_ask job.source) (inl refl) in (made.got, made.told)
 source_made job heard found (Some w) wants is = absurd (cc)
 
 first_made : (job : JobData) (heard : Heard) (found : List Visit) (o : Option Want) → WantsOfEach heard.searches found (first_asks job) o → o ≡ None → WantsOfEach heard.searches found (first_asks job) None
@@ -92,7 +92,7 @@ all_done job budget heard found o ready small few all wants none there done = (
 )
 
 module _ (keep : MoreKeepHeaders HeaderName) (long : MoreKeepLongRuns) (presumed : MoreKeepPresumedRuns) (many : MoreKeepManyRuns) (job : JobData) (budget : ℕ) (heard : Heard) (found : List Visit) where
-  refused_by : Keeps job heard found → (refusal : Refusal) (visit : Visit) (sheet : SheetData) (c : ComputedAsk) → IsTold heard visit sheet c
+  refused_by : FoundKeeps job heard found → (refusal : Refusal) (visit : Visit) (sheet : SheetData) (c : ComputedAsk) → IsTold heard visit sheet c
       → RefusesNames budget (sets_told job heard) (known_name sheet visit) c.tokens refusal → RefusalMeans job budget heard refusal
   refused_by keeps Budget visit sheet c told holds = budget_refused keep long presumed many job budget heard found keeps visit sheet c told holds
   refused_by keeps Long visit sheet c told holds = long_refused keep long presumed many job budget heard found keeps visit sheet c told holds
@@ -102,5 +102,5 @@ module _ (keep : MoreKeepHeaders HeaderName) (long : MoreKeepLongRuns) (presumed
   refused_by keeps Request visit sheet c told holds = absurd holds
   refused_by keeps NoSource visit sheet c told holds = absurd holds
 
-  pub target_refused : Keeps job heard found → (refusal : Refusal) → IsRefusedTarget job budget heard refusal → RefusalMeans job budget heard refusal
+  pub target_refused : FoundKeeps job heard found → (refusal : Refusal) → IsRefusedTarget job budget heard refusal → RefusalMeans job budget heard refusal
   target_refused keeps refusal t = refused_by keeps refusal t.visit t.sheet t.c t.is_told t.holds

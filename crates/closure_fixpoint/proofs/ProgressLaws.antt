@@ -17,18 +17,18 @@ use Rattle.search_path.specs.declared.asking.Ask.{Ask}
 use Rattle.job_words.specs.JobOf.{JobData}
 use Rattle.search_path.specs.Asks.{source_ask}
 use Rattle.sheet_build.specs.Sheet.{SheetData, ComputedAsk}
-use Rattle.closure_fixpoint.specs.Closure.{Answers, first_definitions, of_name, added, distinct, sets_of, computed_ask, known_name, definitions, sets, IsAsked, LeadsTo, ByName, ByTokens, first_asks, first_hits, first_visits, IsClosedFor, Known, AtFirst as KnownAtFirst, Included, Probed, ByMacros, IsMet}
+use Rattle.closure_fixpoint.specs.Closure.{AnalysisAnswers, first_definitions, of_name, definition_added, distinct, definition_sets, computed_ask, known_name, definitions, sets, IsAsked, LeadsTo, ByName, ByTokens, first_asks, first_hits, first_visits, IsClosedFor, IsKnownSearch, AtFirst as KnownAtFirst, Included, Probed, ByMacros, IsMet}
 use Rattle.closure_fixpoint.specs.declared.job_analysis.Refusal.{Refusal}
 use Rattle.closure_fixpoint.specs.declared.job_analysis.Refusal.TheVariants.{Budget, Long, Presumed, Visits, Large, Request, NoSource}
-use Rattle.closure_fixpoint.specs.Progress.{Heard, IsTrueOf, with_search, with_sheet, visits_told, definitions_told, sets_told, WasFound, WasSearched, IsTold, MayTold, IsDue, ByFirst, ByPlain, ByComputed, IsWanted, AtFirst, ForTarget, located_by_search, located_in_sheet, located_told, Keeps, IsMade, IsEnough, IsAccepted, DoneMeans, RefusedMeans, LargeMeans}
+use Rattle.closure_fixpoint.specs.Progress.{Heard, HeardIsTrueOf, with_search, with_sheet, visits_told, definitions_told, sets_told, WasFound, WasSearched, IsTold, MayTold, IsDue, ByFirst, ByPlain, ByComputed, IsWanted, AtFirst, ForTarget, located_by_search, located_in_sheet, located_told, FoundKeeps, SearchIsMade, IsEnough, IsAccepted, DoneMeans, RefusedMeans, LargeMeans}
 use Rattle.closure_fixpoint.proofs.MemberLaws.{GivenBy, filter_map-Member, MappedBy, map-Member, MadeBy, flat_map-Member, Member-from_Contains}
 use Rattle.closure_fixpoint.proofs.ClosedLaws.{few}
 use Rattle.closure_fixpoint.proofs.LeadsLaws.{sets_more}
 
 -- SETS ARE DISTINCT
 
-added-once : (d : MacroDefinition) (ds : List MacroDefinition) → HasNoRepeat ds → HasNoRepeat (added d ds)
-added-once d ds once = go (list_any (is_same_definition d) ds) refl
+definition_added-once : (d : MacroDefinition) (ds : List MacroDefinition) → HasNoRepeat ds → HasNoRepeat (definition_added d ds)
+definition_added-once d ds once = go (list_any (is_same_definition d) ds) refl
   where
     go : (b : Bool) → list_any (is_same_definition d) ds ≡ b → HasNoRepeat (cond b ds (d ∷ ds))
     go true is = once
@@ -43,12 +43,12 @@ added-once d ds once = go (list_any (is_same_definition d) ds) refl
 distinct-once : (ds : List MacroDefinition) → HasNoRepeat (distinct ds)
 unfolding distinct
 distinct-once [] = tt
-distinct-once (d ∷ ds) = added-once d (distinct ds) (distinct-once ds)
+distinct-once (d ∷ ds) = definition_added-once d (distinct ds) (distinct-once ds)
 
-pub sets-distinct : (defs : List Named) → IsDistinct (sets_of defs)
+pub sets-distinct : (defs : List Named) → IsDistinct (definition_sets defs)
 sets-distinct defs name = distinct-once (filter_map (of_name name) defs)
 
-module _ (answers : Answers) (is_large : Visit → Bool) (job : JobData) (heard : Heard) (true_of : IsTrueOf answers is_large heard) where
+module _ (answers : AnalysisAnswers) (is_large : Visit → Bool) (job : JobData) (heard : Heard) (true_of : HeardIsTrueOf answers is_large heard) where
   -- WHAT WAS TOLD IS OF THE VISITS
 
   told_visit : (visit : Visit) (sheet : SheetData) → Member (visit, sheet) heard.sheets → Member visit (visits_told heard)
@@ -126,7 +126,7 @@ module _ (answers : Answers) (is_large : Visit → Bool) (job : JobData) (heard 
     first_due visit m =
         let by : MappedBy (λ (hit : Hit). hit.0) (first_hits answers job) visit = map-Member (λ (hit : Hit). hit.0) visit (first_hits answers job) m in
         let ask : GivenBy answers.find (first_asks job) by.by = filter_map-Member answers.find by.by (first_asks job) by.member in
-        let made : IsMade heard.searches found ask.by true = enough.first ask.by ask.member in
+        let made : SearchIsMade heard.searches found ask.by true = enough.first ask.by ask.member in
         subst (λ (v : Visit). Member v found) by.gives (made.visit by.by (sym (true_of.searches ask.by made.got made.told) ∙ ask.gives) refl)
 
     led_due : (visit target : Visit) → Member visit found → LeadsTo answers job found visit target → Member target found
@@ -136,7 +136,7 @@ module _ (answers : Answers) (is_large : Visit → Bool) (job : JobData) (heard 
         let told : IsTold heard visit (answers.sheet visit) c = record { told = sheet_told visit (enough.sheets visit m); stands = f.stands } in
         let may : MayTold job heard visit (answers.sheet visit) c f.header =
         keep header_named (sets answers job found) (sets_told job heard) (known_name (answers.sheet visit) visit) c.tokens f.header (part_told found enough.sheets) f.may in
-        let made : IsMade heard.searches found (computed_ask visit c f.header) (not c.probe) = enough.computed visit (answers.sheet visit) c f.header told may in
+        let made : SearchIsMade heard.searches found (computed_ask visit c f.header) (not c.probe) = enough.computed visit (answers.sheet visit) c f.header told may in
         subst (λ (v : Visit). Member v found) same
         (made.visit hit (sym (true_of.searches (computed_ask visit c f.header) made.got made.told) ∙ f.found) (ap not include))
 
@@ -158,10 +158,10 @@ module _ (answers : Answers) (is_large : Visit → Bool) (job : JobData) (heard 
         (Member-flat_map (λ told. located_in_sheet told.1) (visit, answers.sheet visit) l heard.sheets (sheet_told visit (enough.sheets visit m)) n)
 
     -- each search that is known was told
-    pub known_told : (l : Located) → Known answers job found l → Member l (located_told heard)
+    pub known_told : (l : Located) → IsKnownSearch answers job found l → Member l (located_told heard)
     known_told _ (KnownAtFirst hit m) =
         let ask : GivenBy answers.find (first_asks job) hit = filter_map-Member answers.find hit (first_asks job) m in
-        let made : IsMade heard.searches found ask.by true = enough.first ask.by ask.member in
+        let made : SearchIsMade heard.searches found ask.by true = enough.first ask.by ask.member in
         located_here ask.by hit (found_again ask.by hit ask.gives (made.got, made.told))
     known_told _ (Included visit hit inside m) =
         located_there visit hit.1 inside (Member-append_left hit.1 (map (λ x. x.1) (answers.sheet visit).plain) (answers.sheet visit).probes (Member-map (λ x. x.1) hit (answers.sheet visit).plain m))
@@ -171,15 +171,15 @@ module _ (answers : Answers) (is_large : Visit → Bool) (job : JobData) (heard 
         let told : IsTold heard visit (answers.sheet visit) c = record { told = sheet_told visit (enough.sheets visit inside); stands = f.stands } in
         let may : MayTold job heard visit (answers.sheet visit) c f.header =
         keep header_named (sets answers job found) (sets_told job heard) (known_name (answers.sheet visit) visit) c.tokens f.header (part_told found enough.sheets) f.may in
-        let made : IsMade heard.searches found (computed_ask visit c f.header) (not c.probe) = enough.computed visit (answers.sheet visit) c f.header told may in
+        let made : SearchIsMade heard.searches found (computed_ask visit c f.header) (not c.probe) = enough.computed visit (answers.sheet visit) c f.header told may in
         located_here (computed_ask visit c f.header) hit (found_again (computed_ask visit c f.header) hit f.found (made.got, made.told))
 
     -- and each that was told is known
-    told_known : (keeps : Keeps job heard found) (l : Located) → Member l (located_told heard) → Known answers job found l
+    told_known : (keeps : FoundKeeps job heard found) (l : Located) → Member l (located_told heard) → IsKnownSearch answers job found l
     unfolding located_told
     told_known keeps l m = go (Member-append l (flat_map located_by_search heard.searches) (flat_map (λ told. located_in_sheet told.1) heard.sheets) m)
       where
-        wanted_known : (ask : Ask) (hit : Hit) → IsWanted job heard ask → answers.find ask ≡ Some hit → Known answers job found hit.1
+        wanted_known : (ask : Ask) (hit : Hit) → IsWanted job heard ask → answers.find ask ≡ Some hit → IsKnownSearch answers job found hit.1
         wanted_known ask hit (AtFirst first) is = KnownAtFirst hit (Member-filter_map answers.find ask hit (first_asks job) first is)
         wanted_known ask hit (ForTarget visit sheet c header told may same) is =
             let sheet_is : answers.sheet visit ≡ sheet = true_of.sheets visit sheet told.told in
@@ -192,21 +192,21 @@ module _ (answers : Answers) (is_large : Visit → Bool) (job : JobData) (heard 
               found = ap answers.find same ∙ is;
             })
 
-        by_search : (ask : Ask) (got : Option Hit) → Member (ask, got) heard.searches → Member l (located_by_search (ask, got)) → Known answers job found l
+        by_search : (ask : Ask) (got : Option Hit) → Member (ask, got) heard.searches → Member l (located_by_search (ask, got)) → IsKnownSearch answers job found l
         by_search ask None n k = absurd k
         by_search ask (Some hit) n (inl same) =
-            subst (λ (x : Located). Known answers job found x) same (wanted_known ask hit (keeps.wanted ask (Some hit) n) (true_of.searches ask (Some hit) n))
+            subst (λ (x : Located). IsKnownSearch answers job found x) same (wanted_known ask hit (keeps.wanted ask (Some hit) n) (true_of.searches ask (Some hit) n))
         by_search ask (Some hit) n (inr never) = absurd never
 
-        in_sheet : (visit : Visit) (sheet : SheetData) → Member (visit, sheet) heard.sheets → Member l (map (λ hit. hit.1) sheet.plain) ⊎ Member l sheet.probes → Known answers job found l
+        in_sheet : (visit : Visit) (sheet : SheetData) → Member (visit, sheet) heard.sheets → Member l (map (λ hit. hit.1) sheet.plain) ⊎ Member l sheet.probes → IsKnownSearch answers job found l
         in_sheet visit sheet n (inl k) =
             let by : MappedBy (λ (hit : Hit). hit.1) sheet.plain l = map-Member (λ (hit : Hit). hit.1) l sheet.plain k in
-            subst (λ (x : Located). Known answers job found x) by.gives
+            subst (λ (x : Located). IsKnownSearch answers job found x) by.gives
             (Included visit by.by (keeps.asked visit (told_visit visit sheet n)) (subst (λ (s : SheetData). Member by.by s.plain) (sym (true_of.sheets visit sheet n)) by.member))
         in_sheet visit sheet n (inr k) =
             Probed visit l (keeps.asked visit (told_visit visit sheet n)) (subst (λ (s : SheetData). Member l s.probes) (sym (true_of.sheets visit sheet n)) k)
 
-        go : Member l (flat_map located_by_search heard.searches) ⊎ Member l (flat_map (λ told. located_in_sheet told.1) heard.sheets) → Known answers job found l
+        go : Member l (flat_map located_by_search heard.searches) ⊎ Member l (flat_map (λ told. located_in_sheet told.1) heard.sheets) → IsKnownSearch answers job found l
         go (inl n) =
             let by : MadeBy located_by_search heard.searches l = flat_map-Member located_by_search l heard.searches n in
             by_search by.by.0 by.by.1 by.member by.gives
@@ -217,7 +217,7 @@ module _ (answers : Answers) (is_large : Visit → Bool) (job : JobData) (heard 
 -- THE ANSWER DONE
 
 module _ (keep : MoreKeepHeaders HeaderName) (long : MoreKeepLongRuns) (presumed : MoreKeepPresumedRuns) (many : MoreKeepManyRuns) (job : JobData) (budget : ℕ) (heard : Heard) (found : List Visit) where
-  not_met : (answers : Answers) (is_large : Visit → Bool) → IsTrueOf answers is_large heard → IsEnough job heard found → IsAccepted job budget heard found
+  not_met : (answers : AnalysisAnswers) (is_large : Visit → Bool) → HeardIsTrueOf answers is_large heard → IsEnough job heard found → IsAccepted job budget heard found
       → (refusal : Refusal) → IsMet refusal answers job budget found → ⊥
   not_met answers is_large true_of enough accepted Budget met =
       let told = asked_told answers is_large job heard true_of found enough.sheets met.visit met.c met.asked in
@@ -240,7 +240,7 @@ module _ (keep : MoreKeepHeaders HeaderName) (long : MoreKeepLongRuns) (presumed
       let never : None ≡ Some accepted.source.0 = sym met ∙ was_found answers is_large job heard true_of (source_ask job.source) accepted.source.0 accepted.source.1 in absurd (cc)
 
   -- where nothing is left to ask, and no refusal is met, the visits found are the closure
-  pub done_means : Keeps job heard found → IsEnough job heard found → IsAccepted job budget heard found → DoneMeans job budget heard found
+  pub done_means : FoundKeeps job heard found → IsEnough job heard found → IsAccepted job budget heard found → DoneMeans job budget heard found
   done_means keeps enough accepted = record {
     once = keeps.once;
     asked = enough.sheets;
@@ -257,18 +257,18 @@ module _ (keep : MoreKeepHeaders HeaderName) (long : MoreKeepLongRuns) (presumed
   -- REFUSALS
 
   -- a computed target that was told is asked in every closed list
-  told_asked : Keeps job heard found → (answers : Answers) (is_large : Visit → Bool) → IsTrueOf answers is_large heard → (other : List Visit) → IsClosedFor answers job other
+  told_asked : FoundKeeps job heard found → (answers : AnalysisAnswers) (is_large : Visit → Bool) → HeardIsTrueOf answers is_large heard → (other : List Visit) → IsClosedFor answers job other
       → (visit : Visit) (sheet : SheetData) (c : ComputedAsk) → IsTold heard visit sheet c → IsAsked answers job other visit c
   told_asked keeps answers is_large true_of other closed visit sheet c told = record {
     visited = keeps.sure answers is_large true_of other closed visit (keeps.asked visit (told_visit answers is_large job heard true_of visit sheet told.told));
     stands = subst (λ (s : SheetData). Member c s.computed) (sym (true_of.sheets visit sheet told.told)) told.stands;
   }
 
-  told_within : Keeps job heard found → (answers : Answers) (is_large : Visit → Bool) → IsTrueOf answers is_large heard → (other : List Visit) → IsClosedFor answers job other
+  told_within : FoundKeeps job heard found → (answers : AnalysisAnswers) (is_large : Visit → Bool) → HeardIsTrueOf answers is_large heard → (other : List Visit) → IsClosedFor answers job other
       → Within (visits_told heard) other
   told_within keeps answers is_large true_of other closed v m = keeps.sure answers is_large true_of other closed v (keeps.asked v m)
 
-  pub budget_refused : Keeps job heard found → (visit : Visit) (sheet : SheetData) (c : ComputedAsk) → IsTold heard visit sheet c
+  pub budget_refused : FoundKeeps job heard found → (visit : Visit) (sheet : SheetData) (c : ComputedAsk) → IsTold heard visit sheet c
       → HasManyRuns budget (sets_told job heard) (known_name sheet visit) c.tokens → RefusedMeans job budget heard Budget
   budget_refused keeps visit sheet c told holds answers is_large true_of other closed = record {
     visit = visit;
@@ -279,7 +279,7 @@ module _ (keep : MoreKeepHeaders HeaderName) (long : MoreKeepLongRuns) (presumed
         (told_part answers is_large job heard true_of other (told_within keeps answers is_large true_of other closed)) holds);
   }
 
-  pub long_refused : Keeps job heard found → (visit : Visit) (sheet : SheetData) (c : ComputedAsk) → IsTold heard visit sheet c
+  pub long_refused : FoundKeeps job heard found → (visit : Visit) (sheet : SheetData) (c : ComputedAsk) → IsTold heard visit sheet c
       → HasLongRun (sets_told job heard) (known_name sheet visit) c.tokens → RefusedMeans job budget heard Long
   long_refused keeps visit sheet c told holds answers is_large true_of other closed = record {
     visit = visit;
@@ -290,7 +290,7 @@ module _ (keep : MoreKeepHeaders HeaderName) (long : MoreKeepLongRuns) (presumed
         (told_part answers is_large job heard true_of other (told_within keeps answers is_large true_of other closed)) holds);
   }
 
-  pub presumed_refused : Keeps job heard found → (visit : Visit) (sheet : SheetData) (c : ComputedAsk) → IsTold heard visit sheet c
+  pub presumed_refused : FoundKeeps job heard found → (visit : Visit) (sheet : SheetData) (c : ComputedAsk) → IsTold heard visit sheet c
       → HasPresumedRun (sets_told job heard) (known_name sheet visit) c.tokens → RefusedMeans job budget heard Presumed
   presumed_refused keeps visit sheet c told holds answers is_large true_of other closed = record {
     visit = visit;
@@ -301,13 +301,13 @@ module _ (keep : MoreKeepHeaders HeaderName) (long : MoreKeepLongRuns) (presumed
         (told_part answers is_large job heard true_of other (told_within keeps answers is_large true_of other closed)) holds);
   }
 
-  pub visits_refused : Keeps job heard found → 50000 < length found → RefusedMeans job budget heard Visits
+  pub visits_refused : FoundKeeps job heard found → 50000 < length found → RefusedMeans job budget heard Visits
   visits_refused keeps more answers is_large true_of other closed = (found, keeps.once, keeps.sure answers is_large true_of other closed, more)
 
   pub source_refused : Member (source_ask job.source, None) heard.searches → RefusedMeans job budget heard NoSource
   source_refused m answers is_large true_of other closed = true_of.searches (source_ask job.source) None m
 
-  pub large_means : Keeps job heard found → (visit : Visit) → heard.large ≡ Some visit → Member visit found → LargeMeans job heard
+  pub large_means : FoundKeeps job heard found → (visit : Visit) → heard.large ≡ Some visit → Member visit found → LargeMeans job heard
   large_means keeps visit is there answers is_large true_of other closed =
       (visit, keeps.sure answers is_large true_of other closed visit there, true_of.large visit is)
 
@@ -321,12 +321,12 @@ EachOnce-last (y ∷ xs) x once none = (
 )
 
 -- nothing was told or found so far
-pub keeps_nothing : (job : JobData) → Keeps job (record { searches = []; sheets = []; large = None }) []
+pub keeps_nothing : (job : JobData) → FoundKeeps job (record { searches = []; sheets = []; large = None }) []
 keeps_nothing job = record { once = tt; asked = λ v m. m; wanted = λ ask got m. absurd m; sure = λ answers is_large true_of other closed v m. absurd m }
 
 -- one more visit, which is due
-pub keeps_found : MoreKeepHeaders HeaderName → (job : JobData) (heard : Heard) (found : List Visit) (target : Visit) → Keeps job heard found → IsDue job heard target → (Member target found → ⊥)
-    → Keeps job heard (found ++ target ∷ [])
+pub keeps_found : MoreKeepHeaders HeaderName → (job : JobData) (heard : Heard) (found : List Visit) (target : Visit) → FoundKeeps job heard found → IsDue job heard target → (Member target found → ⊥)
+    → FoundKeeps job heard (found ++ target ∷ [])
 keeps_found keep job heard found target keeps due new = record {
   once = EachOnce-last found target keeps.once new;
   asked = λ v m. Member-append_left v found (target ∷ []) (keeps.asked v m);
@@ -342,7 +342,7 @@ keeps_found keep job heard found target keeps due new = record {
   ];
 }
 
-before_search : (answers : Answers) (is_large : Visit → Bool) (heard : Heard) (ask : Ask) (got : Option Hit) → IsTrueOf answers is_large (with_search heard ask got) → IsTrueOf answers is_large heard
+before_search : (answers : AnalysisAnswers) (is_large : Visit → Bool) (heard : Heard) (ask : Ask) (got : Option Hit) → HeardIsTrueOf answers is_large (with_search heard ask got) → HeardIsTrueOf answers is_large heard
 before_search answers is_large heard ask got t = record {
   searches = λ a g m. t.searches a g (Member-append_left (a, g) heard.searches ((ask, got) ∷ []) m);
   sheets = t.sheets;
@@ -353,7 +353,7 @@ still_wanted : (job : JobData) (heard : Heard) (ask : Ask) (got : Option Hit) (o
 still_wanted job heard ask got other (AtFirst m) = AtFirst m
 still_wanted job heard ask got other (ForTarget visit sheet c header told may same) = ForTarget visit sheet c header (record { told = told.told; stands = told.stands }) may same
 
-pub keeps_search : (job : JobData) (heard : Heard) (found : List Visit) (ask : Ask) (got : Option Hit) → Keeps job heard found → IsWanted job heard ask → Keeps job (with_search heard ask got) found
+pub keeps_search : (job : JobData) (heard : Heard) (found : List Visit) (ask : Ask) (got : Option Hit) → FoundKeeps job heard found → IsWanted job heard ask → FoundKeeps job (with_search heard ask got) found
 keeps_search job heard found ask got keeps want = record {
   once = keeps.once;
   asked = keeps.asked;
@@ -367,7 +367,7 @@ keeps_search job heard found ask got keeps want = record {
   sure = λ answers is_large t. keeps.sure answers is_large (before_search answers is_large heard ask got t);
 }
 
-before_sheet : (answers : Answers) (is_large : Visit → Bool) (heard : Heard) (visit : Visit) (sheet : SheetData) → IsTrueOf answers is_large (with_sheet heard visit sheet) → IsTrueOf answers is_large heard
+before_sheet : (answers : AnalysisAnswers) (is_large : Visit → Bool) (heard : Heard) (visit : Visit) (sheet : SheetData) → HeardIsTrueOf answers is_large (with_sheet heard visit sheet) → HeardIsTrueOf answers is_large heard
 before_sheet answers is_large heard visit sheet t = record {
   searches = t.searches;
   sheets = λ v s m. t.sheets v s (Member-append_left (v, s) heard.sheets ((visit, sheet) ∷ []) m);
@@ -403,7 +403,7 @@ sheet_wanted keep job heard visit sheet ask (ForTarget v s c header told may sam
             Member-append_right x (first_definitions job) (flat_map (λ told. told.1.defs) (heard.sheets ++ (visit, sheet) ∷ []))
             (Member-flat_map (λ told. told.1.defs) by.by x (heard.sheets ++ (visit, sheet) ∷ []) (Member-append_left by.by heard.sheets ((visit, sheet) ∷ []) by.member) by.gives)
 
-pub keeps_sheet : MoreKeepHeaders HeaderName → (job : JobData) (heard : Heard) (found : List Visit) (visit : Visit) (sheet : SheetData) → Keeps job heard found → Member visit found → Keeps job (with_sheet heard visit sheet) found
+pub keeps_sheet : MoreKeepHeaders HeaderName → (job : JobData) (heard : Heard) (found : List Visit) (visit : Visit) (sheet : SheetData) → FoundKeeps job heard found → Member visit found → FoundKeeps job (with_sheet heard visit sheet) found
 keeps_sheet keep job heard found visit sheet keeps there = record {
   once = keeps.once;
   wanted = λ ask got m. sheet_wanted keep job heard visit sheet ask (keeps.wanted ask got m);

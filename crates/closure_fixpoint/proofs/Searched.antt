@@ -19,7 +19,7 @@ use Rattle.search_path.specs.declared.asking.Visit.{Visit}
 use Rattle.search_path.specs.declared.asking.Ask.{Ask}
 use Rattle.job_words.specs.JobOf.{JobData}
 use Rattle.sheet_build.specs.Sheet.{Asking, asked_for, plain_target, plain_hit, includes_in, probes_in, SheetData, empty_sheet, sheet_from, body_of_place, sheet_of_body, sheet_of}
-use Rattle.closure_fixpoint.specs.Closure.{answers_of, first_asks, Known, AtFirst, Included, Probed, ByMacros, computed_ask}
+use Rattle.closure_fixpoint.specs.Closure.{answers_of, first_asks, IsKnownSearch, AtFirst, Included, Probed, ByMacros, computed_ask}
 use Rattle.closure_fixpoint.proofs.MemberLaws.{GivenBy, filter_map-Member, MappedBy, map-Member}
 
 -- the place of a file stands in a directory
@@ -93,7 +93,7 @@ probed_located tree job locates visit l m =
     let probed : IsProbed tree job visit l = probed_searched tree job visit l m in
     subst (λ (x : Located). IsLocatedSo tree x) probed.is (searched_located tree job locates visit probed.hit probed.searched)
 
-pub known_located : (tree : FileTree) (job : JobData) → SearchesLocate → (visits : List Visit) (l : Located) → Known (answers_of tree job) job visits l → IsLocatedSo tree l
+pub known_located : (tree : FileTree) (job : JobData) → SearchesLocate → (visits : List Visit) (l : Located) → IsKnownSearch (answers_of tree job) job visits l → IsLocatedSo tree l
 known_located tree job locates visits _ (AtFirst hit m) =
     let by : GivenBy (search tree job.setup) (first_asks job) hit = filter_map-Member (search tree job.setup) hit (first_asks job) m in
     located_by tree job locates by.by hit by.gives

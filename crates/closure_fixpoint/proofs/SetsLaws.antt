@@ -18,7 +18,7 @@ use Rattle.tree_model.specs.Paths.{Text}
 use Rattle.tree_model.proofs.MemberLemmas.{Member-append_left, Member-append_right, Member-append, Member-filter_map, Member-map, list_any-true}
 use Rattle.job_words.specs.declared.MacroWord.{MacroWord}
 use Rattle.job_words.specs.declared.MacroWord.TheVariants as words
-use Rattle.closure_fixpoint.specs.Closure.{initial_definition, word_definition, of_name, sets_of}
+use Rattle.closure_fixpoint.specs.Closure.{initial_definition, word_definition, of_name, definition_sets}
 use Rattle.closure_fixpoint.specs.Naming.{HasJust}
 use Rattle.closure_fixpoint.proofs.MemberLaws.{GivenBy, filter_map-Member, Contains-from_Member, Member-from_Contains}
 use Rattle.closure_fixpoint.proofs.DistinctLaws.{distinct_there}
@@ -43,15 +43,15 @@ named_gives : (name : Text) (d : MacroDefinition) → of_name name (named name d
 named_gives name d = ap (λ b. if b then Some d else None) ((bytes_decides name name).1 refl)
 
 -- a definition of a name is in the sets of a list just where it is in the list
-pub in_sets : (definitions : List Named) (name : Text) (d : MacroDefinition) → Member (named name d) definitions → Contains (sets_of definitions name) d
+pub in_sets : (definitions : List Named) (name : Text) (d : MacroDefinition) → Member (named name d) definitions → Contains (definition_sets definitions name) d
 in_sets definitions name d m =
-    Contains-from_Member d (sets_of definitions name)
+    Contains-from_Member d (definition_sets definitions name)
     (distinct_there d (filter_map (of_name name) definitions) (Member-filter_map (of_name name) (named name d) d definitions m (named_gives name d)))
 
-pub of_sets : (definitions : List Named) (name : Text) (d : MacroDefinition) → Contains (sets_of definitions name) d → Member (named name d) definitions
+pub of_sets : (definitions : List Named) (name : Text) (d : MacroDefinition) → Contains (definition_sets definitions name) d → Member (named name d) definitions
 of_sets definitions name d c =
     let by : GivenBy (of_name name) definitions d =
-    filter_map-Member (of_name name) d definitions (in_distinct d (filter_map (of_name name) definitions) (Member-from_Contains d (sets_of definitions name) c)) in
+    filter_map-Member (of_name name) d definitions (in_distinct d (filter_map (of_name name) definitions) (Member-from_Contains d (definition_sets definitions name) c)) in
     subst (λ (x : Named). Member x definitions) (gives_named name by.by d by.gives) by.member
 
 -- ONE DEFINITION MORE
@@ -80,14 +80,14 @@ pub just_more : (old : Defined) (name : Text) (d : MacroDefinition) (b : Bool) (
     → (before : List Named) → HasJust old before → HasJust new (before ++ named name d ∷ [])
 just_more old name d b new adds part before just n e = (to, from)
   where
-    to : Contains (kept.sets_of new n) e → Contains (sets_of (before ++ named name d ∷ []) n) e
+    to : Contains (kept.sets_of new n) e → Contains (definition_sets (before ++ named name d ∷ []) n) e
     to c = in_sets (before ++ named name d ∷ []) n e (go (one_more old name d b new adds n e c))
       where
         go : Contains (kept.sets_of old n) e ⊎ ((name ≡ n) × (d ≡ e)) → Member (named n e) (before ++ named name d ∷ [])
         go (inl k) = Member-append_left (named n e) before (named name d ∷ []) (of_sets before n e ((just n e).0 k))
         go (inr (same, is)) = Member-append_right (named n e) before (named name d ∷ []) (inl (λ i. named (same i) (is i)))
 
-    from : Contains (sets_of (before ++ named name d ∷ []) n) e → Contains (kept.sets_of new n) e
+    from : Contains (definition_sets (before ++ named name d ∷ []) n) e → Contains (kept.sets_of new n) e
     from c = go (Member-append (named n e) before (named name d ∷ []) (of_sets (before ++ named name d ∷ []) n e c))
       where
         go : Member (named n e) before ⊎ Member (named n e) (named name d ∷ []) → Contains (kept.sets_of new n) e

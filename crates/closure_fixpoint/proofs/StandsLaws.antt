@@ -12,7 +12,7 @@ use Rattle.sheet_build.specs.Sheet.{SheetData}
 use Rattle.closure_fixpoint.specs.declared.job_analysis.Refusal.{Refusal}
 use Rattle.closure_fixpoint.specs.declared.job_analysis.Refusal.TheVariants.{Large}
 use Rattle.closure_fixpoint.specs.declared.naming.Naming.{Naming}
-use Rattle.closure_fixpoint.specs.Progress.{Heard, with_sheet, IsWanted, Keeps, PlainAreFound, IsEnough, IsAccepted, AtFirst, ForTarget, IsNewSearch, IsNewSheet, LargeMeans, DoneMeans, located_told}
+use Rattle.closure_fixpoint.specs.Progress.{Heard, with_sheet, IsWanted, FoundKeeps, PlainAreFound, IsEnough, IsAccepted, AtFirst, ForTarget, IsNewSearch, IsNewSheet, LargeMeans, DoneMeans, located_told}
 use Rattle.std.specs.Option.{is_some}
 use Rattle.closure_fixpoint.specs.declared.fixpoint.Closure.{Closure}
 use Rattle.closure_fixpoint.specs.declared.wanting.Want.{Want}
@@ -324,7 +324,7 @@ module _ (naming : Naming) (p : Progress) (by : StandsBy naming p) where
       let grows : Grows p.found found = grows_as p.found (with_visit p.found visit) found (grows_visit p.found visit) adds in
       record {
         stands = record {
-          keeps = subst (λ (l : List Visit). Keeps p.job p.heard l) (sym adds) (keeps_visit keep p.job p.heard p.found visit by.stands.keeps due);
+          keeps = subst (λ (l : List Visit). FoundKeeps p.job p.heard l) (sym adds) (keeps_visit keep p.job p.heard p.found visit by.stands.keeps due);
           right = tt;
           in_order = λ calm. still_in_order p.heard.sheets p.found found grows (by.stands.in_order calm);
           plain = λ calm. still_plain p.heard p.found found grows (by.stands.plain calm);
@@ -342,7 +342,7 @@ module _ (naming : Naming) (p : Progress) (by : StandsBy naming p) where
   is_ready calm small =
       let same : p.heard ≡ heard_of p.heard.searches p.heard.sheets = heard_is p.heard small in
       record {
-        keeps = subst (λ (h : Heard). Keeps p.job h p.found) same by.stands.keeps;
+        keeps = subst (λ (h : Heard). FoundKeeps p.job h p.found) same by.stands.keeps;
         in_order = by.stands.in_order calm;
         plain = by.stands.plain calm;
       }

@@ -8,19 +8,19 @@ use Rattle.search_path.specs.declared.asking.Ask.{Ask}
 use Rattle.tree_model.proofs.MemberLemmas.{list_any-true}
 use Rattle.closure_fixpoint.specs.declared.wanting.Want.{Want}
 use Rattle.closure_fixpoint.specs.declared.wanting.Want.TheVariants as want
-use Rattle.closure_fixpoint.specs.parts.Worklist.{same_visit}
+use Rattle.closure_fixpoint.specs.parts.Worklist.{is_found_alike}
 use Rattle.closure_fixpoint.specs.parts.Wanting.{WantsOfFile, WantsOfHit, WantsOfAsk}
 use Rattle.closure_fixpoint.proofs.MemberLaws.{list_any-by}
-use Rattle.closure_fixpoint.proofs.Bounds.{same_visit-Decides}
+use Rattle.closure_fixpoint.proofs.Bounds.{is_found_alike-Decides}
 
-pub visit_there : (found : List Visit) (visit : Visit) → list_any (same_visit visit) found ≡ true → Member visit found
+pub visit_there : (found : List Visit) (visit : Visit) → list_any (is_found_alike visit) found ≡ true → Member visit found
 visit_there found visit is =
-    let by = list_any-by (same_visit visit) found is in
-    subst (λ (v : Visit). Member v found) (sym ((same_visit-Decides visit by.by).0 by.passes)) by.member
+    let by = list_any-by (is_found_alike visit) found is in
+    subst (λ (v : Visit). Member v found) (sym ((is_found_alike-Decides visit by.by).0 by.passes)) by.member
 
-pub visit_new : (found : List Visit) (visit : Visit) → list_any (same_visit visit) found ≡ false → Member visit found → ⊥
+pub visit_new : (found : List Visit) (visit : Visit) → list_any (is_found_alike visit) found ≡ false → Member visit found → ⊥
 visit_new found visit is m =
-    let some : list_any (same_visit visit) found ≡ true = list_any-true (same_visit visit) visit found m ((same_visit-Decides visit visit).1 refl) in absurd (cc)
+    let some : list_any (is_found_alike visit) found ≡ true = list_any-true (is_found_alike visit) visit found m ((is_found_alike-Decides visit visit).1 refl) in absurd (cc)
 
 pub hit_of_file : (found : List Visit) (include : Bool) (hit : Hit) (o : Option Want) → include ≡ true → WantsOfFile found hit o → WantsOfHit found include (Some hit) o
 hit_of_file found include hit None is_yes there = λ other e i. let same : hit ≡ other = cc in subst (λ (h : Hit). Member h.0 found) same there

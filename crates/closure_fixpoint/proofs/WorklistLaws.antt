@@ -10,25 +10,25 @@ use Rattle.search_path.specs.declared.asking.Ask.{Ask}
 use Rattle.job_words.specs.JobOf.{JobData}
 use Rattle.sheet_build.specs.Sheet.{SheetData}
 use Rattle.tree_model.proofs.MemberLemmas.{Member-append_right, list_any-true}
-use Rattle.closure_fixpoint.specs.Progress.{Heard, with_search, with_sheet, IsWanted, AtFirst, ForTarget, IsDue, ByPlain, Keeps}
-use Rattle.closure_fixpoint.specs.parts.Worklist.{same_visit, with_visit, with_visits, TellsSome, with_hit, TellsNoVisit}
+use Rattle.closure_fixpoint.specs.Progress.{Heard, with_search, with_sheet, IsWanted, AtFirst, ForTarget, IsDue, ByPlain, FoundKeeps}
+use Rattle.closure_fixpoint.specs.parts.Worklist.{is_found_alike, with_visit, with_visits, TellsSome, with_hit, TellsNoVisit}
 use Rattle.closure_fixpoint.proofs.MemberLaws.{MappedBy, map-Member}
-use Rattle.closure_fixpoint.proofs.Bounds.{same_visit-Decides}
+use Rattle.closure_fixpoint.proofs.Bounds.{is_found_alike-Decides}
 use Rattle.closure_fixpoint.proofs.ProgressLaws.{keeps_search, keeps_sheet, keeps_found}
 
-pub keeps_visit : MoreKeepHeaders HeaderName → (job : JobData) (heard : Heard) (found : List Visit) (visit : Visit) → Keeps job heard found → IsDue job heard visit → Keeps job heard (with_visit found visit)
-keeps_visit keep job heard found visit keeps due = go (list_any (same_visit visit) found) refl
+pub keeps_visit : MoreKeepHeaders HeaderName → (job : JobData) (heard : Heard) (found : List Visit) (visit : Visit) → FoundKeeps job heard found → IsDue job heard visit → FoundKeeps job heard (with_visit found visit)
+keeps_visit keep job heard found visit keeps due = go (list_any (is_found_alike visit) found) refl
   where
-    go : (b : Bool) → list_any (same_visit visit) found ≡ b → Keeps job heard (cond b found (found ++ visit ∷ []))
+    go : (b : Bool) → list_any (is_found_alike visit) found ≡ b → FoundKeeps job heard (cond b found (found ++ visit ∷ []))
     go true is = keeps
     go false is =
         keeps_found keep job heard found visit keeps due
         (λ m.
-        let some : list_any (same_visit visit) found ≡ true = list_any-true (same_visit visit) visit found m ((same_visit-Decides visit visit).1 refl) in
+        let some : list_any (is_found_alike visit) found ≡ true = list_any-true (is_found_alike visit) visit found m ((is_found_alike-Decides visit visit).1 refl) in
         absurd (cc))
 
-pub keeps_visits : MoreKeepHeaders HeaderName → (job : JobData) (heard : Heard) (visits found : List Visit) → Keeps job heard found → ((visit : Visit) → Member visit visits → IsDue job heard visit)
-    → Keeps job heard (with_visits found visits)
+pub keeps_visits : MoreKeepHeaders HeaderName → (job : JobData) (heard : Heard) (visits found : List Visit) → FoundKeeps job heard found → ((visit : Visit) → Member visit visits → IsDue job heard visit)
+    → FoundKeeps job heard (with_visits found visits)
 unfolding with_visits
 keeps_visits keep job heard [] found keeps due = keeps
 keeps_visits keep job heard (visit ∷ visits) found keeps due =
@@ -41,8 +41,8 @@ Member-take x (suc n) (y ∷ xs) (inl same) = inl same
 Member-take x (suc n) (y ∷ xs) (inr m) = inr (Member-take x n xs m)
 
 -- a front of the files of a sheet that was told
-pub keeps_plain : MoreKeepHeaders HeaderName → (job : JobData) (heard : Heard) (found : List Visit) (visit : Visit) (sheet : SheetData) (files : List Hit) → Keeps job heard found → Member visit found
-    → Within files sheet.plain → Keeps job (with_sheet heard visit sheet) (with_visits found (map (λ file. file.0) files))
+pub keeps_plain : MoreKeepHeaders HeaderName → (job : JobData) (heard : Heard) (found : List Visit) (visit : Visit) (sheet : SheetData) (files : List Hit) → FoundKeeps job heard found → Member visit found
+    → Within files sheet.plain → FoundKeeps job (with_sheet heard visit sheet) (with_visits found (map (λ file. file.0) files))
 keeps_plain keep job heard found visit sheet files keeps there within =
     keeps_visits keep job (with_sheet heard visit sheet) (map (λ file. file.0) files) found (keeps_sheet keep job heard found visit sheet keeps there)
     (λ target m.
@@ -76,52 +76,52 @@ one_more files i file found below is = let next : i + 1 ≡ suc i = omega arith 
 
 -- a sheet was told, or nothing was: the visits found are those that may be
 pub keeps_told : MoreKeepHeaders HeaderName → (job : JobData) (heard : Heard) (found : List Visit) (visit : Visit) (sheet : SheetData) (sheets_now : List (Visit × SheetData)) (found_now : List Visit)
-    → Keeps job heard found → Member visit found → TellsSome heard.sheets found visit sheet sheets_now found_now
-    → Keeps job (record heard { sheets = sheets_now }) found_now
+    → FoundKeeps job heard found → Member visit found → TellsSome heard.sheets found visit sheet sheets_now found_now
+    → FoundKeeps job (record heard { sheets = sheets_now }) found_now
 keeps_told keep job heard found visit sheet sheets_now found_now keeps there (inl (same, as_before)) =
-    subst (λ (list : List Visit). Keeps job (record heard { sheets = sheets_now }) list) (sym as_before)
-    (subst (λ (list : List (Visit × SheetData)). Keeps job (record heard { sheets = list }) found) (sym same) keeps)
+    subst (λ (list : List Visit). FoundKeeps job (record heard { sheets = sheets_now }) list) (sym as_before)
+    (subst (λ (list : List (Visit × SheetData)). FoundKeeps job (record heard { sheets = list }) found) (sym same) keeps)
 keeps_told keep job heard found visit sheet sheets_now found_now keeps there (inr (more, (n, adds))) =
-    subst (λ (list : List Visit). Keeps job (record heard { sheets = sheets_now }) list) (sym adds)
-    (subst (λ (list : List (Visit × SheetData)). Keeps job (record heard { sheets = list }) (with_visits found (map (λ file. file.0) (take n sheet.plain)))) (sym more)
+    subst (λ (list : List Visit). FoundKeeps job (record heard { sheets = sheets_now }) list) (sym adds)
+    (subst (λ (list : List (Visit × SheetData)). FoundKeeps job (record heard { sheets = list }) (with_visits found (map (λ file. file.0) (take n sheet.plain)))) (sym more)
     (keeps_plain keep job heard found visit sheet (take n sheet.plain) keeps there (λ file m. Member-take file n sheet.plain m)))
 
 -- all of the sheet's plain includes
 pub keeps_whole : MoreKeepHeaders HeaderName → (job : JobData) (heard : Heard) (found : List Visit) (visit : Visit) (sheet : SheetData) (sheets_now : List (Visit × SheetData)) (found_now : List Visit)
-    → Keeps job heard found → Member visit found → sheets_now ≡ heard.sheets ++ (visit, sheet) ∷ [] → found_now ≡ with_visits found (map (λ file. file.0) sheet.plain)
-    → Keeps job (record heard { sheets = sheets_now }) found_now
+    → FoundKeeps job heard found → Member visit found → sheets_now ≡ heard.sheets ++ (visit, sheet) ∷ [] → found_now ≡ with_visits found (map (λ file. file.0) sheet.plain)
+    → FoundKeeps job (record heard { sheets = sheets_now }) found_now
 keeps_whole keep job heard found visit sheet sheets_now found_now keeps there more adds =
-    subst (λ (list : List Visit). Keeps job (record heard { sheets = sheets_now }) list) (sym adds)
-    (subst (λ (list : List (Visit × SheetData)). Keeps job (record heard { sheets = list }) (with_visits found (map (λ file. file.0) sheet.plain))) (sym more)
+    subst (λ (list : List Visit). FoundKeeps job (record heard { sheets = sheets_now }) list) (sym adds)
+    (subst (λ (list : List (Visit × SheetData)). FoundKeeps job (record heard { sheets = list }) (with_visits found (map (λ file. file.0) sheet.plain))) (sym more)
     (keeps_plain keep job heard found visit sheet sheet.plain keeps there (λ file m. m)))
 
 -- the answer to a search was told, and its file's visit was added where it is due
-pub keeps_answer : MoreKeepHeaders HeaderName → (job : JobData) (heard : Heard) (found : List Visit) (ask : Ask) (include : Bool) (got : Option Hit) → Keeps job heard found → IsWanted job heard ask
-    → ((hit : Hit) → include ≡ true → IsDue job (with_search heard ask (Some hit)) hit.0) → Keeps job (with_search heard ask got) (with_hit include found got)
+pub keeps_answer : MoreKeepHeaders HeaderName → (job : JobData) (heard : Heard) (found : List Visit) (ask : Ask) (include : Bool) (got : Option Hit) → FoundKeeps job heard found → IsWanted job heard ask
+    → ((hit : Hit) → include ≡ true → IsDue job (with_search heard ask (Some hit)) hit.0) → FoundKeeps job (with_search heard ask got) (with_hit include found got)
 keeps_answer keep job heard found ask include None keeps want due = keeps_search job heard found ask None keeps want
 keeps_answer keep job heard found ask true (Some hit) keeps want due =
     keeps_visit keep job (with_search heard ask (Some hit)) found hit.0 (keeps_search job heard found ask (Some hit) keeps want) (due hit refl)
 keeps_answer keep job heard found ask false (Some hit) keeps want due = keeps_search job heard found ask (Some hit) keeps want
 
 pub keeps_answered : MoreKeepHeaders HeaderName → (job : JobData) (heard : Heard) (found : List Visit) (ask : Ask) (include : Bool) (got : Option Hit) (searches_now : List (Ask × Option Hit)) (found_now : List Visit)
-    → Keeps job heard found → IsWanted job heard ask → ((hit : Hit) → include ≡ true → IsDue job (with_search heard ask (Some hit)) hit.0)
-    → searches_now ≡ heard.searches ++ (ask, got) ∷ [] → found_now ≡ with_hit include found got → Keeps job (record heard { searches = searches_now }) found_now
+    → FoundKeeps job heard found → IsWanted job heard ask → ((hit : Hit) → include ≡ true → IsDue job (with_search heard ask (Some hit)) hit.0)
+    → searches_now ≡ heard.searches ++ (ask, got) ∷ [] → found_now ≡ with_hit include found got → FoundKeeps job (record heard { searches = searches_now }) found_now
 keeps_answered keep job heard found ask include got searches_now found_now keeps want due more adds =
-    subst (λ (list : List Visit). Keeps job (record heard { searches = searches_now }) list) (sym adds)
-    (subst (λ (list : List (Ask × Option Hit)). Keeps job (record heard { searches = list }) (with_hit include found got)) (sym more)
+    subst (λ (list : List Visit). FoundKeeps job (record heard { searches = searches_now }) list) (sym adds)
+    (subst (λ (list : List (Ask × Option Hit)). FoundKeeps job (record heard { searches = list }) (with_hit include found got)) (sym more)
     (keeps_answer keep job heard found ask include got keeps want due))
 
 pub keeps_unanswered : (job : JobData) (heard : Heard) (found : List Visit) (ask : Ask) (got : Option Hit) (searches_now : List (Ask × Option Hit)) (found_now : List Visit)
-    → Keeps job heard found → IsWanted job heard ask → TellsNoVisit heard.searches found ask got searches_now found_now → Keeps job (record heard { searches = searches_now }) found_now
+    → FoundKeeps job heard found → IsWanted job heard ask → TellsNoVisit heard.searches found ask got searches_now found_now → FoundKeeps job (record heard { searches = searches_now }) found_now
 keeps_unanswered job heard found ask got searches_now found_now keeps want (as_before, inl same) =
-    subst (λ (list : List Visit). Keeps job (record heard { searches = searches_now }) list) (sym as_before)
-    (subst (λ (list : List (Ask × Option Hit)). Keeps job (record heard { searches = list }) found) (sym same) keeps)
+    subst (λ (list : List Visit). FoundKeeps job (record heard { searches = searches_now }) list) (sym as_before)
+    (subst (λ (list : List (Ask × Option Hit)). FoundKeeps job (record heard { searches = list }) found) (sym same) keeps)
 keeps_unanswered job heard found ask got searches_now found_now keeps want (as_before, inr more) =
-    subst (λ (list : List Visit). Keeps job (record heard { searches = searches_now }) list) (sym as_before)
-    (subst (λ (list : List (Ask × Option Hit)). Keeps job (record heard { searches = list }) found) (sym more) (keeps_search job heard found ask got keeps want))
+    subst (λ (list : List Visit). FoundKeeps job (record heard { searches = searches_now }) list) (sym as_before)
+    (subst (λ (list : List (Ask × Option Hit)). FoundKeeps job (record heard { searches = list }) found) (sym more) (keeps_search job heard found ask got keeps want))
 
 -- that a file is too large was told, where nothing of the kind was
-pub keeps_large : (job : JobData) (heard : Heard) (found : List Visit) (visit : Visit) → heard.large ≡ None → Keeps job heard found → Keeps job (record heard { large = Some visit }) found
+pub keeps_large : (job : JobData) (heard : Heard) (found : List Visit) (visit : Visit) → heard.large ≡ None → FoundKeeps job heard found → FoundKeeps job (record heard { large = Some visit }) found
 keeps_large job heard found visit none keeps = record {
   once = keeps.once;
   asked = keeps.asked;

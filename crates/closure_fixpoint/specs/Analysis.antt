@@ -11,7 +11,7 @@ use Rattle.search_path.specs.Search.{search}
 use Rattle.search_path.specs.declared.asking.Visit.{Visit}
 use Rattle.job_words.specs.declared.job.Job.{Job}
 use Rattle.job_frames.specs.Request.{request_bytes, most}
-use Rattle.closure_fixpoint.specs.Closure.{IsClosureOf, Known, answers_of, IsMetAtClosure}
+use Rattle.closure_fixpoint.specs.Closure.{IsClosureOf, IsKnownSearch, answers_of, IsMetAtClosure}
 use Rattle.closure_fixpoint.specs.declared.job_analysis.Refusal.{Refusal}
 use Rattle.closure_fixpoint.specs.declared.job_analysis.Refusal.TheVariants as refusal
 use Rattle.closure_fixpoint.specs.declared.job_analysis.Analysed.{Analysed}
@@ -24,7 +24,7 @@ pub record IsNodeOf (tree : FileTree) (job : Job) (path : Path) : Type 0 where
   pub visits : List Visit
   pub closure : IsClosureOf tree job visits
   pub located : Located
-  pub known : Known (answers_of tree job) job visits located
+  pub known : IsKnownSearch (answers_of tree job) job visits located
   pub met : Path
   pub walked : Member met located.walked
   pub above : IsAtOrAbove path met

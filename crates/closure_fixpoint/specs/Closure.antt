@@ -28,7 +28,7 @@ use Rattle.closure_fixpoint.specs.declared.job_analysis.Refusal.{Refusal}
 use Rattle.closure_fixpoint.specs.declared.job_analysis.Refusal.TheVariants.{Budget, Long, Presumed, Visits, Large, Request, NoSource}
 
 -- what searches find, and the sheets of visits: those of a tree, or what is known of them
-pub record Answers : Type 0 where
+pub record AnalysisAnswers : Type 0 where
   pub find : Ask → Option Hit
   pub sheet : Visit → SheetData
 
@@ -51,16 +51,16 @@ abbrev pub of_name : Text → Named → Option MacroDefinition
 of_name name named = if bytes_eq name named.name then Some named.definition else None
 
 -- definitions, each once
-abbrev pub added : MacroDefinition → List MacroDefinition → List MacroDefinition
-added d ds = if list_any (is_same_definition d) ds then ds else d ∷ ds
+abbrev pub definition_added : MacroDefinition → List MacroDefinition → List MacroDefinition
+definition_added d ds = if list_any (is_same_definition d) ds then ds else d ∷ ds
 
 unfoldable pub distinct : List MacroDefinition → List MacroDefinition
 distinct [] = []
-distinct (d ∷ ds) = added d (distinct ds)
+distinct (d ∷ ds) = definition_added d (distinct ds)
 
 -- the definition sets: for each name the distinct definitions of a list
-abbrev pub sets_of : List Named → Sets
-sets_of definitions name = distinct (filter_map (of_name name) definitions)
+abbrev pub definition_sets : List Named → Sets
+definition_sets definitions name = distinct (filter_map (of_name name) definitions)
 
 -- ---- computed targets ----
 
@@ -81,13 +81,13 @@ computed_ask visit c header = record { form = with_angle c.form header.angle; fr
 abbrev pub known_name : SheetData → Visit → Option Text
 known_name sheet visit = cond sheet.has_line None (Some (presumed_name visit.place))
 
-module _ (answers : Answers) (job : JobData) (visits : List Visit) where
+module _ (answers : AnalysisAnswers) (job : JobData) (visits : List Visit) where
   -- all definitions: those that the job begins with, and those of all sheets
   abbrev pub definitions : List Named
   definitions = first_definitions job ++ flat_map (λ visit. (answers.sheet visit).defs) visits
 
   abbrev pub sets : Sets
-  sets = sets_of definitions
+  sets = definition_sets definitions
 
   -- a computed target of a visited file
   pub record IsAsked (visit : Visit) (c : ComputedAsk) : Type 0 where
@@ -106,7 +106,7 @@ module _ (answers : Answers) (job : JobData) (visits : List Visit) where
     pub found : answers.find (computed_ask visit c header) ≡ Some hit
 
 -- a visit leads to the files of its plain includes, and to those that its computed includes may name
-pub data LeadsTo (answers : Answers) (job : JobData) (visits : List Visit) (visit target : Visit) : Type 0 where
+pub data LeadsTo (answers : AnalysisAnswers) (job : JobData) (visits : List Visit) (visit target : Visit) : Type 0 where
   ByName : (hit : Hit) → Member hit (answers.sheet visit).plain → hit.0 ≡ target → LeadsTo answers job visits visit target
   ByTokens : (c : ComputedAsk) (hit : Hit) → MayFind answers job visits visit c hit → c.probe ≡ false → hit.0 ≡ target → LeadsTo answers job visits visit target
 
@@ -116,21 +116,21 @@ pub data LeadsTo (answers : Answers) (job : JobData) (visits : List Visit) (visi
 abbrev pub first_asks : JobData → List Ask
 first_asks job = source_ask job.source ∷ map forced_ask job.forced
 
-abbrev pub first_hits : Answers → JobData → List Hit
+abbrev pub first_hits : AnalysisAnswers → JobData → List Hit
 first_hits answers job = filter_map answers.find (first_asks job)
 
-abbrev pub first_visits : Answers → JobData → List Visit
+abbrev pub first_visits : AnalysisAnswers → JobData → List Visit
 first_visits answers job = map (λ hit. hit.0) (first_hits answers job)
 
 -- a closed list of visits has those of the source and of the files in front of it, and all that its members lead to
-abbrev pub IsClosedFor : Answers → JobData → List Visit → Type 0
+abbrev pub IsClosedFor : AnalysisAnswers → JobData → List Visit → Type 0
 IsClosedFor answers job visits = IsClosed (first_visits answers job) (LeadsTo answers job) visits
 
 -- the closure: the closed list that lies within every closed list
-abbrev pub IsClosureFor : Answers → JobData → List Visit → Type 0
+abbrev pub IsClosureFor : AnalysisAnswers → JobData → List Visit → Type 0
 IsClosureFor answers job visits = IsClosure (first_visits answers job) (LeadsTo answers job) visits
 
-abbrev pub answers_of : FileTree → JobData → Answers
+abbrev pub answers_of : FileTree → JobData → AnalysisAnswers
 answers_of tree job = record { find = search tree job.setup; sheet = sheet_of tree job.setup }
 
 abbrev pub IsClosureOf : FileTree → JobData → List Visit → Type 0
@@ -144,16 +144,16 @@ InClosure tree job visit = (visits : List Visit) × IsClosureOf tree job visits 
 
 -- a search that succeeded and that the analysis knows of: for the source or a file in front of it, for an include, or for a
 -- probe, of the visits
-pub data Known (answers : Answers) (job : JobData) (visits : List Visit) : Located → Type 0 where
-  AtFirst : (hit : Hit) → Member hit (first_hits answers job) → Known answers job visits hit.1
-  Included : (visit : Visit) (hit : Hit) → Member visit visits → Member hit (answers.sheet visit).plain → Known answers job visits hit.1
-  Probed : (visit : Visit) (located : Located) → Member visit visits → Member located (answers.sheet visit).probes → Known answers job visits located
-  ByMacros : (visit : Visit) (c : ComputedAsk) (hit : Hit) → Member visit visits → MayFind answers job visits visit c hit → Known answers job visits hit.1
+pub data IsKnownSearch (answers : AnalysisAnswers) (job : JobData) (visits : List Visit) : Located → Type 0 where
+  AtFirst : (hit : Hit) → Member hit (first_hits answers job) → IsKnownSearch answers job visits hit.1
+  Included : (visit : Visit) (hit : Hit) → Member visit visits → Member hit (answers.sheet visit).plain → IsKnownSearch answers job visits hit.1
+  Probed : (visit : Visit) (located : Located) → Member visit visits → Member located (answers.sheet visit).probes → IsKnownSearch answers job visits located
+  ByMacros : (visit : Visit) (c : ComputedAsk) (hit : Hit) → Member visit visits → MayFind answers job visits visit c hit → IsKnownSearch answers job visits hit.1
 
 -- ---- refusals ----
 
 -- a computed target of which something holds, under the sets of a list of visits
-pub record SomeAsked (answers : Answers) (job : JobData) (visits : List Visit) (P : Visit → ComputedAsk → Type 0) : Type 0 where
+pub record SomeAsked (answers : AnalysisAnswers) (job : JobData) (visits : List Visit) (P : Visit → ComputedAsk → Type 0) : Type 0 where
   pub visit : Visit
   pub c : ComputedAsk
   pub asked : IsAsked answers job visits visit c
@@ -161,15 +161,15 @@ pub record SomeAsked (answers : Answers) (job : JobData) (visits : List Visit) (
 
 -- `Budget`: a computed target has more choices of definitions than the budget. `Long`: one of its choices needs more work than
 -- a run has. `Presumed`: one of its choices uses a presumed line, or a presumed name that may change.
-abbrev pub HasMany : Answers → JobData → ℕ → List Visit → Type 0
+abbrev pub HasMany : AnalysisAnswers → JobData → ℕ → List Visit → Type 0
 HasMany answers job budget visits = SomeAsked answers job visits (λ visit c.
     HasManyRuns budget (sets answers job visits) (known_name (answers.sheet visit) visit) c.tokens)
 
-abbrev pub HasLong : Answers → JobData → List Visit → Type 0
+abbrev pub HasLong : AnalysisAnswers → JobData → List Visit → Type 0
 HasLong answers job visits = SomeAsked answers job visits (λ visit c.
     HasLongRun (sets answers job visits) (known_name (answers.sheet visit) visit) c.tokens)
 
-abbrev pub HasPresumed : Answers → JobData → List Visit → Type 0
+abbrev pub HasPresumed : AnalysisAnswers → JobData → List Visit → Type 0
 HasPresumed answers job visits = SomeAsked answers job visits (λ visit c.
     HasPresumedRun (sets answers job visits) (known_name (answers.sheet visit) visit) c.tokens)
 
@@ -178,7 +178,7 @@ abbrev pub HasMoreThan : ℕ → List Visit → Type 0
 HasMoreThan limit visits = (some : List Visit) × EachOnce some × Within some visits × (limit < length some)
 
 -- a refusal that is met at a list of visits
-abbrev pub IsMet : Refusal → Answers → JobData → ℕ → List Visit → Type 0
+abbrev pub IsMet : Refusal → AnalysisAnswers → JobData → ℕ → List Visit → Type 0
 IsMet Budget answers job budget visits = HasMany answers job budget visits
 IsMet Long answers job budget visits = HasLong answers job visits
 IsMet Presumed answers job budget visits = HasPresumed answers job visits

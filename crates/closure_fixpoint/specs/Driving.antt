@@ -9,7 +9,7 @@ use Rattle.closure_fixpoint.specs.declared.job_analysis.Refusal.{Refusal}
 use Rattle.closure_fixpoint.specs.declared.job_analysis.Ending.{Ending}
 use Rattle.closure_fixpoint.specs.declared.job_analysis.Ending.TheVariants as ending
 use Rattle.closure_fixpoint.specs.Closure.{answers_of}
-use Rattle.closure_fixpoint.specs.Progress.{Heard, IsTrueOf, DoneMeans, located_told}
+use Rattle.closure_fixpoint.specs.Progress.{Heard, HeardIsTrueOf, DoneMeans, located_told}
 use Rattle.closure_fixpoint.specs.Told.{Progress, AreNodesOf, RefusalMeans}
 use Rattle.closure_fixpoint.specs.Gathering.{are_rising}
 
@@ -19,7 +19,7 @@ is_large_in tree visit = nat_lt body_limit (length (body_of_place tree visit.pla
 
 -- all that was told is true of a tree
 abbrev pub IsTrueIn : FileTree → JobData → Heard → Type 0
-IsTrueIn tree job heard = IsTrueOf (answers_of tree job) (is_large_in tree) heard
+IsTrueIn tree job heard = HeardIsTrueOf (answers_of tree job) (is_large_in tree) heard
 
 -- an analysis of this job with this budget, which was told what is true of a tree
 pub record IsOfTree (tree : FileTree) (job : JobData) (budget : ℕ) (p : Progress) : Type 0 where
@@ -28,8 +28,8 @@ pub record IsOfTree (tree : FileTree) (job : JobData) (budget : ℕ) (p : Progre
   pub told : IsTrueIn tree job p.heard
 
 -- it is, unless memory was wanting
-abbrev pub GoesOn : FileTree → JobData → ℕ → Progress → Type 0
-GoesOn tree job budget p = p.broken ≡ false → IsOfTree tree job budget p
+abbrev pub IsOfTreeUnlessBroken : FileTree → JobData → ℕ → Progress → Type 0
+IsOfTreeUnlessBroken tree job budget p = p.broken ≡ false → IsOfTree tree job budget p
 
 -- the end of an analysis that was told what is true of a tree: the closure and its nodes, in order of their spellings
 pub record IsDoneIn (tree : FileTree) (job : JobData) (budget : ℕ) (visits : List Visit) (nodes : List Path) : Type 0 where
@@ -51,7 +51,7 @@ EndsSo tree job budget (ending.Refused refusal) = IsRefusedIn tree job budget re
 
 -- a step goes on, or it is the last
 abbrev pub StepsSo : FileTree → JobData → ℕ → Progress → Option Ending → Type 0
-StepsSo tree job budget p None = GoesOn tree job budget p
+StepsSo tree job budget p None = IsOfTreeUnlessBroken tree job budget p
 StepsSo tree job budget p (Some end) = EndsSo tree job budget end
 
 -- the nodes of an end are canonical

@@ -61,13 +61,13 @@ is_repeated path [] = false
 is_repeated path (next ∷ paths) = not (comes_before path next)
 
 -- a path, where it isn't repeated
-abbrev pub kept : Path → List Path → List Path
-kept path behind = cond (is_repeated path behind) [] (path ∷ [])
+abbrev pub unless_repeated : Path → List Path → List Path
+unless_repeated path behind = cond (is_repeated path behind) [] (path ∷ [])
 
 -- of paths in order each once
-abbrev pub each_once : List Path → List Path
-each_once [] = []
-each_once (path ∷ paths) = kept path paths ++ each_once paths
+abbrev pub paths_once : List Path → List Path
+paths_once [] = []
+paths_once (path ∷ paths) = unless_repeated path paths ++ paths_once paths
 
 -- ---- the entries ----
 
@@ -90,18 +90,18 @@ is_over job entries = nat_lt 100000 (length entries) || nat_lt most (length (req
 
 -- what is gathered of nodes: their entries, or `Large` where a file among these is too large, else `Request` where they are
 -- over the limits
-abbrev pub IsGathered : FileTree → JobData → List Path → Gathered → Type 0
-IsGathered tree job nodes (gathered.Entries entries) =
+abbrev pub GathersNodes : FileTree → JobData → List Path → Gathered → Type 0
+GathersNodes tree job nodes (gathered.Entries entries) =
     AreGathered tree nodes entries.items × (HasLarge entries.items → ⊥) × (is_over job entries.items ≡ false)
-IsGathered tree job nodes (gathered.Refused refusal.Large) = (entries : Entries) × AreGathered tree nodes entries × HasLarge entries
-IsGathered tree job nodes (gathered.Refused refusal.Request) =
+GathersNodes tree job nodes (gathered.Refused refusal.Large) = (entries : Entries) × AreGathered tree nodes entries × HasLarge entries
+GathersNodes tree job nodes (gathered.Refused refusal.Request) =
     (entries : Entries) × AreGathered tree nodes entries × (HasLarge entries → ⊥) × (is_over job entries ≡ true)
-IsGathered tree job nodes (gathered.Refused _) = ⊥
+GathersNodes tree job nodes (gathered.Refused _) = ⊥
 
 -- what is gathered of any tree has a request
-abbrev pub FitsRequest : JobData → Gathered → Type 0
-FitsRequest job (gathered.Entries entries) = IsTrue (makes_tree entries.items) × All HasSpelling entries.items × (is_over job entries.items ≡ false)
-FitsRequest job (gathered.Refused why) = Unit {0}
+abbrev pub GatheredFits : JobData → Gathered → Type 0
+GatheredFits job (gathered.Entries entries) = IsTrue (makes_tree entries.items) × All HasSpelling entries.items × (is_over job entries.items ≡ false)
+GatheredFits job (gathered.Refused why) = Unit {0}
 
 -- how many files there are
 abbrev pub files_there : Option Entry → ℕ

@@ -19,7 +19,7 @@ use Rattle.tree_model.specs.Paths.{Text}
 use Rattle.search_path.specs.declared.asking.Visit.{Visit}
 use Rattle.job_words.specs.JobOf.{JobData}
 use Rattle.sheet_build.specs.Sheet.{SheetData, ComputedAsk}
-use Rattle.closure_fixpoint.specs.Closure.{first_definitions, sets_of, known_name}
+use Rattle.closure_fixpoint.specs.Closure.{first_definitions, definition_sets, known_name}
 use Rattle.closure_fixpoint.specs.Progress.{IsTold, MayTold}
 use Rattle.closure_fixpoint.specs.Targets.{RefusesNames, heard_of}
 use Rattle.closure_fixpoint.specs.declared.job_analysis.Refusal.{Refusal}
@@ -32,7 +32,7 @@ use Rattle.closure_fixpoint.specs.declared.naming.Rest.{Rest}
 
 -- kept sets have just the definitions of a list
 abbrev pub HasJust : Defined → List Named → Type 0
-HasJust sets definitions = (name : Text) (d : MacroDefinition) → Contains (kept.sets_of sets name) d ↔ Contains (sets_of definitions name) d
+HasJust sets definitions = (name : Text) (d : MacroDefinition) → Contains (kept.sets_of sets name) d ↔ Contains (definition_sets definitions name) d
 
 -- the definitions of sheets that were told
 abbrev pub definitions_in : List (Visit × SheetData) → List Named
@@ -52,19 +52,19 @@ pub record Grew (old : Grown) (definitions : List Named) (new : Grown) : Type 0 
 -- ---- answers that are kept ----
 
 -- what a computed target's answer rests on beside the definitions: its presumed name, where that is known, and its tokens
-abbrev pub target_of : Visit → SheetData → ComputedAsk → Option Text × List Token
-target_of visit sheet c = (known_name sheet visit, c.tokens)
+abbrev pub asked_target : Visit → SheetData → ComputedAsk → Option Text × List Token
+asked_target visit sheet c = (known_name sheet visit, c.tokens)
 
 -- the computed targets of sheets, in order
 abbrev pub targets_in : Visit × SheetData → List (Option Text × List Token)
-targets_in told = map (target_of told.0 told.1) told.1.computed
+targets_in told = map (asked_target told.0 told.1) told.1.computed
 
-abbrev pub targets_of : List (Visit × SheetData) → List (Option Text × List Token)
-targets_of sheets = flat_map targets_in sheets
+abbrev pub asked_targets : List (Visit × SheetData) → List (Option Text × List Token)
+asked_targets sheets = flat_map targets_in sheets
 
 -- some targets of a sheet have numbers from this one on
 abbrev pub HasTargetsAt : List (Visit × SheetData) → ℕ → Visit → SheetData → List ComputedAsk → Type 0
-HasTargetsAt sheets first visit sheet cs = (k : ℕ) (c : ComputedAsk) → slice_get cs k ≡ Some c → slice_get (targets_of sheets) (first + k) ≡ Some (target_of visit sheet c)
+HasTargetsAt sheets first visit sheet cs = (k : ℕ) (c : ComputedAsk) → slice_get cs k ≡ Some c → slice_get (asked_targets sheets) (first + k) ≡ Some (asked_target visit sheet c)
 
 -- the names of some tokens under definition sets, where no refusal holds
 pub record NamesUnder (budget : ℕ) (sets : Sets) (file : Option Text) (tokens : List Token) (names : Names) : Type 0 where
@@ -88,12 +88,12 @@ abbrev pub NoneSince : List Text → Kept → Type 0
 NoneSince log answer = (name : Text) → Contains answer.names.support name → Member name (drop answer.mark log) → ⊥
 
 -- an answer's mark lies within the log, and the names that it rests on stand in the order of their bytes
-pub record IsReady (known : ℕ) (answer : Kept) : Type 0 where
+pub record KeptIsReady (known : ℕ) (answer : Kept) : Type 0 where
   pub marked : answer.mark ≤ known
   pub ordered : IsStrictlySortedBy text_cmp answer.names.support
 
 abbrev pub AreReady : ℕ → List Kept → Type 0
-AreReady known answers = (number : ℕ) (answer : Kept) → slice_get answers number ≡ Some answer → IsReady known answer
+AreReady known answers = (number : ℕ) (answer : Kept) → slice_get answers number ≡ Some answer → KeptIsReady known answer
 
 -- an answer is put for a target, or none is; the others stay
 abbrev pub Puts : List Kept → ℕ → Kept → List Kept → Type 0
@@ -119,8 +119,8 @@ IsAnew budget grown target old number (Err refusal) new =
     IsDistinct (kept.sets_of grown.sets) × RefusesNames budget (kept.sets_of grown.sets) target.0 target.1 refusal × (new ≡ old)
 
 -- the answers that are kept, by the numbers of their targets
-abbrev pub AreKept : Grown → List (Option Text × List Token) → List Kept → Type 0
-AreKept grown targets answers = (number : ℕ) (answer : Kept) → slice_get answers number ≡ Some answer →
+abbrev pub AnswersAreKept : Grown → List (Option Text × List Token) → List Kept → Type 0
+AnswersAreKept grown targets answers = (number : ℕ) (answer : Kept) → slice_get answers number ≡ Some answer →
     (target : Option Text × List Token) × (slice_get targets number ≡ Some target) × IsKept grown.sets grown.log.items target answer
 
 -- what is left of a computed target: its headers, each of which it may name under these sheets
@@ -137,8 +137,8 @@ abbrev pub IsLeft : JobData → List (Visit × SheetData) → Rest → Type 0
 IsLeft job sheets rest = (rest.told ≤ length sheets) × IsRest job (take rest.told sheets) rest
 
 -- all headers of a target, of which something is wanted
-abbrev pub rest_of : ℕ → Visit → ComputedAsk → Vec HeaderName Global → Rest
-rest_of told visit c headers = record { told = told; visit = visit; form = c.form; include = not c.probe; headers = headers; next = 0 }
+abbrev pub headers_to_ask : ℕ → Visit → ComputedAsk → Vec HeaderName Global → Rest
+headers_to_ask told visit c headers = record { told = told; visit = visit; form = c.form; include = not c.probe; headers = headers; next = 0 }
 
 -- nothing is kept until a first computed target comes; then the definitions are those of the job and of some of the sheets that
 -- were told, and the answers are those of the first of their targets
@@ -146,7 +146,7 @@ pub record Follows (naming : Naming) (job : JobData) (sheets : List (Visit × Sh
   pub few : naming.told ≤ length sheets
   pub unread : naming.begun ≡ false → (naming.told ≡ 0) × (naming.kept.items ≡ [])
   pub sets : naming.begun ≡ true → HasJust naming.grown.sets (definitions_to job naming.told sheets)
-  pub kept : AreKept naming.grown (targets_of sheets) naming.kept.items
+  pub kept : AnswersAreKept naming.grown (asked_targets sheets) naming.kept.items
   pub left : (rest : Rest) → naming.rest ≡ Some rest → IsLeft job sheets rest
 
 -- an answer that is kept for a target holds still within a budget

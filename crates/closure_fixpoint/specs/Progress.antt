@@ -13,7 +13,7 @@ use Rattle.search_path.specs.declared.asking.Ask.{Ask}
 use Rattle.job_words.specs.JobOf.{JobData}
 use Rattle.search_path.specs.Asks.{source_ask}
 use Rattle.sheet_build.specs.Sheet.{SheetData, ComputedAsk}
-use Rattle.closure_fixpoint.specs.Closure.{Answers, first_definitions, sets_of, computed_ask, known_name, first_asks, IsClosedFor, IsClosureFor, Known, IsMet}
+use Rattle.closure_fixpoint.specs.Closure.{AnalysisAnswers, first_definitions, definition_sets, computed_ask, known_name, first_asks, IsClosedFor, IsClosureFor, IsKnownSearch, IsMet}
 use Rattle.closure_fixpoint.specs.declared.job_analysis.Refusal.{Refusal}
 
 -- what an analysis was told: searches with their answers, and sheets of visits, in order; and a visit whose file is too large
@@ -23,7 +23,7 @@ pub record Heard : Type 0 where
   pub large : Option Visit
 
 -- what it was told is true of some answers; `is_large` tells of a visit whether its file is too large
-pub record IsTrueOf (answers : Answers) (is_large : Visit → Bool) (heard : Heard) : Type 0 where
+pub record HeardIsTrueOf (answers : AnalysisAnswers) (is_large : Visit → Bool) (heard : Heard) : Type 0 where
   pub searches : (ask : Ask) (got : Option Hit) → Member (ask, got) heard.searches → answers.find ask ≡ got
   pub sheets : (visit : Visit) (sheet : SheetData) → Member (visit, sheet) heard.sheets → answers.sheet visit ≡ sheet
   pub large : (visit : Visit) → heard.large ≡ Some visit → is_large visit ≡ true
@@ -44,7 +44,7 @@ abbrev pub definitions_told : JobData → Heard → List Named
 definitions_told job heard = first_definitions job ++ flat_map (λ told. told.1.defs) heard.sheets
 
 abbrev pub sets_told : JobData → Heard → Sets
-sets_told job heard = sets_of (definitions_told job heard)
+sets_told job heard = definition_sets (definitions_told job heard)
 
 -- an ask was answered, and this was found
 abbrev pub WasFound : Heard → Ask → Hit → Type 0
@@ -77,14 +77,14 @@ pub data IsWanted (job : JobData) (heard : Heard) (ask : Ask) : Type 0 where
 
 -- THE INVARIANT. The visits found, in order, each once; the sheets told are those of some of them; each search was wanted; and each visit lies in every list
 -- that is closed under answers of which all that was told is true.
-pub record Keeps (job : JobData) (heard : Heard) (found : List Visit) : Type 0 where
+pub record FoundKeeps (job : JobData) (heard : Heard) (found : List Visit) : Type 0 where
   pub once : EachOnce found
   pub asked : Within (visits_told heard) found
   pub wanted : (ask : Ask) (got : Option Hit) → Member (ask, got) heard.searches → IsWanted job heard ask
-  pub sure : (answers : Answers) (is_large : Visit → Bool) → IsTrueOf answers is_large heard → (other : List Visit) → IsClosedFor answers job other → Within found other
+  pub sure : (answers : AnalysisAnswers) (is_large : Visit → Bool) → HeardIsTrueOf answers is_large heard → (other : List Visit) → IsClosedFor answers job other → Within found other
 
 -- a search was made, and the visit of the file that it found, where it is one, was found
-pub record IsMade (searches : List (Ask × Option Hit)) (found : List Visit) (ask : Ask) (include : Bool) : Type 0 where
+pub record SearchIsMade (searches : List (Ask × Option Hit)) (found : List Visit) (ask : Ask) (include : Bool) : Type 0 where
   pub got : Option Hit
   pub told : Member (ask, got) searches
   pub visit : (hit : Hit) → got ≡ Some hit → include ≡ true → Member hit.0 found
@@ -98,9 +98,9 @@ PlainAreFound heard found = (visit : Visit) (sheet : SheetData) (hit : Hit) → 
 pub record IsEnough (job : JobData) (heard : Heard) (found : List Visit) : Type 0 where
   pub sheets : Within found (visits_told heard)
   pub plain : PlainAreFound heard found
-  pub first : (ask : Ask) → Member ask (first_asks job) → IsMade heard.searches found ask true
+  pub first : (ask : Ask) → Member ask (first_asks job) → SearchIsMade heard.searches found ask true
   pub computed : (visit : Visit) (sheet : SheetData) (c : ComputedAsk) (header : HeaderName) → IsTold heard visit sheet c → MayTold job heard visit sheet c header
-      → IsMade heard.searches found (computed_ask visit c header) (not c.probe)
+      → SearchIsMade heard.searches found (computed_ask visit c header) (not c.probe)
 
 -- no refusal is met under what was told
 pub record IsAccepted (job : JobData) (budget : ℕ) (heard : Heard) (found : List Visit) : Type 0 where
@@ -129,19 +129,19 @@ pub record DoneMeans (job : JobData) (budget : ℕ) (heard : Heard) (visits : Li
   pub once : EachOnce visits
   pub asked : Within visits (visits_told heard)
   pub small : heard.large ≡ None
-  pub closure : (answers : Answers) (is_large : Visit → Bool) → IsTrueOf answers is_large heard → IsClosureFor answers job visits
-  pub accepted : (answers : Answers) (is_large : Visit → Bool) → IsTrueOf answers is_large heard → (refusal : Refusal) → IsMet refusal answers job budget visits → ⊥
-  pub located : (answers : Answers) (is_large : Visit → Bool) → IsTrueOf answers is_large heard → (l : Located) → Known answers job visits l ↔ Member l (located_told heard)
+  pub closure : (answers : AnalysisAnswers) (is_large : Visit → Bool) → HeardIsTrueOf answers is_large heard → IsClosureFor answers job visits
+  pub accepted : (answers : AnalysisAnswers) (is_large : Visit → Bool) → HeardIsTrueOf answers is_large heard → (refusal : Refusal) → IsMet refusal answers job budget visits → ⊥
+  pub located : (answers : AnalysisAnswers) (is_large : Visit → Bool) → HeardIsTrueOf answers is_large heard → (l : Located) → IsKnownSearch answers job visits l ↔ Member l (located_told heard)
 
 -- the answer that it is refused: it is met at every closed list, so at the closure
 abbrev pub RefusedMeans : JobData → ℕ → Heard → Refusal → Type 0
 RefusedMeans job budget heard refusal =
-    (answers : Answers) (is_large : Visit → Bool) → IsTrueOf answers is_large heard → (visits : List Visit) → IsClosedFor answers job visits → IsMet refusal answers job budget visits
+    (answers : AnalysisAnswers) (is_large : Visit → Bool) → HeardIsTrueOf answers is_large heard → (visits : List Visit) → IsClosedFor answers job visits → IsMet refusal answers job budget visits
 
 -- a too large file that was told is that of a visit of every closed list
 abbrev pub LargeMeans : JobData → Heard → Type 0
 LargeMeans job heard =
-    (answers : Answers) (is_large : Visit → Bool) → IsTrueOf answers is_large heard → (other : List Visit) → IsClosedFor answers job other
+    (answers : AnalysisAnswers) (is_large : Visit → Bool) → HeardIsTrueOf answers is_large heard → (other : List Visit) → IsClosedFor answers job other
     → (visit : Visit) × Member visit other × (is_large visit ≡ true)
 
 -- a question that wasn't asked before, and that may be asked
@@ -152,4 +152,4 @@ pub record IsNewSearch (job : JobData) (heard : Heard) (ask : Ask) : Type 0 wher
 -- a visit whose sheet wasn't asked for before, of every closed list
 pub record IsNewSheet (job : JobData) (heard : Heard) (visit : Visit) : Type 0 where
   pub fresh : Member visit (visits_told heard) → ⊥
-  pub wanted : (answers : Answers) (is_large : Visit → Bool) → IsTrueOf answers is_large heard → (other : List Visit) → IsClosedFor answers job other → Member visit other
+  pub wanted : (answers : AnalysisAnswers) (is_large : Visit → Bool) → HeardIsTrueOf answers is_large heard → (other : List Visit) → IsClosedFor answers job other → Member visit other

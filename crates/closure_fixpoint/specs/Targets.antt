@@ -17,7 +17,7 @@ use Rattle.closure_fixpoint.specs.declared.wanting.Want.{Want}
 use Rattle.closure_fixpoint.specs.declared.wanting.Want.TheVariants as want
 use Rattle.sheet_build.specs.Sheet.{SheetData, ComputedAsk}
 use Rattle.closure_fixpoint.specs.Closure.{computed_ask, known_name}
-use Rattle.closure_fixpoint.specs.Progress.{Heard, with_search, sets_told, IsTold, MayTold, IsDue, IsWanted, IsMade}
+use Rattle.closure_fixpoint.specs.Progress.{Heard, with_search, sets_told, IsTold, MayTold, IsDue, IsWanted, SearchIsMade}
 use Rattle.closure_fixpoint.specs.Asked.{HasNoAnswer}
 
 abbrev pub heard_of : List (Ask × Option Hit) → List (Visit × SheetData) → Heard
@@ -45,7 +45,7 @@ IsNextWant job heard found (want.Visit visit) = IsDue job heard visit × (Member
 -- nothing is wanted of a computed target, and no refusal holds of it
 pub record IsDoneWith (job : JobData) (budget : ℕ) (heard : Heard) (found : List Visit) (visit : Visit) (sheet : SheetData) (c : ComputedAsk) : Type 0 where
   pub accepted : (refusal : Refusal) → RefusesNames budget (sets_told job heard) (known_name sheet visit) c.tokens refusal → ⊥
-  pub made : (header : HeaderName) → MayTold job heard visit sheet c header → IsMade heard.searches found (computed_ask visit c header) (not c.probe)
+  pub made : (header : HeaderName) → MayTold job heard visit sheet c header → SearchIsMade heard.searches found (computed_ask visit c header) (not c.probe)
 
 -- a refusal of a computed target that was told
 pub record IsRefusedTarget (job : JobData) (budget : ℕ) (heard : Heard) (refusal : Refusal) : Type 0 where

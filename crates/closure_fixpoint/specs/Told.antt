@@ -13,7 +13,7 @@ use Rattle.closure_fixpoint.specs.declared.job_analysis.Refusal.{Refusal}
 use Rattle.closure_fixpoint.specs.declared.job_analysis.Refusal.TheVariants.{Large}
 use Rattle.closure_fixpoint.specs.declared.fixpoint.Next.{Next}
 use Rattle.closure_fixpoint.specs.declared.fixpoint.Next.TheVariants as next
-use Rattle.closure_fixpoint.specs.Progress.{Heard, with_search, with_sheet, IsWanted, IsDue, Keeps, located_told, DoneMeans, RefusedMeans, LargeMeans, IsNewSearch, IsNewSheet, IsEnough, IsAccepted, visits_told, PlainAreFound}
+use Rattle.closure_fixpoint.specs.Progress.{Heard, with_search, with_sheet, IsWanted, IsDue, FoundKeeps, located_told, DoneMeans, RefusedMeans, LargeMeans, IsNewSearch, IsNewSheet, IsEnough, IsAccepted, visits_told, PlainAreFound}
 use Rattle.closure_fixpoint.specs.Gathering.{are_rising}
 use Rattle.closure_fixpoint.specs.Asked.{HasNoAnswer}
 use Rattle.closure_fixpoint.specs.Naming.{Follows}
@@ -92,11 +92,11 @@ NextMeans old (next.Refused refusal) new = IsRefused old refusal new
 NextMeans old next.Memory new = HasNoMemory new
 
 -- what is answered after the end: the same, or that memory is wanting; a refusal is the same always
-abbrev pub Says : Ended → Next → Type 0
-Says Finished (next.Done closure) = Unit {0}
-Says Finished next.Memory = Unit {0}
-Says Finished _ = ⊥
-Says (RefusedBy refusal) answer = answer ≡ next.Refused refusal
+abbrev pub SaysAfterEnd : Ended → Next → Type 0
+SaysAfterEnd Finished (next.Done closure) = Unit {0}
+SaysAfterEnd Finished next.Memory = Unit {0}
+SaysAfterEnd Finished _ = ⊥
+SaysAfterEnd (RefusedBy refusal) answer = answer ≡ next.Refused refusal
 
 -- what is answered where a file was too large
 abbrev pub SaysLarge : Next → Type 0
@@ -132,8 +132,8 @@ IsRight job heard found (OfSheet visit) = Member visit found × (heard.large ≡
 -- each told sheet is that of a visit found, in order; a visit whose file is too large was found; after the end nothing is left to ask
 -- and no refusal is met, or the refusal holds, which is the one for a too large file where there is one, and nothing is asked for; each
 -- told sheet's plain includes were found
-pub record Stands (p : Progress) : Type 0 where
-  pub keeps : Keeps p.job p.heard p.found
+pub record ProgressStands (p : Progress) : Type 0 where
+  pub keeps : FoundKeeps p.job p.heard p.found
   pub right : IsRight p.job p.heard p.found p.pending
   pub in_order : p.broken ≡ false → visits_told p.heard ≡ take (length p.heard.sheets) p.found
   pub plain : p.broken ≡ false → PlainAreFound p.heard p.found
@@ -145,5 +145,5 @@ pub record Stands (p : Progress) : Type 0 where
 
 -- the same, with what is kept of the definitions that were told
 pub record StandsBy (naming : Naming) (p : Progress) : Type 0 where
-  pub stands : Stands p
+  pub stands : ProgressStands p
   pub follows : p.broken ≡ false → Follows naming p.job p.heard.sheets

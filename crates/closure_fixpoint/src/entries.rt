@@ -9,7 +9,7 @@ ghost use Rattle.tree_model.specs.Entries.{Increasing, is_dir_at};
 ghost use Rattle.tree_model.specs.Trees as trees;
 ghost use Rattle.tree_model.specs.Trees.{IsTooLarge, node_at};
 ghost use Rattle.job_frames.specs.Request.{HasSpelling};
-ghost use Rattle.closure_fixpoint.specs.Gathering.{IsSendable, are_rising, kept_at, gathered_from, files_there, files_among, IsGathered, FitsRequest, ReadsFiles, AreKept, AddsAt, HasLarge};
+ghost use Rattle.closure_fixpoint.specs.Gathering.{IsSendable, are_rising, kept_at, gathered_from, files_there, files_among, GathersNodes, GatheredFits, ReadsFiles, AreKept, AddsAt, HasLarge};
 
 use crate::lengths::is_too_long;
 use crate::nodes::in_order;
@@ -39,8 +39,8 @@ pub fn gather<T: Tree>(
     closure: &Closure,
 ) -> Result<Gathered, TreeError>
     ensures same { T.told tree.new ≡ T.told tree.old }
-    ensures gathered { ForSome (T.told tree.old) (λ told. IfOk result (IsGathered told job.now closure.now.nodes)) }
-    ensures fits { IfOk result (FitsRequest job.now) }
+    ensures gathered { ForSome (T.told tree.old) (λ told. IfOk result (GathersNodes told job.now closure.now.nodes)) }
+    ensures fits { IfOk result (GatheredFits job.now) }
     ensures reads { IfOk result (ReadsFiles (T.reads tree.old) (T.reads tree.new)) }
     ensures cause { HasCause TreeError.Fault (T.faults tree.old) (T.faults tree.new) result }
     ensures never_large { IsErrOf result TreeError.Large → ⊥ }

@@ -7,11 +7,11 @@
 // at every closed list. The state's meaning is `Heard` in specs/Progress.antt.
 ghost use Rattle.std.specs.Prelude.{◌≡◌, ◌<◌, length, IfOk, IfSome, IfNone, IsTrue, IsFalse, Bool, None, Some};
 ghost use Rattle.closure_fixpoint.specs.Progress.{IsEnough, IsAccepted};
-ghost use Rattle.closure_fixpoint.specs.parts.Seen.{end_of};
+ghost use Rattle.closure_fixpoint.specs.parts.Seen.{ended_by};
 ghost use Rattle.closure_fixpoint.specs.parts.Plan.{PlanMeans, AsksNext, IsWhole};
 ghost use Rattle.closure_fixpoint.specs.Targets.{heard_of, IsNextWant};
 ghost use Rattle.search_path.specs.declared.asking.Visit.{Visit as VisitSeen};
-ghost use Rattle.closure_fixpoint.specs.Told.{IsBegun, NextMeans, PutsSearch, PutsSheet, PutsLarge, OfSearch, OfSheet, Ended, Finished, Says, SaysLarge, RefusalMeans, IsRefused, HasNoMemory};
+ghost use Rattle.closure_fixpoint.specs.Told.{IsBegun, NextMeans, PutsSearch, PutsSheet, PutsLarge, OfSearch, OfSheet, Ended, Finished, SaysAfterEnd, SaysLarge, RefusalMeans, IsRefused, HasNoMemory};
 
 use crate::Refusal;
 use crate::naming::Naming;
@@ -133,7 +133,7 @@ impl Fixpoint {
     /// answers the same, after `Done` the same or `Memory`.
     pub fn next(&mut self) -> Next
         ensures means { NextMeans self.old result self.new }
-        ensures stays { (ended : Ended) → self.old.ended ≡ Some ended → IsFalse self.old.broken → Says ended result }
+        ensures stays { (ended : Ended) → self.old.ended ≡ Some ended → IsFalse self.old.broken → SaysAfterEnd ended result }
         ensures large { (visit : Visit) → self.old.heard.large ≡ Some visit → SaysLarge result }
         ensures broken { IsTrue self.old.broken → result ≡ Next.Memory }
     {
@@ -152,9 +152,9 @@ impl Fixpoint {
     // The answer of an analysis that ended so.
     fn again(&mut self, end: End) -> Next
         requires calm { IsFalse self.old.broken }
-        requires ended { self.old.ended ≡ Some (end_of end) }
+        requires ended { self.old.ended ≡ Some (ended_by end) }
         ensures means { NextMeans self.old result self.new }
-        ensures says { Says (end_of end) result }
+        ensures says { SaysAfterEnd (ended_by end) result }
         ensures large { (visit : Visit) → self.old.heard.large ≡ Some visit → SaysLarge result }
     {
         // A function knows what a struct keeps where it looks at a field.
@@ -280,7 +280,7 @@ impl Fixpoint {
         requires enough { IsEnough self.old.job self.old.heard self.old.found }
         requires accepted { IsAccepted self.old.job self.old.budget self.old.heard self.old.found }
         ensures means { NextMeans self.old result self.new }
-        ensures says { Says Finished result }
+        ensures says { SaysAfterEnd Finished result }
     {
         more_definitions::<HeaderName>();
         match closure_of(self.alloc, &self.searches, &self.sheets, &self.found) {

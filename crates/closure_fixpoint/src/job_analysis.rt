@@ -5,7 +5,7 @@ ghost use Rattle.base_types.specs.Causes.{HasCause};
 ghost use Rattle.search_path.specs.Search.{NeedsFrom};
 ghost use Rattle.closure_fixpoint.specs.Analysis.{AnalysisHolds};
 ghost use Rattle.closure_fixpoint.specs.Told.{OfSearch, OfSheet};
-ghost use Rattle.closure_fixpoint.specs.Driving.{IsOfTree, GoesOn, StepsSo, EndsSo, IsDoneIn, HasCanonicalNodes};
+ghost use Rattle.closure_fixpoint.specs.Driving.{IsOfTree, IsOfTreeUnlessBroken, StepsSo, EndsSo, IsDoneIn, HasCanonicalNodes};
 ghost use Rattle.closure_fixpoint.specs.Requested.{ReadsEntries};
 
 use crate::{Closure, Fixpoint, Gathered, Next, gather, refusals_hold};
@@ -127,7 +127,7 @@ fn step<T: Tree>(
     analysis: &mut Fixpoint,
 ) -> Result<Option<Ending>, TreeError>
     ensures same { T.told tree.new ≡ T.told tree.old }
-    ensures steps { ForSome (T.told tree.old) (λ told. IfOk result (λ end. (budget : ℕ) → GoesOn told job.now budget analysis.old → StepsSo told job.now budget analysis.new end)) }
+    ensures steps { ForSome (T.told tree.old) (λ told. IfOk result (λ end. (budget : ℕ) → IsOfTreeUnlessBroken told job.now budget analysis.old → StepsSo told job.now budget analysis.new end)) }
     ensures canonical { IfOk result (λ end. IfSome end HasCanonicalNodes) }
     ensures cause { HasCause TreeError.Fault (T.faults tree.old) (T.faults tree.new) result }
     ensures never_large { IsErrOf result TreeError.Large → ⊥ }
@@ -157,7 +157,7 @@ fn answer_search<T: Tree>(
 ) -> Result<(), TreeError>
     requires { NeedsFrom ask.now.form ask.now.from }
     ensures same { T.told tree.new ≡ T.told tree.old }
-    ensures told { ForSome (T.told tree.old) (λ told. OnOk result ((budget : ℕ) (include : Bool) → analysis.old.pending ≡ OfSearch ask.now include → IsOfTree told job.now budget analysis.old → GoesOn told job.now budget analysis.new)) }
+    ensures told { ForSome (T.told tree.old) (λ told. OnOk result ((budget : ℕ) (include : Bool) → analysis.old.pending ≡ OfSearch ask.now include → IsOfTree told job.now budget analysis.old → IsOfTreeUnlessBroken told job.now budget analysis.new)) }
     ensures cause { HasCause TreeError.Fault (T.faults tree.old) (T.faults tree.new) result }
     ensures never_large { IsErrOf result TreeError.Large → ⊥ }
 {
@@ -179,7 +179,7 @@ fn answer_sheet<T: Tree>(
     analysis: &mut Fixpoint,
 ) -> Result<(), TreeError>
     ensures same { T.told tree.new ≡ T.told tree.old }
-    ensures told { ForSome (T.told tree.old) (λ told. OnOk result ((budget : ℕ) → analysis.old.pending ≡ OfSheet visit.now → IsOfTree told job.now budget analysis.old → GoesOn told job.now budget analysis.new)) }
+    ensures told { ForSome (T.told tree.old) (λ told. OnOk result ((budget : ℕ) → analysis.old.pending ≡ OfSheet visit.now → IsOfTree told job.now budget analysis.old → IsOfTreeUnlessBroken told job.now budget analysis.new)) }
     ensures cause { HasCause TreeError.Fault (T.faults tree.old) (T.faults tree.new) result }
     ensures never_large { IsErrOf result TreeError.Large → ⊥ }
 {

@@ -7,7 +7,7 @@ ghost use Rattle.macro_defs.specs.Defining.{Named};
 ghost use Rattle.symbolic_expand.specs.Defined.{sets_of};
 ghost use Rattle.symbolic_expand.specs.Texts.{text_cmp};
 ghost use Rattle.closure_fixpoint.specs.Closure.{first_definitions, word_definition, known_name};
-ghost use Rattle.closure_fixpoint.specs.Naming.{HasJust, ExpandsTo, NoneSince, HoldsStill, IsReady, AreReady, Puts, IsAgain, IsAnew, KeepsUp, Follows, IsUpToDate, targets_of, target_of};
+ghost use Rattle.closure_fixpoint.specs.Naming.{HasJust, ExpandsTo, NoneSince, HoldsStill, KeptIsReady, AreReady, Puts, IsAgain, IsAnew, KeepsUp, Follows, IsUpToDate, asked_targets, asked_target};
 ghost use Rattle.closure_fixpoint.specs.Targets.{NamesSeen};
 
 use crate::Refusal;
@@ -234,7 +234,7 @@ fn is_among(names: &[Bytes], name: &[u8]) -> bool
 
 // Whether a name that an answer rests on got a definition since.
 fn is_touched(log: &[Bytes], kept: &Kept) -> bool
-    requires { IsReady (length log.now) kept.now }
+    requires { KeptIsReady (length log.now) kept.now }
     ensures { IsFalse result → NoneSince log.now kept.now }
 {
     let (_, since) = log.split_at(kept.mark);
@@ -301,7 +301,7 @@ fn anew(
     target: &Computed,
     number: usize,
 ) -> Result<Result<Vec<HeaderName>, Refusal>, AllocError>
-    ensures { IfOk result (λ names. IsAnew budget grown.now (target_of visit.now sheet.now target.now) kept.old.items number names kept.new.items) }
+    ensures { IfOk result (λ names. IsAnew budget grown.now (asked_target visit.now sheet.now target.now) kept.old.items number names kept.new.items) }
 {
     match expand(alloc, &grown.sets, budget, visit, sheet, target)? {
         Err(refusal) => return Ok(Err(refusal)),
@@ -336,7 +336,7 @@ pub fn names_of(
     number: usize,
 ) -> Result<Result<Vec<HeaderName>, Refusal>, AllocError>
     requires follows { Follows naming.old job.now sheets.now }
-    requires number { slice_get (targets_of sheets.now) number ≡ Some (target_of visit.now sheet.now target.now) }
+    requires number { slice_get (asked_targets sheets.now) number ≡ Some (asked_target visit.now sheet.now target.now) }
     ensures names { IfOk result (λ names. NamesSeen job.now budget sheets.now visit.now sheet.now target.now names) }
     ensures follows { OnOk result (Follows naming.new job.now sheets.now) }
 {

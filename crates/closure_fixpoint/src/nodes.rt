@@ -8,7 +8,7 @@ ghost use Rattle.closure_fixpoint.specs.Gathering as gathering;
 ghost use Rattle.closure_fixpoint.specs.Progress.{located_told};
 ghost use Rattle.closure_fixpoint.specs.Targets.{heard_of};
 ghost use Rattle.closure_fixpoint.specs.Told.{AreNodesOf};
-ghost use Rattle.closure_fixpoint.specs.Gathering.{upward, all_upward, found_walked, searched_walked, hits_walked, sheets_walked, kept, are_rising};
+ghost use Rattle.closure_fixpoint.specs.Gathering.{upward, all_upward, found_walked, searched_walked, hits_walked, sheets_walked, unless_repeated, are_rising};
 
 use crate::searches::Searches;
 use search_path::Visit;
@@ -200,7 +200,7 @@ fn sorted(alloc: Global, nodes: Vec<CanonPath>) -> Result<Vec<CanonPath>, AllocE
 
 // Of sorted paths each once.
 fn each_once(alloc: Global, nodes: &[CanonPath]) -> Result<Vec<CanonPath>, AllocError>
-    ensures { IfOk result (λ list. list.items ≡ gathering.each_once nodes.now) }
+    ensures { IfOk result (λ list. list.items ≡ gathering.paths_once nodes.now) }
 {
     let mut list = Vec::new(alloc);
     for i in 0..nodes.len() {
@@ -216,7 +216,7 @@ fn add_once(
     behind: &[CanonPath],
     list: &mut Vec<CanonPath>,
 ) -> Result<(), AllocError>
-    ensures { OnOk result (list.new.items ≡ list.old.items ++ kept path.now behind.now) }
+    ensures { OnOk result (list.new.items ≡ list.old.items ++ unless_repeated path.now behind.now) }
 {
     if is_repeated(path, behind) {
         return Ok(());

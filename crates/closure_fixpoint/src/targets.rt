@@ -1,7 +1,7 @@
 // What is wanted of the computed targets of the sheets that were told.
 ghost use Rattle.std.specs.Prelude.{◌≡◌, ◌<◌, ◌+◌, ◌^◌, length, Some, IfOk, IfSome, OnOk};
 ghost use Rattle.std.specs.List.{slice_get};
-ghost use Rattle.closure_fixpoint.specs.Naming.{Follows, HasTargetsAt, targets_of, target_of, rest_of};
+ghost use Rattle.closure_fixpoint.specs.Naming.{Follows, HasTargetsAt, asked_targets, asked_target, headers_to_ask};
 ghost use Rattle.base_types.specs.Members.{Member};
 ghost use Rattle.job_words.specs.JobOf.{JobData};
 ghost use Rattle.closure_fixpoint.specs.Progress.{IsTold};
@@ -27,7 +27,7 @@ fn set_aside(
     target: &Computed,
     headers: Vec<HeaderName>,
 ) -> Result<(), AllocError>
-    ensures { OnOk result (naming.new ≡ record naming.old { rest = Some (rest_of told visit.now target.now headers) }) }
+    ensures { OnOk result (naming.new ≡ record naming.old { rest = Some (headers_to_ask told visit.now target.now headers) }) }
 {
     let visit = visit.copy(alloc)?;
     let include = !target.is_probe();
@@ -95,7 +95,7 @@ fn of_target(
 ) -> Result<Result<Option<Want>, Refusal>, AllocError>
     requires follows { Follows naming.old job.now sheets.now }
     requires told { IsTold (heard_of searches.now sheets.now) visit.now sheet.now target.now }
-    requires number { slice_get (targets_of sheets.now) number ≡ Some (target_of visit.now sheet.now target.now) }
+    requires number { slice_get (asked_targets sheets.now) number ≡ Some (asked_target visit.now sheet.now target.now) }
     ensures want { IfOk result (λ want. WantsOr job.now budget (heard_of searches.now sheets.now) found.now
         (IsDoneWith job.now budget (heard_of searches.now sheets.now) found.now visit.now sheet.now target.now) want) }
     ensures follows { OnOk result (Follows naming.new job.now sheets.now) }

@@ -22,7 +22,7 @@ impl Model for Visits {
 impl Visits {
     ghost use Rattle.std.specs.Prelude.{◌≡◌, [], length, OnOk, OnErr, option_map};
     ghost use Rattle.std.specs.List.{list_any, slice_get};
-    ghost use Rattle.closure_fixpoint.specs.parts.Worklist.{same_visit, with_visit};
+    ghost use Rattle.closure_fixpoint.specs.parts.Worklist.{is_found_alike, with_visit};
 
     // No visits.
     pub fn new(alloc: Global) -> Visits
@@ -49,7 +49,7 @@ impl Visits {
 
     // Whether a visit is one of them.
     pub fn has(&self, visit: &Visit) -> bool
-        ensures { result ≡ list_any (same_visit visit.now) self.now }
+        ensures { result ≡ list_any (is_found_alike visit.now) self.now }
     {
         self.visits.contains(visit)
     }

@@ -32,7 +32,7 @@ use Rattle.job_words.specs.JobOf.{JobData}
 use Rattle.daemon_cpp.specs.Diagnostics.{WorkLimit, TooLarge}
 use Rattle.daemon_cpp.specs.Prep.{World, here_at, presumed_line, State, PrepStep, Go, Stop, and_then, Reached, Gives, Ends, with_value, reach, complain, complain_of_job, limited, say, touch, Entering, header_reached, is_marked, answer_token, answered_condition, probed, probe_named, probe, answer_parts, parts_condition, condition, directive_test, piece_test, unless_marked, found_file, include_named, include, directive_step, piece_step, group_or, run_group, run_branches, malformed_step, run_outline, run_file, paid, opening_cost, open_file, back_in, enter_file, first_state, run_forced}
 use Rattle.sheet_build.specs.Sheet.{asking, SheetData, asked_for, sheet_from}
-use Rattle.closure_fixpoint.specs.Closure.{Answers, first_definitions, Known}
+use Rattle.closure_fixpoint.specs.Closure.{AnalysisAnswers, first_definitions, IsKnownSearch}
 use Rattle.mirror_soundness.proofs.TableLaws.{first_among}
 use Rattle.mirror_soundness.proofs.Kept as kept
 use Rattle.mirror_soundness.proofs.Kept.{Any}
@@ -48,8 +48,8 @@ OutlineHolds = (role : Piece → Role) (ps : List Piece) → HasOutline role ps 
 pub record Agree (part world : World) (sheet : Visit → SheetData) (job : JobData) (visits : List Visit) (Home : Path → Type 0) : Type 0 where
   pub analysis : Analyses world sheet job visits Home
   pub trigraphs : part.trigraphs ≡ world.trigraphs
-  pub finds : (ask : Ask) → ((hit : Hit) → world.find ask ≡ Some hit → Known (answers_by world sheet) job visits hit.1) → part.find ask ≡ world.find ask
-  pub bodies : (l : Located) → Known (answers_by world sheet) job visits l → part.body l.real ≡ world.body l.real
+  pub finds : (ask : Ask) → ((hit : Hit) → world.find ask ≡ Some hit → IsKnownSearch (answers_by world sheet) job visits hit.1) → part.find ask ≡ world.find ask
+  pub bodies : (l : Located) → IsKnownSearch (answers_by world sheet) job visits l → part.body l.real ≡ world.body l.real
 
 -- a job whose source was found: the files of its words, and then the source
 abbrev pub job_step : JobData → World → ℕ → Hit → PrepStep
@@ -59,11 +59,11 @@ job_step job w depth hit =
 
 module _ (fact : ChoiceFactHolds) (outlines : OutlineHolds) (m g : World) (sheet : Visit → SheetData) (job : JobData) (visits : List Visit) (Home : Path → Type 0)
     (a : Agree m g sheet job visits Home) where
-  abbrev pub all : Answers
+  abbrev pub all : AnalysisAnswers
   all = answers_by g sheet
 
   abbrev pub IsKnown : Located → Type 0
-  IsKnown l = Known all job visits l
+  IsKnown l = IsKnownSearch all job visits l
 
   abbrev pub Holds : Visit → State → Type 0
   Holds visit state = kept.Holds all job visits visit state

@@ -12,7 +12,7 @@ use Rattle.macro_expand.specs.Expansion.{Expanded, Table, Place, expansion, expa
 use Rattle.macro_expand.specs.Choice.{Sets, Ending, Gave, Failed, Presumed, Run, taken_run, RUN_WORK, computed_runs, header_of_ending, MayName, HasLongRun, HasPresumedRun}
 use Rattle.macro_expand.specs.Laws.{SameTokens, SameEnd, IsCutOff, Knows, ChoiceFactHolds}
 use Rattle.tree_model.specs.Paths.{Text}
-use Rattle.closure_fixpoint.specs.Closure.{sets_of}
+use Rattle.closure_fixpoint.specs.Closure.{definition_sets}
 use Rattle.mirror_soundness.proofs.TableLaws.{IsAmong, among_within}
 
 -- a run that is cut off is a reason not to analyse
@@ -36,16 +36,16 @@ same_header left e header Presumed same h = absurd same
 -- or uses a presumed line or name that isn't known
 pub may_be_named : ChoiceFactHolds → (definitions : List Named) (table : Table) (here : Place) (file : Option Text) (left : ℕ) (tokens : List Token) (e : Expanded) (header : HeaderName)
     → IsAmong table definitions → Knows file here
-    → (HasLongRun (sets_of definitions) file tokens → ⊥) → (HasPresumedRun (sets_of definitions) file tokens → ⊥)
+    → (HasLongRun (definition_sets definitions) file tokens → ⊥) → (HasPresumedRun (definition_sets definitions) file tokens → ⊥)
     → expanded_by table here InText 0 left (map unmarked tokens) ≡ Ok e → header_named (map (λ m. m.token) e.tokens) ≡ Some header
-    → MayName header_named (sets_of definitions) file tokens header
+    → MayName header_named (definition_sets definitions) file tokens header
 may_be_named fact definitions table here file left tokens e header among knows short known is names =
-    let f = fact (sets_of definitions) file table here InText left RUN_WORK (map unmarked tokens) (among_within table definitions among) knows in
-    let r : Run Expanded = taken_run (sets_of definitions) file table (expansion InText 0 RUN_WORK (map unmarked tokens)) in
+    let f = fact (definition_sets definitions) file table here InText left RUN_WORK (map unmarked tokens) (among_within table definitions among) knows in
+    let r : Run Expanded = taken_run (definition_sets definitions) file table (expansion InText 0 RUN_WORK (map unmarked tokens)) in
     elim f.outcome [
       | inl out ↦ let never : Ok e ≡ Err Work = sym is ∙ out in absurd (cc)
       | inr other ↦ elim other [
-        | inl cut ↦ elim (cut_off (sets_of definitions) file tokens r f.complete cut) [ inl long ↦ absurd (short long) | inr presumed ↦ absurd (known presumed) ]
+        | inl cut ↦ elim (cut_off (definition_sets definitions) file tokens r f.complete cut) [ inl long ↦ absurd (short long) | inr presumed ↦ absurd (known presumed) ]
         | inr alike ↦
             (r, f.complete, same_header left e header r.ending (subst (λ (x : Result Expanded Failure). SameEnd (SameTokens RUN_WORK left) x r.ending) is alike.ends) names)
       ]

@@ -15,7 +15,7 @@ use Rattle.job_words.specs.JobOf.{JobData}
 use Rattle.daemon_cpp.specs.Prep.{World, PrepStep, Go, Stop, prepared, run_job, prep, world_of, depth_limit}
 use Rattle.sheet_build.specs.Laws.{PlacesLocate}
 use Rattle.sheet_build.specs.Sheet.{SheetData, sheet_of}
-use Rattle.closure_fixpoint.specs.Closure.{Known}
+use Rattle.closure_fixpoint.specs.Closure.{IsKnownSearch}
 use Rattle.closure_fixpoint.specs.Laws.{ClosuresExist}
 use Rattle.closure_fixpoint.specs.declared.job_analysis.Refusal.TheVariants.{Long, Presumed}
 use Rattle.mirror_soundness.specs.Mirror.{MirrorIsEnough, TouchesNodesAlone, NothingHoldsAnalysed}
@@ -48,16 +48,16 @@ module _ (fact : ChoiceFactHolds) (outlines : OutlineHolds) (m g : World) (sheet
       go None is = refl
       go (Some hit) is = ap prepared (job_alike fact outlines m g sheet job visits Home a depth_limit hit is).0
 
-  kept_touched : (visit : Visit) (step : PrepStep) → Keeps (answers_by g sheet) job visits visit step → (l : Located) → Member l (touched_in step) → Known (answers_by g sheet) job visits l
+  kept_touched : (visit : Visit) (step : PrepStep) → Keeps (answers_by g sheet) job visits visit step → (l : Located) → Member l (touched_in step) → IsKnownSearch (answers_by g sheet) job visits l
   kept_touched visit (Go state) keeps = keeps.touched
   kept_touched visit (Stop diagnostic state) keeps = keeps
 
   -- each search that succeeds is known
-  known_touched : (l : Located) → Member l (prep g job).touched → Known (answers_by g sheet) job visits l
+  known_touched : (l : Located) → Member l (prep g job).touched → IsKnownSearch (answers_by g sheet) job visits l
   unfolding prep
   known_touched l = go (g.find (source_ask job.source)) refl
     where
-      go : (got : Option Hit) → g.find (source_ask job.source) ≡ got → Member l (run_job g job got).touched → Known (answers_by g sheet) job visits l
+      go : (got : Option Hit) → g.find (source_ask job.source) ≡ got → Member l (run_job g job got).touched → IsKnownSearch (answers_by g sheet) job visits l
       go None is n = elim n [ ]
       go (Some hit) is n =
           kept_touched hit.0 (job_step job g depth_limit hit) (job_alike fact outlines m g sheet job visits Home a depth_limit hit is).1 l

@@ -27,19 +27,19 @@ use Rattle.job_words.specs.JobOf.{JobData}
 use Rattle.daemon_cpp.specs.declared.line.NewLine.{NewLine}
 use Rattle.daemon_cpp.specs.Diagnostics.{TextLimit, NoIdentifier}
 use Rattle.daemon_cpp.specs.Prep.{Here, visit_of, place_here, State, PrepStep, Go, Stop, Reached, Gives, Ends, with_value, reach, complain_of_job, refuse, limited, say, touch, tokens_of, expanded_in, text_expanded, text_step, line_expanded, expand_line, define_step, undef_named, undef_step, new_line, renumbered, presumed_line, line_told, line_written, line_read, line_set, line_step, with_defined, zeroed, truth_of, probe_free, defined_answered, expanded_condition, answered_condition, is_defined, name_condition}
-use Rattle.closure_fixpoint.specs.Closure.{Answers, definitions, known_name, Known}
+use Rattle.closure_fixpoint.specs.Closure.{AnalysisAnswers, definitions, known_name, IsKnownSearch}
 use Rattle.mirror_soundness.proofs.TableLaws.{IsAmong, defined_among, undefined_among}
 
 -- of any value
 abbrev pub Any : {A : Type 0} → A → Type 0
 Any = λ _. Unit {0}
 
-module _ (all : Answers) (job : JobData) (visits : List Visit) where
+module _ (all : AnalysisAnswers) (job : JobData) (visits : List Visit) where
   abbrev pub defs : List Named
   defs = definitions all job visits
 
   abbrev pub IsKnown : Located → Type 0
-  IsKnown l = Known all job visits l
+  IsKnown l = IsKnownSearch all job visits l
 
   -- what holds while the file of this visit is read: it is that file; the macros in force are among the definitions; each search
   -- that succeeded is known; and a file without a `#line` has its first presumed name

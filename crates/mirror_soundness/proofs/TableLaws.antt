@@ -15,7 +15,7 @@ use Rattle.job_words.specs.JobOf.{JobData}
 use Rattle.job_words.specs.declared.MacroWord.{MacroWord}
 use Rattle.job_words.specs.declared.MacroWord.TheVariants as word
 use Rattle.daemon_cpp.specs.Prep.{with_macro, with_word, with_words, first_table}
-use Rattle.closure_fixpoint.specs.Closure.{initial_definition, word_definition, first_definitions, of_name, sets_of}
+use Rattle.closure_fixpoint.specs.Closure.{initial_definition, word_definition, first_definitions, of_name, definition_sets}
 use Rattle.closure_fixpoint.proofs.MemberLaws.{Contains-from_Member}
 use Rattle.closure_fixpoint.proofs.DistinctLaws.{distinct_there}
 
@@ -93,11 +93,11 @@ own_name : (name : Text) (d : MacroDefinition) → of_name name (record { name =
 own_name name d = ap (λ (b : Bool). cond b (Some d) None) ((bytes_eq-Decides name name).1 refl)
 
 -- a definition of a name is in the name's set
-in_set : (definitions : List Named) (name : Text) (d : MacroDefinition) → Has definitions name d → Member d (sets_of definitions name)
+in_set : (definitions : List Named) (name : Text) (d : MacroDefinition) → Has definitions name d → Member d (definition_sets definitions name)
 in_set definitions name d m =
     distinct_there d (filter_map (of_name name) definitions)
     (Member-filter_map (of_name name) (record { name = name; definition = d }) d definitions m (own_name name d))
 
 -- a table that is among definitions lies within their sets
-pub among_within : (table : Table) (definitions : List Named) → IsAmong table definitions → IsWithin table (sets_of definitions)
-among_within table definitions among name d e = Contains-from_Member d (sets_of definitions name) (in_set definitions name d (among name d e))
+pub among_within : (table : Table) (definitions : List Named) → IsAmong table definitions → IsWithin table (definition_sets definitions)
+among_within table definitions among name d e = Contains-from_Member d (definition_sets definitions name) (in_set definitions name d (among name d e))

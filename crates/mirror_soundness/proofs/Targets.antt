@@ -32,12 +32,12 @@ use Rattle.search_path.specs.declared.asking.Ask.{Ask}
 use Rattle.job_words.specs.JobOf.{JobData}
 use Rattle.daemon_cpp.specs.Prep.{World, place_here, State, Gives, reach, tokens_of, expanded_in, line_expanded, header_reached}
 use Rattle.sheet_build.specs.Sheet.{Asking, asking, probes_for, includes_in, probes_in, accepted, definition_in, is_line, ComputedAsk, SheetData, quote_form, computed_of, asked_for, plain_hit, sheet_from}
-use Rattle.closure_fixpoint.specs.Closure.{Answers, first_definitions, with_angle, known_name, MayFind, ByName, ByTokens, first_asks, first_hits, IsClosedFor, Known, AtFirst, Included, Probed, ByMacros, HasLong, HasPresumed}
+use Rattle.closure_fixpoint.specs.Closure.{AnalysisAnswers, first_definitions, with_angle, known_name, MayFind, ByName, ByTokens, first_asks, first_hits, IsClosedFor, IsKnownSearch, AtFirst, Included, Probed, ByMacros, HasLong, HasPresumed}
 use Rattle.mirror_soundness.proofs.ComputedLaws.{may_be_named}
 use Rattle.mirror_soundness.proofs.Kept.{Holds, KeepsWith, left_holds, knows}
 
 -- what a world finds, with sheets
-abbrev pub answers_by : World → (Visit → SheetData) → Answers
+abbrev pub answers_by : World → (Visit → SheetData) → AnalysisAnswers
 answers_by world sheet = record { find = world.find; sheet = sheet }
 
 -- the sheet of a found file's visit is that of the file's pieces, where the file isn't too large
@@ -89,7 +89,7 @@ includes_there ps p there x n =
     (Member-flat_map includes_in p x ps there n, Member-flat_map (λ q. includes_in q ++ probes_in q) p x ps there (Member-append_left x (includes_in p) (probes_in p) n))
 
 module _ (world : World) (sheet : Visit → SheetData) (job : JobData) (visits : List Visit) (Home : Path → Type 0) where
-  abbrev all : Answers
+  abbrev all : AnalysisAnswers
   all = answers_by world sheet
 
   -- a visit that is read: one of the list, with the pieces of its sheet
@@ -100,7 +100,7 @@ module _ (world : World) (sheet : Visit → SheetData) (job : JobData) (visits :
 
   -- a found file that may be entered
   pub record MayEnter (hit : Hit) : Type 0 where
-    pub known : Known all job visits hit.1
+    pub known : IsKnownSearch all job visits hit.1
     pub within : Member hit.0 visits
     pub at_home : Home hit.0.place
     pub has_sheet : HasSheet world sheet hit
@@ -111,7 +111,7 @@ module _ (world : World) (sheet : Visit → SheetData) (job : JobData) (visits :
 
   -- it is known
   abbrev pub KnowsAll : Visit → HeaderName → Type 0
-  KnowsAll visit header = (hit : Hit) → world.find (asked_for visit false header) ≡ Some hit → Known all job visits hit.1
+  KnowsAll visit header = (hit : Hit) → world.find (asked_for visit false header) ≡ Some hit → IsKnownSearch all job visits hit.1
 
   -- a definition of the file is among all
   pub defined_there : (visit : Visit) (ps : List Piece) (at : ℕ) (tokens : List Token) → IsRead visit ps → Member (Line at (named.Define tokens)) ps

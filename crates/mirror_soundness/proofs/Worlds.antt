@@ -23,7 +23,7 @@ use Rattle.job_words.specs.JobOf.{JobData}
 use Rattle.daemon_cpp.specs.Prep.{world_of}
 use Rattle.sheet_build.specs.Laws.{PlacesLocate}
 use Rattle.sheet_build.specs.Sheet.{asked_for, empty_sheet, sheet_from, body_found, body_of_place, sheet_of_body, sheet_of}
-use Rattle.closure_fixpoint.specs.Closure.{answers_of, IsClosureOf, first_asks, Known}
+use Rattle.closure_fixpoint.specs.Closure.{answers_of, IsClosureOf, first_asks, IsKnownSearch}
 use Rattle.closure_fixpoint.specs.Analysis.{IsNodeOf, AreEntriesOf}
 use Rattle.mirror_soundness.specs.Mirror.{IsAnalysed}
 use Rattle.closure_fixpoint.proofs.MemberLaws.{MappedBy, map-Member}
@@ -108,7 +108,7 @@ module _ (holds : HoldsOfLocated) (locates : SearchesLocate) (places : PlacesLoc
   module _ (lists : ListsMakeTrees) (nodes : EntriesAreNodes) (in_part : IsFoundInPart) (in_no_part : IsFoundInNoPart) (entries : Entries) (are : AreEntriesOf tree job entries)
       (makes : IsTrue (makes_tree entries)) (sub : Sub (tree_of entries) tree) where
     -- both trees are the same at the nodes walked by a search that is known
-    same_at : (l : Located) → Known (answers_of tree job) job visits l → (path : Path) → Member path l.walked → entry_at (tree_of entries) path ≡ entry_at tree path
+    same_at : (l : Located) → IsKnownSearch (answers_of tree job) job visits l → (path : Path) → Member path l.walked → entry_at (tree_of entries) path ≡ entry_at tree path
     same_at l known [] m = (lists entries makes).root ∙ sym whole.root
     same_at l known (name ∷ path) m =
         let node : IsNodeOf tree job (name ∷ path) =
@@ -116,7 +116,7 @@ module _ (holds : HoldsOfLocated) (locates : SearchesLocate) (places : PlacesLoc
         let there = are.whole (name ∷ path) node in
         nodes entries makes (name ∷ path) there.0 there.1 ∙ sym (are.same (name ∷ path) there.0 there.1)
 
-    same_find : (ask : Ask) → ((hit : Hit) → search tree job.setup ask ≡ Some hit → Known (answers_of tree job) job visits hit.1)
+    same_find : (ask : Ask) → ((hit : Hit) → search tree job.setup ask ≡ Some hit → IsKnownSearch (answers_of tree job) job visits hit.1)
         → search (tree_of entries) job.setup ask ≡ search tree job.setup ask
     same_find ask known = go (search tree job.setup ask) refl
       where
@@ -124,7 +124,7 @@ module _ (holds : HoldsOfLocated) (locates : SearchesLocate) (places : PlacesLoc
         go None is = in_no_part (tree_of entries) tree job.setup ask sub is ∙ sym is
         go (Some hit) is = in_part (tree_of entries) tree job.setup ask hit sub is (same_at hit.1 (known hit is)) ∙ sym is
 
-    same_body : (l : Located) → Known (answers_of tree job) job visits l → body_at_path (tree_of entries) l.real ≡ body_at_path tree l.real
+    same_body : (l : Located) → IsKnownSearch (answers_of tree job) job visits l → body_at_path (tree_of entries) l.real ≡ body_at_path tree l.real
     same_body l known =
         let so = known_located tree job locates visits l known in
         ap (λ (o : Option Entry). unwrap_or (entry_body o) []) (same_at l known l.real (leads (entry_at tree) so.dir so.text l so.located).real)

@@ -57,9 +57,9 @@ own_from : (from : Option Visit) → option_eq is_same_visit from from ≡ true
 own_from None = refl
 own_from (Some v) = (is_same_visit-Decides v v).1 refl
 
-same_parts : (one other : Ask) (a b c : Bool) → (a ≡ true → one.form ≡ other.form) → (b ≡ true → one.from ≡ other.from) → (c ≡ true → one.name ≡ other.name)
+same_ask_parts : (one other : Ask) (a b c : Bool) → (a ≡ true → one.form ≡ other.form) → (b ≡ true → one.from ≡ other.from) → (c ≡ true → one.name ≡ other.name)
     → (a && (b && c)) ≡ true → one ≡ other
-same_parts one other a b c form from name all i =
+same_ask_parts one other a b c form from name all i =
     let rest = second_so a (b && c) all in
     record { form = form (first_so a (b && c) all) i; from = from (first_so b c rest) i; name = name (second_so b c rest) i }
 
@@ -68,7 +68,7 @@ own_ask ask i = (unsigned_Decides (form_number ask.form) (form_number ask.form))
 
 pub is_same_ask-Decides : (one other : Ask) → Decides (is_same_ask one other) (one ≡ other)
 is_same_ask-Decides one other = (
-  same_parts one other _ _ _
+  same_ask_parts one other _ _ _
       (λ h. same_form one.form other.form ((unsigned_Decides (form_number one.form) (form_number other.form)).0 h))
       (same_from one.from other.from)
       (bytes_decides one.name other.name).0,

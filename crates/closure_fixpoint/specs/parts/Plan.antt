@@ -12,14 +12,14 @@ use Rattle.tree_model.specs.Paths.{IsCanonical}
 use Rattle.closure_fixpoint.specs.declared.fixpoint.Closure.{Closure}
 use Rattle.closure_fixpoint.specs.declared.fixpoint.Next.{Next}
 use Rattle.closure_fixpoint.specs.declared.fixpoint.Next.TheVariants as next
-use Rattle.closure_fixpoint.specs.Progress.{Heard, Keeps, PlainAreFound, visits_told, located_told, IsEnough, IsAccepted, IsNewSheet}
+use Rattle.closure_fixpoint.specs.Progress.{Heard, FoundKeeps, PlainAreFound, visits_told, located_told, IsEnough, IsAccepted, IsNewSheet}
 use Rattle.closure_fixpoint.specs.Gathering.{are_rising}
 use Rattle.closure_fixpoint.specs.Targets.{IsNextWant}
 use Rattle.closure_fixpoint.specs.Told.{RefusalMeans, Progress, OfSheet, AreNodesOf, HasNoMemory}
 
 -- what was told and found so far, where nothing failed
 pub record IsReady (job : JobData) (heard : Heard) (found : List Visit) : Type 0 where
-  pub keeps : Keeps job heard found
+  pub keeps : FoundKeeps job heard found
   pub in_order : visits_told heard ≡ take (length heard.sheets) found
   pub plain : PlainAreFound heard found
 

@@ -11,10 +11,10 @@ pending_of wait.Nothing = NothingAsked
 pending_of (wait.Search ask include) = OfSearch ask include
 pending_of (wait.Sheet visit) = OfSheet visit
 
-abbrev pub end_of : End → Ended
-end_of end.Done = Finished
-end_of (end.Refused refusal) = RefusedBy refusal
+abbrev pub ended_by : End → Ended
+ended_by end.Done = Finished
+ended_by (end.Refused refusal) = RefusedBy refusal
 
 abbrev pub ended_of : Option End → Option Ended
 ended_of None = None
-ended_of (Some e) = Some (end_of e)
+ended_of (Some e) = Some (ended_by e)

@@ -17,12 +17,12 @@ found_number Here = 2
 found_number (Chain k) = k + 3
 
 -- visits of one place that were found alike
-abbrev pub same_visit : Visit → Visit → Bool
-same_visit a b = is_same_path a.place b.place && nat_eq (found_number a.found) (found_number b.found)
+abbrev pub is_found_alike : Visit → Visit → Bool
+is_found_alike a b = is_same_path a.place b.place && nat_eq (found_number a.found) (found_number b.found)
 
 -- a visit more, where it isn't there yet
 abbrev pub with_visit : List Visit → Visit → List Visit
-with_visit found visit = cond (list_any (same_visit visit) found) found (found ++ visit ∷ [])
+with_visit found visit = cond (list_any (is_found_alike visit) found) found (found ++ visit ∷ [])
 
 unfoldable pub with_visits : List Visit → List Visit → List Visit
 with_visits found [] = found

@@ -6,7 +6,7 @@ use Rattle.closure_fixpoint.specs.declared.job_analysis.Refusal.{Refusal}
 use Rattle.closure_fixpoint.specs.declared.wanting.Want.{Want}
 use Rattle.sheet_build.specs.Sheet.{ComputedAsk}
 use Rattle.closure_fixpoint.specs.Targets.{heard_of, WantsOr, IsDoneWith}
-use Rattle.closure_fixpoint.specs.Naming.{targets_of}
+use Rattle.closure_fixpoint.specs.Naming.{asked_targets}
 use Rattle.closure_fixpoint.proofs.LoopLaws.{item_there, so_far}
 use Rattle.closure_fixpoint.proofs.targets.of_targets.Goals as goal
 
@@ -19,7 +19,7 @@ of_target-requires-clause-told c = record {
 
 pub of_target-requires-clause-number : goal.of_target-requires-clause-number
 of_target-requires-clause-number c =
-    ap (slice_get (targets_of c.args.sheets.now)) c.loop-target.invariant.counted
+    ap (slice_get (asked_targets c.args.sheets.now)) c.loop-target.invariant.counted
     ∙ c.requires.numbers c.loop-target.target-index c.target-item.result
     (slice_get_read c.args.targets.now (length c.args.targets.now) c.loop-target.target-index c.target-item.result refl c.loop-target-test.true c.target-item.is)
 

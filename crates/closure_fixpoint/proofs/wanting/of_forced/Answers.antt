@@ -3,7 +3,7 @@ use Rattle.tree_model.specs.Paths.{Text}
 use Rattle.tree_model.proofs.MemberLemmas.{Member-map}
 use Rattle.search_path.specs.declared.asking.Ask.{Ask}
 use Rattle.search_path.specs.Asks.{forced_ask}
-use Rattle.closure_fixpoint.specs.Progress.{IsMade}
+use Rattle.closure_fixpoint.specs.Progress.{SearchIsMade}
 use Rattle.closure_fixpoint.proofs.MemberLaws.{MappedBy, map-Member}
 use Rattle.closure_fixpoint.proofs.LoopLaws.{item_there, so_far, all_so_far}
 use Rattle.closure_fixpoint.proofs.WantingLaws.{wanted_as}
@@ -25,7 +25,7 @@ loop-name-preserved c name m =
     elim (so_far c.args.names.now c.loop-name.name-index c.name-item.result name c.loop-name-test.true c.name-item.is m) [
       | inl before ↦ c.loop-name.invariant name before
       | inr same ↦
-          subst (λ (n : Text). IsMade c.args.searches.now c.args.found.now (forced_ask n) true) (sym same)
+          subst (λ (n : Text). SearchIsMade c.args.searches.now c.args.found.now (forced_ask n) true) (sym same)
           (wanted_as c.args.searches.now c.args.found.now (forced_ask c.in_ok-copy_of.field-0) (forced_ask c.name-item.result) true c.in_ok-want.field-0 None named c.in-None.is
           c.in_ok-want.ensures)
     ]
@@ -33,5 +33,5 @@ loop-name-preserved c name m =
 pub returns : goal.returns
 returns c ask m =
     let by : MappedBy forced_ask c.args.names.now ask = map-Member forced_ask ask c.args.names.now m in
-    subst (λ (a : Ask). IsMade c.args.searches.now c.args.found.now a true) by.gives
+    subst (λ (a : Ask). SearchIsMade c.args.searches.now c.args.found.now a true) by.gives
     (c.loop-name.invariant by.by (all_so_far c.args.names.now c.loop-name.name-index by.by c.loop-name-test.false by.member))

@@ -1,6 +1,6 @@
 use Rattle.std.proofs.Common.{sym, subst, inl, inr, None, Some}
 use Rattle.directive_scan.specs.declared.HeaderName.{HeaderName}
-use Rattle.closure_fixpoint.specs.Progress.{IsMade}
+use Rattle.closure_fixpoint.specs.Progress.{SearchIsMade}
 use Rattle.closure_fixpoint.specs.parts.Wanting.{named_ask}
 use Rattle.closure_fixpoint.proofs.LoopLaws.{item_there, so_far}
 use Rattle.closure_fixpoint.proofs.WantingLaws.{wanted_as}
@@ -19,7 +19,7 @@ loop-header-preserved c header m =
     elim (so_far c.args.headers.now c.loop-header.header-index c.header-item.result header c.loop-header-test.true c.header-item.is m) [
       | inl before ↦ c.loop-header.invariant header before
       | inr same ↦
-          subst (λ (h : HeaderName). IsMade c.args.searches.now c.args.found.now (named_ask c.args.visit.now c.args.form h) c.args.include) (sym same)
+          subst (λ (h : HeaderName). SearchIsMade c.args.searches.now c.args.found.now (named_ask c.args.visit.now c.args.form h) c.args.include) (sym same)
           (wanted_as c.args.searches.now c.args.found.now c.in_ok-ask.ask (named_ask c.args.visit.now c.args.form c.header-item.result) c.args.include c.in_ok-want.field-0 None
           c.in_ok-ask.ensures c.in-None.is c.in_ok-want.ensures)
     ]
