@@ -13,7 +13,7 @@ use Rattle.closure_memo.specs.Memo.{look_of, what_of, found, after_look, publish
 use Rattle.closure_memo.specs.declared.step.Kept.{Kept}
 use Rattle.closure_memo.specs.declared.step.What.{What}
 use Rattle.closure_memo.specs.declared.step.What.TheVariants as memo_what
-use Rattle.host_slots.specs.Slots.{Leased, AllLeased, IsFirstFree, IsWithin, taken, given}
+use Rattle.host_slots.specs.Slots.{Leased, AllLeased, IsFirstFree, AreWithinLimits, slot_taken, slot_given_back}
 use Rattle.sheet_build.specs.Sheet.{SheetData}
 use Rattle.sheet_build.specs.Keys.{IsRightFor, is_same_key}
 use Rattle.sheet_build.specs.declared.keys.SheetKey.{SheetKey}
@@ -120,30 +120,30 @@ take-right jobs hosts of _ lease waits = elim waits [ ]
 
 -- the slots of each host after one was leased, and after one was given back
 pub one-taken : (leased : List ℕ) (host at : ℕ) → host < length leased
-    → slice_index (taken host leased) at + one_if_same at None ≡ slice_index leased at + one_if_same at (Some host)
+    → slice_index (slot_taken host leased) at + one_if_same at None ≡ slice_index leased at + one_if_same at (Some host)
 one-taken leased host at less = go (eqb_tells host at)
   where
-    go : ((nat_eq host at ≡ true) × (host ≡ at)) ⊎ ((nat_eq host at ≡ false) × (host ≡ at → ⊥)) → slice_index (taken host leased) at + one_if_same at None ≡ slice_index leased at + one_if_same at (Some host)
+    go : ((nat_eq host at ≡ true) × (host ≡ at)) ⊎ ((nat_eq host at ≡ false) × (host ≡ at → ⊥)) → slice_index (slot_taken host leased) at + one_if_same at None ≡ slice_index leased at + one_if_same at (Some host)
     go (inl here) =
         let one : one_if_same at (Some host) ≡ 1 = ap (λ (b : Bool). cond {A = ℕ} b 1 0) here.0 in
-        let is : slice_index (taken host leased) at ≡ slice_index leased host + 1 = ap (slice_index (taken host leased)) (sym here.1) ∙ get_or-set_same leased host (slice_index leased host + 1) 0 less in
+        let is : slice_index (slot_taken host leased) at ≡ slice_index leased host + 1 = ap (slice_index (slot_taken host leased)) (sym here.1) ∙ get_or-set_same leased host (slice_index leased host + 1) 0 less in
         let same : slice_index leased host ≡ slice_index leased at = ap (slice_index leased) here.1 in omega arith
     go (inr else) =
         let one : one_if_same at (Some host) ≡ 0 = ap (λ (b : Bool). cond {A = ℕ} b 1 0) else.0 in
-        let is : slice_index (taken host leased) at ≡ slice_index leased at = get_or-set_other leased host at (slice_index leased host + 1) 0 (λ e. else.1 (sym e)) in omega arith
+        let is : slice_index (slot_taken host leased) at ≡ slice_index leased at = get_or-set_other leased host at (slice_index leased host + 1) 0 (λ e. else.1 (sym e)) in omega arith
 
 pub one-given : (leased : List ℕ) (host at : ℕ) → host < length leased → 0 < slice_index leased host
-    → slice_index (given host leased) at + one_if_same at (Some host) ≡ slice_index leased at + one_if_same at None
+    → slice_index (slot_given_back host leased) at + one_if_same at (Some host) ≡ slice_index leased at + one_if_same at None
 one-given leased host at less some = go (eqb_tells host at)
   where
-    go : ((nat_eq host at ≡ true) × (host ≡ at)) ⊎ ((nat_eq host at ≡ false) × (host ≡ at → ⊥)) → slice_index (given host leased) at + one_if_same at (Some host) ≡ slice_index leased at + one_if_same at None
+    go : ((nat_eq host at ≡ true) × (host ≡ at)) ⊎ ((nat_eq host at ≡ false) × (host ≡ at → ⊥)) → slice_index (slot_given_back host leased) at + one_if_same at (Some host) ≡ slice_index leased at + one_if_same at None
     go (inl here) =
         let one : one_if_same at (Some host) ≡ 1 = ap (λ (b : Bool). cond {A = ℕ} b 1 0) here.0 in
-        let is : slice_index (given host leased) at ≡ slice_index leased host - 1 = ap (slice_index (given host leased)) (sym here.1) ∙ get_or-set_same leased host (slice_index leased host - 1) 0 less in
+        let is : slice_index (slot_given_back host leased) at ≡ slice_index leased host - 1 = ap (slice_index (slot_given_back host leased)) (sym here.1) ∙ get_or-set_same leased host (slice_index leased host - 1) 0 less in
         let same : slice_index leased host ≡ slice_index leased at = ap (slice_index leased) here.1 in omega arith
     go (inr else) =
         let one : one_if_same at (Some host) ≡ 0 = ap (λ (b : Bool). cond {A = ℕ} b 1 0) else.0 in
-        let is : slice_index (given host leased) at ≡ slice_index leased at = get_or-set_other leased host at (slice_index leased host - 1) 0 (λ e. else.1 (sym e)) in omega arith
+        let is : slice_index (slot_given_back host leased) at ≡ slice_index leased at = get_or-set_other leased host at (slice_index leased host - 1) 0 (λ e. else.1 (sym e)) in omega arith
 
 -- a host with a slot leased is one of the list
 pub within-leased : (leased : List ℕ) (host : ℕ) → 0 < slice_index leased host → host < length leased
@@ -225,8 +225,8 @@ no-call-keeps named memo old new r keeps number called right =
 same-slots : (one other : Leased) → one.limits ≡ other.limits → one.leased ≡ other.leased → one ≡ other
 same-slots one other limits leased i = record { limits = limits i; leased = leased i }
 
-pub take-answers : (drawn : ℕ) (s after : Leased) (old new : Client) (lease : Option ℕ) → CanAnswer need.Take drawn s old → Put (reply.Leased lease) old new → IsWithin s.limits s.leased
-    → IfSome lease (λ host. IsFirstFree s.limits s.leased host) → IfSome lease (λ host. after.leased ≡ taken host s.leased) → IfNone lease (AllLeased s.limits s.leased × (after.leased ≡ s.leased)) → after.limits ≡ s.limits
+pub take-answers : (drawn : ℕ) (s after : Leased) (old new : Client) (lease : Option ℕ) → CanAnswer need.Take drawn s old → Put (reply.Leased lease) old new → AreWithinLimits s.limits s.leased
+    → IfSome lease (λ host. IsFirstFree s.limits s.leased host) → IfSome lease (λ host. after.leased ≡ slot_taken host s.leased) → IfNone lease (AllLeased s.limits s.leased × (after.leased ≡ s.leased)) → after.limits ≡ s.limits
     → Answers need.Take drawn s old drawn after new
 take-answers drawn s after old new None can put within first more none limits =
     let says = take-none old.jobs (length s.limits) old.phase s can.waits none.0 in
@@ -239,7 +239,7 @@ take-answers drawn s after old new (Some host) can put within first more none li
     (λ at. ap (λ (l : List ℕ). slice_index l at + 0) more ∙ one-taken s.leased host at (omega (arith, first.listed, within.each)) ∙ ap (λ (o : Option ℕ). slice_index s.leased at + one_if_same at o) (sym says.2))
     (inl (add-below ((old.jobs - drawn) * most_rank) (rank (answered old.phase (reply.Leased (Some host)))) (rank old.phase) says.1))
 
-pub give-answers : (drawn : ℕ) (s after : Leased) (old new : Client) (lease : ℕ) → CanAnswer (need.Give lease) drawn s old → Put reply.Given old new → after.leased ≡ given lease s.leased → after.limits ≡ s.limits
+pub give-answers : (drawn : ℕ) (s after : Leased) (old new : Client) (lease : ℕ) → CanAnswer (need.Give lease) drawn s old → Put reply.Given old new → after.leased ≡ slot_given_back lease s.leased → after.limits ≡ s.limits
     → Answers (need.Give lease) drawn s old drawn after new
 give-answers drawn s after old new lease can put less limits =
     let says = give-says old.jobs (length s.limits) old.phase lease can.waits in

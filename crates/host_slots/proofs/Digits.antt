@@ -4,20 +4,20 @@ use Rattle.std.specs.Prelude.{nat_le}
 use Rattle.std.specs.List.{list_all}
 use Rattle.std.proofs.lemmas.Bool.{leb-true, leb-false, eqb-true, and_right}
 use Rattle.std.proofs.lemmas.List.{take_rest}
-use Rattle.host_slots.specs.Hosts.{Text, is_digit, value_behind, number_in}
+use Rattle.host_slots.specs.Hosts.{Text, is_digit, decimal_behind, number_in}
 use Rattle.host_slots.specs.parts.Numbers.{number_behind, digit_behind}
 
 -- a number with more digits is no smaller
-pub value_grows : (n : ℕ) (digits : Text) → n ≤ value_behind n digits
+pub value_grows : (n : ℕ) (digits : Text) → n ≤ decimal_behind n digits
 value_grows n [] = omega arith
 value_grows n (b ∷ digits) = omega (arith, value_grows (n * 10 + (b - 48)) digits)
 
-above : (n most : ℕ) (digits : Text) → nat_le n most ≡ false → nat_le (value_behind n digits) most ≡ false
-above n most digits e = by_test (nat_le (value_behind n digits) most) refl
+above : (n most : ℕ) (digits : Text) → nat_le n most ≡ false → nat_le (decimal_behind n digits) most ≡ false
+above n most digits e = by_test (nat_le (decimal_behind n digits) most) refl
   where
-    by_test : (t : Bool) → nat_le (value_behind n digits) most ≡ t → nat_le (value_behind n digits) most ≡ false
+    by_test : (t : Bool) → nat_le (decimal_behind n digits) most ≡ t → nat_le (decimal_behind n digits) most ≡ false
     by_test true w =
-        let within = leb-true (value_behind n digits) most w in
+        let within = leb-true (decimal_behind n digits) most w in
         let more = leb-false n most e in
         let grows = value_grows n digits in
         absurd (omega (arith, within, more, grows))

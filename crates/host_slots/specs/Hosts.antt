@@ -18,8 +18,8 @@ abbrev pub is_digit : ℕ → Bool
 is_digit b = nat_le 48 b && nat_le b 57
 
 -- a letter, a digit, `.` or `-`
-abbrev pub is_name_byte : ℕ → Bool
-is_name_byte b = (nat_le 97 b && nat_le b 122) || ((nat_le 65 b && nat_le b 90) || (is_digit b || (nat_le 45 b && nat_le b 46)))
+abbrev pub is_host_name_byte : ℕ → Bool
+is_host_name_byte b = (nat_le 97 b && nat_le b 122) || ((nat_le 65 b && nat_le b 90) || (is_digit b || (nat_le 45 b && nat_le b 46)))
 
 abbrev pub is_one_of : Text → ℕ → Bool
 is_one_of marks b = list_any (λ mark. b == mark) marks
@@ -27,29 +27,29 @@ is_one_of marks b = list_any (λ mark. b == mark) marks
 -- ---- numbers ----
 
 -- the number that digits spell behind those of n
-abbrev pub value_behind : ℕ → Text → ℕ
-value_behind n [] = n
-value_behind n (b ∷ digits) = value_behind (n * 10 + (b - 48)) digits
+abbrev pub decimal_behind : ℕ → Text → ℕ
+decimal_behind n [] = n
+decimal_behind n (b ∷ digits) = decimal_behind (n * 10 + (b - 48)) digits
 
 -- one digit or more, and no zero in front
-abbrev pub is_number : Text → Bool
-is_number [] = false
-is_number (b ∷ digits) = not (b == 48) && list_all is_digit (b ∷ digits)
+abbrev pub is_positive_decimal : Text → Bool
+is_positive_decimal [] = false
+is_positive_decimal (b ∷ digits) = not (b == 48) && list_all is_digit (b ∷ digits)
 
 -- the number that a text spells in decimal; none where it spells no number, or one above the limit
 unfoldable pub number_in : ℕ → Text → Option ℕ
-number_in most text = if is_number text && nat_le (value_behind 0 text) most then Some (value_behind 0 text) else None
+number_in most text = if is_positive_decimal text && nat_le (decimal_behind 0 text) most then Some (decimal_behind 0 text) else None
 
 -- ---- a word: HOST, then `:` and PORT, `/` and LIMIT, `,` and OPTION, each of which may be missing ----
 
 -- 1 to 255 bytes of a name
 unfoldable pub is_host_name : Text → Bool
-is_host_name name = nat_le 1 (length name) && (nat_le (length name) 255 && list_all is_name_byte name)
+is_host_name name = nat_le 1 (length name) && (nat_le (length name) 255 && list_all is_host_name_byte name)
 
 -- The number behind a mark, up to a byte that ends it; the default where the text doesn't begin with the mark.
-abbrev pub number_at : ℕ → Text → ℕ → ℕ → Text → Option ℕ
-number_at mark ends default most [] = Some default
-number_at mark ends default most (b ∷ text) = if b == mark then number_in most (before_first (is_one_of ends) text) else Some default
+abbrev pub number_behind_mark : ℕ → Text → ℕ → ℕ → Text → Option ℕ
+number_behind_mark mark ends default most [] = Some default
+number_behind_mark mark ends default most (b ∷ text) = if b == mark then number_in most (before_first (is_one_of ends) text) else Some default
 
 -- what stands behind that number
 abbrev pub rest_at : ℕ → Text → Text → Text
@@ -74,10 +74,10 @@ host_with_limit name port (Some limit) rest = if are_options rest then Ok (recor
 
 abbrev pub host_with_port : Text → Option ℕ → Text → Result Host HostError
 host_with_port name None rest = Err refused.Port
-host_with_port name (Some port) rest = host_with_limit name port (number_at 47 (codes ",") (default_limit name) 64 rest) (rest_at 47 (codes ",") rest)
+host_with_port name (Some port) rest = host_with_limit name port (number_behind_mark 47 (codes ",") (default_limit name) 64 rest) (rest_at 47 (codes ",") rest)
 
 abbrev pub host_with_name : Text → Text → Result Host HostError
-host_with_name name rest = if is_host_name name then host_with_port name (number_at 58 (codes "/,") 3632 65535 rest) (rest_at 58 (codes "/,") rest) else Err refused.Name
+host_with_name name rest = if is_host_name name then host_with_port name (number_behind_mark 58 (codes "/,") 3632 65535 rest) (rest_at 58 (codes "/,") rest) else Err refused.Name
 
 -- The host of a word: the name ends at the first `:`, `/` or `,`, the port at the first `/` or `,` behind it, the limit at the
 -- first `,` behind that. What is wrong further left comes first.

@@ -22,14 +22,14 @@ abbrev pub AllLeased : List ℕ → List ℕ → Type 0
 AllLeased limits leased = (host : ℕ) → host < length limits → slice_index limits host ≤ slice_index leased host
 
 -- what is leased after one slot more of a host, and after one less
-abbrev pub taken : ℕ → List ℕ → List ℕ
-taken host leased = slice_set leased host (slice_index leased host + 1)
+abbrev pub slot_taken : ℕ → List ℕ → List ℕ
+slot_taken host leased = slice_set leased host (slice_index leased host + 1)
 
-abbrev pub given : ℕ → List ℕ → List ℕ
-given host leased = slice_set leased host (slice_index leased host - 1)
+abbrev pub slot_given_back : ℕ → List ℕ → List ℕ
+slot_given_back host leased = slice_set leased host (slice_index leased host - 1)
 
 -- 1 to 64 hosts, none of which has more slots leased than its limit
-pub record IsWithin (limits leased : List ℕ) : Type 0 where
+pub record AreWithinLimits (limits leased : List ℕ) : Type 0 where
   pub some : 1 ≤ length limits
   pub few : length limits ≤ 64
   pub each : length leased ≡ length limits

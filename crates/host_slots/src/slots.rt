@@ -1,6 +1,6 @@
 // The slots that threads share.
 ghost use Rattle.std.specs.Prelude.{◌≡◌, ◌<◌, length, nat_lt, ◌&&◌, true, false, slice_index};
-ghost use Rattle.host_slots.specs.Slots.{IsWithin, given};
+ghost use Rattle.host_slots.specs.Slots.{AreWithinLimits, slot_given_back};
 
 use crate::{Lease, SlotState};
 use std::marker::Model;
@@ -61,7 +61,7 @@ impl Slots {
 
     /// The state that the lock kept.
     pub fn close(self) -> SlotState
-        ensures { IsWithin result.limits result.leased }
+        ensures { AreWithinLimits result.limits result.leased }
     {
         let state = self.state.into_inner();
         let _ = state.hosts();
@@ -71,7 +71,7 @@ impl Slots {
 
 // Gives a lease back, where a slot of its host is leased.
 fn give_in(state: &mut SlotState, lease: Lease)
-    ensures leased { nat_lt lease (length state.old.limits) && nat_lt 0 (slice_index state.old.leased lease) ≡ true → state.new.leased ≡ given lease state.old.leased }
+    ensures leased { nat_lt lease (length state.old.limits) && nat_lt 0 (slice_index state.old.leased lease) ≡ true → state.new.leased ≡ slot_given_back lease state.old.leased }
     ensures none { nat_lt lease (length state.old.limits) && nat_lt 0 (slice_index state.old.leased lease) ≡ false → state.new.leased ≡ state.old.leased }
     ensures limits { state.new.limits ≡ state.old.limits }
 {

@@ -1,7 +1,7 @@
 // The slots as a machine of one thread.
 ghost use Rattle.std.specs.Prelude.{◌≡◌, ℕ, ◌+◌, ◌<◌, ◌≤◌, [], length, map, replicate, slice_index, IfOk, IfSome, IfNone, nat_lt, ◌&&◌};
 ghost use Rattle.std.specs.List.{All};
-ghost use Rattle.host_slots.specs.Slots.{IsFirstFree, AllLeased, HasSlots, taken, given, IsWithin};
+ghost use Rattle.host_slots.specs.Slots.{IsFirstFree, AllLeased, HasSlots, slot_taken, slot_given_back, AreWithinLimits};
 
 use io_edges::Host;
 use std::alloc::{AllocError, Global};
@@ -43,13 +43,13 @@ pub struct SlotState {
 }
 
 impl Model for SlotState {
-    ghost use Rattle.host_slots.specs.Slots.{Leased, IsWithin};
+    ghost use Rattle.host_slots.specs.Slots.{Leased, AreWithinLimits};
 
     ghost Value = { Leased };
 
     ghost view = { λ s. record { limits = s.limits.items; leased = s.leased.items } };
 
-    ghost invariant = { λ s. IsWithin s.limits.items s.leased.items };
+    ghost invariant = { λ s. AreWithinLimits s.limits.items s.leased.items };
 }
 
 impl SlotState {
@@ -69,7 +69,7 @@ impl SlotState {
     /// How many hosts there are.
     pub fn hosts(&self) -> usize
         ensures count { result ≡ length self.now.limits }
-        ensures within { IsWithin self.now.limits self.now.leased }
+        ensures within { AreWithinLimits self.now.limits self.now.leased }
     {
         self.limits.len()
     }
@@ -77,7 +77,7 @@ impl SlotState {
     /// Leases a slot of the first host that is below its limit. None exactly where each host is at its limit.
     pub fn take(&mut self) -> Option<Lease>
         ensures first { IfSome result (λ host. IsFirstFree self.old.limits self.old.leased host) }
-        ensures taken { IfSome result (λ host. self.new.leased ≡ taken host self.old.leased) }
+        ensures taken { IfSome result (λ host. self.new.leased ≡ slot_taken host self.old.leased) }
         ensures none { IfNone result (AllLeased self.old.limits self.old.leased × (self.new.leased ≡ self.old.leased)) }
         ensures limits { self.new.limits ≡ self.old.limits }
     {
@@ -94,7 +94,7 @@ impl SlotState {
     pub fn give(&mut self, lease: Lease)
         requires host { lease < length self.old.limits }
         requires leased { 0 < slice_index self.old.leased lease }
-        ensures leased { self.new.leased ≡ given lease self.old.leased }
+        ensures leased { self.new.leased ≡ slot_given_back lease self.old.leased }
         ensures limits { self.new.limits ≡ self.old.limits }
     {
         let Lease { host } = lease;
@@ -118,7 +118,7 @@ fn limits_of(alloc: Global, hosts: &[Host]) -> Result<Vec<u32>, AllocError>
 
 // The first host that is below its limit.
 fn free_host(limits: &[u32], leased: &[u32]) -> Option<usize>
-    requires { IsWithin limits.now leased.now }
+    requires { AreWithinLimits limits.now leased.now }
     ensures some { IfSome result (λ host. IsFirstFree limits.now leased.now host) }
     ensures none { IfNone result (AllLeased limits.now leased.now) }
 {

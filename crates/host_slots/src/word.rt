@@ -1,7 +1,7 @@
 // The host of one word.
 ghost use Rattle.std.specs.Prelude.{◌≡◌, ◌≤◌, ◌<◌, ◌⊎◌, ◌^◌, ℕ, Ok, Err, length, drop, IfOk, IfErr, IfSome};
 ghost use Rattle.std.specs.List.{list_all, list_any, slice_split, position_or_len};
-ghost use Rattle.host_slots.specs.Hosts.{host_of, host_with_name, is_host_name, is_name_byte, is_digit, is_option, are_options, is_one_of, number_at, rest_at, number_in, default_limit};
+ghost use Rattle.host_slots.specs.Hosts.{host_of, host_with_name, is_host_name, is_host_name_byte, is_digit, is_option, are_options, is_one_of, number_behind_mark, rest_at, number_in, default_limit};
 ghost use Rattle.host_slots.specs.Slots.{HasSlots};
 
 use crate::HostError;
@@ -87,13 +87,13 @@ fn is_host_name(name: &[u8]) -> bool
 }
 
 fn has_name_bytes(name: &[u8]) -> bool
-    ensures { result ≡ list_all is_name_byte name.now }
+    ensures { result ≡ list_all is_host_name_byte name.now }
 {
     name.iter().all(|b| is_name_byte(*b))
 }
 
 fn is_name_byte(b: u8) -> bool
-    ensures { result ≡ is_name_byte b }
+    ensures { result ≡ is_host_name_byte b }
 {
     (b'a' <= b && b <= b'z')
         || ((b'A' <= b && b <= b'Z') || (is_digit(b) || (b'-' <= b && b <= b'.')))
@@ -115,7 +115,7 @@ fn default_limit(name: &[u8]) -> u32
 fn number_at(text: &[u8], mark: u8, ends: &[u8], default: u32, most: u32) -> Option<u32>
     requires default { (1 ≤ default) × (default ≤ most) }
     requires most { most ≤ 65535 }
-    ensures number { result ≡ number_at mark ends.now default most text.now }
+    ensures number { result ≡ number_behind_mark mark ends.now default most text.now }
     ensures within { IfSome result (λ n. (1 ≤ n) × (n ≤ most)) }
 {
     match text {
