@@ -8,7 +8,7 @@ use Rattle.atomic_table.specs.Table.{Step, keeps, Allows, Splits, Joins}
 use Rattle.atomic_table.proofs.Lists.{at_set}
 use Rattle.job_tickets.specs.declared.view.View.{View}
 use Rattle.job_tickets.specs.Seats.{total, times, once_below, IsEachBelow}
-use Rattle.job_tickets.specs.parts.Drawn.{view_of, spent_view, after_draw, keeps_seat, new_seat, joined, IsSeat, AreDrawn, AreCounted, Draws}
+use Rattle.job_tickets.specs.parts.Drawn.{view_of, spent_view, after_draw, keeps_seat, new_seat, seats_joined, IsSeat, AreDrawn, AreCounted, Draws}
 use Rattle.job_tickets.proofs.Totals.{total-append, total-set, term_le, length-set, total-le, total-alone, once_next, below_once}
 
 -- one seat changes, and stands for as many seats as before
@@ -150,10 +150,10 @@ either_all true b P f g e = f refl
 either_all false b P f g e = g e
 
 join_after : (limit word : ℕ) (views : List View) (id other : ℕ) (v w : View) → AreDrawn limit word views → get_elem? views id ≡ some v → other ≢ id
-    → get_elem? (set views id (joined v w)) other ≡ some w → 0 < v.seats → w.made ≡ 0
-    → AreDrawn limit word (set (set views id (joined v w)) other spent_view)
+    → get_elem? (set views id (seats_joined v w)) other ≡ some w → 0 < v.seats → w.made ≡ 0
+    → AreDrawn limit word (set (set views id (seats_joined v w)) other spent_view)
 join_after limit word views id other v w d at apart them some_seat not_first =
-    let b : View = joined v w in
+    let b : View = seats_joined v w in
     let vs : List View = set views id b in
     let long : length (set vs other spent_view) ≡ length views = length-set vs other spent_view ∙ length-set views id b in
     let there : get_elem? views other ≡ some w = ⊎_elim (λ t. absurd (apart t.0)) (λ t. t.1) (at_set views id other b w them) in
@@ -186,7 +186,7 @@ join_after limit word views id other v w d at apart them some_seat not_first =
     length_some [] i a e = absurd (some-ne-none a (sym e))
     length_some (x ∷ xs) i a e = omega arith
 
-pub joins : (limit id other : ℕ) (v w : View) → 0 < v.seats → w.made ≡ 0 → Joins (AreCounted limit) id v other w (joined v w) spent_view
+pub joins : (limit id other : ℕ) (v w : View) → 0 < v.seats → w.made ≡ 0 → Joins (AreCounted limit) id v other w (seats_joined v w) spent_view
 joins limit id other v w some_seat not_first s kept at apart them = (kept.0, kept.1, join_after limit kept.0 s.views id other v w kept.2 at apart them some_seat not_first)
 
 -- the seat that stands for all seats has every number, once it was found that none is left

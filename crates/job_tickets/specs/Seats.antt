@@ -28,8 +28,8 @@ abbrev pub first_seat : TicketData → SeatData
 first_seat tickets = record { table = tickets.table; limit = tickets.limit; made = 1; seats = 1; drawn = []; all = false; done = false }
 
 -- a seat after a draw that gave this number, and after one that gave none
-abbrev pub with_number : ℕ → SeatData → SeatData
-with_number n seat = record seat { drawn = seat.drawn ++ n ∷ [] }
+abbrev pub with_drawn : ℕ → SeatData → SeatData
+with_drawn n seat = record seat { drawn = seat.drawn ++ n ∷ [] }
 
 abbrev pub without_number : SeatData → SeatData
 without_number seat = record seat { all = true; done = true }

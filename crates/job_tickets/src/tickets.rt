@@ -1,6 +1,6 @@
 // The word that counts the draws, and the seats that draw.
 ghost use Rattle.std.specs.Prelude.{◌≡◌, ℕ, ◌<◌, true, IfOk, IfSome, IfNone, None};
-ghost use Rattle.job_tickets.specs.Seats.{IsOf, IsEachBelow, first_seat, with_number, without_number, with_one_more, other_seat, with_seat, times};
+ghost use Rattle.job_tickets.specs.Seats.{IsOf, IsEachBelow, first_seat, with_drawn, without_number, with_one_more, other_seat, with_seat, times};
 
 use crate::View;
 use atomic_table::{Join, Play, Split, Table, TableRule};
@@ -37,9 +37,9 @@ impl Split<View> for Cut {
 }
 
 impl Join<View> for Cut {
-    ghost use Rattle.job_tickets.specs.parts.Drawn.{joined, spent_view};
+    ghost use Rattle.job_tickets.specs.parts.Drawn.{seats_joined, spent_view};
 
-    ghost both = { joined };
+    ghost both = { seats_joined };
 
     ghost spent = { spent_view };
 }
@@ -53,13 +53,13 @@ pub struct Tickets {
 
 impl Model for Tickets {
     ghost use Rattle.job_tickets.specs.Seats.{TicketData};
-    ghost use Rattle.job_tickets.specs.parts.Drawn.{IsTable};
+    ghost use Rattle.job_tickets.specs.parts.Drawn.{IsTicketTable};
 
     ghost Value = { TicketData };
 
     ghost view = { λ t. record { table = t.table.shared.table_id; limit = t.limit } };
 
-    ghost invariant = { λ t. IsTable t.limit t.table.shared.key t.table.shared.table_id };
+    ghost invariant = { λ t. IsTicketTable t.limit t.table.shared.key t.table.shared.table_id };
 }
 
 /// A thread draws with it. Contracts see the seats that were joined into it and what they drew.
@@ -72,13 +72,13 @@ pub struct Seat {
 
 impl Model for Seat {
     ghost use Rattle.job_tickets.specs.Seats.{SeatData};
-    ghost use Rattle.job_tickets.specs.parts.Drawn.{Keeps};
+    ghost use Rattle.job_tickets.specs.parts.Drawn.{SeatKeeps};
 
     ghost Value = { SeatData };
 
     ghost view = { λ s. record { table = s.seat.table_id; limit = s.limit; made = s.seat.me.0.made; seats = s.seat.me.0.seats; drawn = s.seat.me.0.drawn; all = s.seat.me.0.all; done = s.done } };
 
-    ghost invariant = { λ s. Keeps s.limit s.done s.seat.me.0 s.seat.me.1 };
+    ghost invariant = { λ s. SeatKeeps s.limit s.done s.seat.me.0 s.seat.me.1 };
 }
 
 impl Tickets {
@@ -103,7 +103,7 @@ impl Tickets {
     /// then on the seat gets None without a step.
     pub fn draw(&self, seat: &mut Seat) -> Option<u32>
         requires own { IsOf self.now seat.old }
-        ensures some { IfSome result (λ n. (n < self.now.limit) × (seat.new ≡ with_number n seat.old)) }
+        ensures some { IfSome result (λ n. (n < self.now.limit) × (seat.new ≡ with_drawn n seat.old)) }
         ensures above { IfSome result (λ n. (x : ℕ) → 0 < times x seat.old.drawn → x < n) }
         ensures none { IfNone result (seat.new ≡ without_number seat.old) }
         ensures done { seat.old.done ≡ true → result ≡ None }

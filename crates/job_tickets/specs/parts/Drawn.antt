@@ -32,8 +32,8 @@ abbrev pub new_seat : View → View
 new_seat v = view_of v.limit 0 1 [] 0 false
 
 -- a seat into which another was joined
-abbrev pub joined : View → View → View
-joined v w = view_of v.limit v.made (v.seats + w.seats) (v.drawn ++ w.drawn) (v.nones + w.nones) (v.all || w.all)
+abbrev pub seats_joined : View → View → View
+seats_joined v w = view_of v.limit v.made (v.seats + w.seats) (v.drawn ++ w.drawn) (v.nones + w.nones) (v.all || w.all)
 
 -- what holds of one seat, where the word is this
 pub record IsSeat (limit word : ℕ) (v : View) : Type 0 where
@@ -61,7 +61,7 @@ abbrev pub Draws : Step (Unit {0}) → Me (Unit {0}) View → ℕ → Me (Unit {
 Draws step before found after = (after.0 ≡ after_draw before.0 found) × (after.1 ≡ before.1) × ((x : ℕ) → 0 < times x before.0.drawn → x < found)
 
 -- what a seat of this limit keeps, by what it knows and the slots that it holds
-pub record Keeps (limit : ℕ) (done : Bool) (v : View) (held : List (ℕ × Unit {0})) : Type 0 where
+pub record SeatKeeps (limit : ℕ) (done : Bool) (v : View) (held : List (ℕ × Unit {0})) : Type 0 where
   pub knows : v.limit ≡ limit
   pub holds_none : held ≡ []
   pub may_draw : done ≡ false → v.nones < v.seats
@@ -70,7 +70,7 @@ pub record Keeps (limit : ℕ) (done : Bool) (v : View) (held : List (ℕ × Uni
   pub all : done ≡ true → v.all ≡ true
 
 -- what the table of these numbers is
-pub record IsTable (limit key : ℕ) (id : TableId) : Type 0 where
+pub record IsTicketTable (limit key : ℕ) (id : TableId) : Type 0 where
   pub limit_is : key ≡ limit
   pub small : limit < 2 ^ 32
   pub one_word : id.words ≡ 1
