@@ -21,7 +21,7 @@ use Rattle.job_ends.specs.Outside.{EndSeen}
 use Rattle.job_ends.specs.Record.{Known, known as known_of, IsRecord}
 use Rattle.job_ends.specs.Looks.{LooksFor}
 use Rattle.job_ends.specs.Agree.{AreServed, Served, RecordsAgree, NoPeers, RecordsAreCalm}
-use Rattle.job_ends.specs.Works.{Work, works_of, EndHolds, EachEnd, EachRecord, EachLooks, IsServed, EachServed, EachAgrees}
+use Rattle.job_ends.specs.Works.{Work, works_of, EndHolds, EachEnd, EachRecord, EachLooks, TalkIsServed, EachServed, EachAgrees}
 use Rattle.client_steps.specs.declared.client.Client.{Client}
 use Rattle.client_order.specs.declared.totals.Totals.{Totals}
 use Rattle.client_steps.specs.Ledger.{WorkHolds}
@@ -105,7 +105,7 @@ each-served (w ∷ works) served = (
   each-served works (all-second (IsAnswered (Daemon Answers)) w.deeds.exchanges (flat_map (λ (v : Work). v.deeds.exchanges) works) served),
 )
 
-end-served : (works : List Work) (before now : EndSeen) → EndHolds works before now → IsServed now → AllByRecursion (λ (w : Work). AreServed w.deeds.exchanges) works
+end-served : (works : List Work) (before now : EndSeen) → EndHolds works before now → TalkIsServed now → AllByRecursion (λ (w : Work). AreServed w.deeds.exchanges) works
 end-served works before now ends served = each-served works (still-served before.talk (flat_map (λ (w : Work). w.deeds.exchanges) works) served.talk (sym served.told ∙ ends.talk) served.served)
 
 module _ (known : Known) (jobs : List Job) (hosts : List Host) (memo : MemoSeen) (bound : ℕ) where

@@ -18,7 +18,7 @@ use Rattle.job_ends.specs.declared.record.Cause.TheVariants as cause
 use Rattle.job_ends.specs.declared.record.JobOutcome.{JobOutcome}
 use Rattle.job_ends.specs.declared.record.JobOutcome.TheVariants as end
 use Rattle.job_ends.specs.Looks.{LooksFor}
-use Rattle.job_ends.specs.Works.{Work, NotBelow, Chain, AtMost, EndHolds, is_link, is_tree_fault, is_out_fault}
+use Rattle.job_ends.specs.Works.{Work, NotBelow, Chain, AtMost, EndHolds, is_link_fault, is_tree_fault, is_out_fault}
 use Rattle.job_ends.proofs.Deeds.{added-more}
 use Rattle.client_steps.specs.Phases.{IsWork}
 use Rattle.client_steps.specs.Ledger.{WorkHolds}
@@ -52,7 +52,7 @@ at-most-top top n first from now true (inl few) le rose = risen top n first from
 at-most-more : (n first from now : ℕ) (b : Bool) → AtMost n first from → from ≤ now → (b ≡ true → Rose from now) → AtMost (n + cond b 1 0) first now
 at-most-more n first from now b few le rose = at-most-top (2 ^ 64 - 1) n first from now b few le rose
 
-link-rose : (known : Known) (job : Job) (deeds : Deeds) (way : Way) → WayHolds known job deeds way → is_link way ≡ true → Rose deeds.before.wire deeds.after.wire
+link-rose : (known : Known) (job : Job) (deeds : Deeds) (way : Way) → WayHolds known job deeds way → is_link_fault way ≡ true → Rose deeds.before.wire deeds.after.wire
 link-rose known job deeds (Local cause.Link) h e = h.1.1
 link-rose known job deeds (Local (cause.Analysis r)) h e = absurd (cc)
 link-rose known job deeds (Local cause.Peer) h e = absurd (cc)
@@ -85,8 +85,8 @@ one-more-by known job works w exchanges put first from now are was did recorded 
   outs = added-snoc (λ (v : Work). v.deeds.put) works w first.kept from.kept now.kept was.outs (did.kept ∙ ap (λ (d : Deeds). added d.put from.kept) (sym are));
   talk = added-snoc (λ (v : Work). v.deeds.exchanges) works w first.talk from.talk now.talk was.talk (did.talk ∙ ap (λ (d : Deeds). added d.exchanges from.talk) (sym are));
   tree = did.told ∙ was.tree;
-  link_bound = subst (λ n. AtMost n first.wire_faults now.wire_faults) (sym (count-snoc (λ (v : Work). is_link v.done.way) works w))
-      (at-most-more (count_by (λ (v : Work). is_link v.done.way) works) first.wire_faults from.wire_faults now.wire_faults (is_link w.done.way) was.link_bound did.wire (link-rose known job (deeds_of exchanges put from now) w.done.way recorded.way));
+  link_bound = subst (λ n. AtMost n first.wire_faults now.wire_faults) (sym (count-snoc (λ (v : Work). is_link_fault v.done.way) works w))
+      (at-most-more (count_by (λ (v : Work). is_link_fault v.done.way) works) first.wire_faults from.wire_faults now.wire_faults (is_link_fault w.done.way) was.link_bound did.wire (link-rose known job (deeds_of exchanges put from now) w.done.way recorded.way));
   tree_bound = subst (λ n. AtMost n first.tree_faults now.tree_faults) (sym (count-snoc (λ (v : Work). is_tree_fault v.done.outcome) works w))
       (at-most-more (count_by (λ (v : Work). is_tree_fault v.done.outcome) works) first.tree_faults from.tree_faults now.tree_faults (is_tree_fault w.done.outcome) was.tree_bound did.tree (tree-rose known job (deeds_of exchanges put from now) w.done.way w.done.outcome recorded.outcome));
   outs_bound = subst (λ n. AtMost n first.outs_faults now.outs_faults) (sym (count-snoc (λ (v : Work). is_out_fault v.done.outcome) works w))

@@ -6,7 +6,7 @@ use Rattle.tree_model.specs.Entries.{Entries}
 use Rattle.job_words.specs.declared.job.Job.{Job}
 use Rattle.io_edges.specs.declared.wire.Host.{Host}
 use Rattle.closure_fixpoint.specs.Analysis.{AreEntriesOf}
-use Rattle.job_ends.specs.Record.{Known, OfTree, Did, DidJob, deeds_of, IsRequest, NoneHolds}
+use Rattle.job_ends.specs.Record.{Known, OfTree, Did, DidJob, deeds_of, IsRequestForJob, NoneHolds}
 use Rattle.job_ends.specs.Steps.{IsSettled, way_of}
 use Rattle.job_ends.specs.Outside.{EndSeen}
 use Rattle.job_ends.specs.declared.record.Done.{Done}
@@ -105,7 +105,7 @@ pub record IsPublishing (known : Known) (of : Job) (a : Progress) (key : SheetKe
 -- the request is ready, and no refusal holds
 pub record IsReady (known : Known) (of : Job) (bytes : List ℕ) (calls : List SheetCall) (from now : EndSeen) : Type 0 where
   pub did : Did [] [] from now
-  pub request : IsRequest known of bytes
+  pub request : IsRequestForJob known of bytes
   pub none : NoneHolds known of
   pub looks : LooksAll known of calls
   pub reads : OfTree known (λ tree. (entries : Entries) × AreEntriesOf tree of entries × (now.reads ≤ from.reads + (length (missed calls) + files_among entries)))

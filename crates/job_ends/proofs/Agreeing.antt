@@ -30,7 +30,7 @@ use Rattle.job_ends.specs.declared.record.Way.TheVariants.{Remote, Local, Broken
 use Rattle.job_ends.specs.declared.record.Cause.TheVariants as cause
 use Rattle.job_ends.specs.declared.record.JobOutcome.{JobOutcome}
 use Rattle.job_ends.specs.declared.record.JobOutcome.TheVariants as end
-use Rattle.job_ends.specs.Record.{Deeds, known, IsNoAnswer, WayHolds, OutcomeHolds, Gives}
+use Rattle.job_ends.specs.Record.{Deeds, known, IsNoAnswer, WayHolds, OutcomeHolds, GivesOutcome}
 use Rattle.job_ends.specs.Agree.{AreServed, EntriesAreEnough, AgreesWith, AreStill, IsNoFault, IsCalm, RecordsAgree, NoPeers, RecordsAreCalm, is_peer}
 
 -- ---- a job's entries fit into a request ----
@@ -147,7 +147,7 @@ module _ (jobs : JobsAreShort) (whole_requests : RequestsAreWhole) (trees : Tree
     served-one : (e : Exchange) → deeds.exchanges ≡ e ∷ [] → IsAnswered (Daemon Answers) e
     served-one e one = (subst (λ (l : List Exchange). AllByRecursion (IsAnswered (Daemon Answers)) l) one served).0
 
-    remote : (o : Outcome) → WayHolds (known (Some tree) budget) job deeds Remote → Gives (known (Some tree) budget) job deeds Remote o → outcome_over tree job ≡ o
+    remote : (o : Outcome) → WayHolds (known (Some tree) budget) job deeds Remote → GivesOutcome (known (Some tree) budget) job deeds Remote o → outcome_over tree job ≡ o
     remote o ((e, one, finished, is, (ended, reply)), none) (f, same, finished_f, is_f, (fits, gives)) =
         let nothing = none tree refl in
         let request = is tree refl in
@@ -156,7 +156,7 @@ module _ (jobs : JobsAreShort) (whole_requests : RequestsAreWhole) (trees : Tree
         let answered = says e.sent nothing request e.received ((served-one e one).whole ended) in
         sym (enough tree job budget request.0 is_tree nothing request.1).1 ∙ said-outcome apart job request.0 e.received o fits received answered
 
-    given : (way : Way) (o : Outcome) → WayHolds (known (Some tree) budget) job deeds way → Gives (known (Some tree) budget) job deeds way o → outcome_over tree job ≡ o
+    given : (way : Way) (o : Outcome) → WayHolds (known (Some tree) budget) job deeds way → GivesOutcome (known (Some tree) budget) job deeds way o → outcome_over tree job ≡ o
     given Remote o holds gives = remote o holds gives
     given (Local why) o holds gives = gives tree refl
     given Broken o holds gives = absurd gives

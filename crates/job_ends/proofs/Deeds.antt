@@ -21,8 +21,8 @@ use Rattle.job_ends.specs.declared.asking.Replied.{Replied}
 use Rattle.job_ends.specs.declared.asking.Replied.TheVariants.{Text, Diag, Failed}
 use Rattle.job_ends.specs.declared.steps.Prepared.TheVariants.{Request}
 use Rattle.job_ends.specs.Outside.{EndSeen}
-use Rattle.job_ends.specs.Record.{Known, known, IsRequest, WayHolds, OutcomeHolds, Gives, DidJob, Did, deeds_of}
-use Rattle.job_ends.specs.Steps.{way_of, GivesReply, IsSettled, Asks, OutcomeOf, EndsWith, PutsText, DoesLocally, Prepares, Concludes}
+use Rattle.job_ends.specs.Record.{Known, known, IsRequestForJob, WayHolds, OutcomeHolds, GivesOutcome, DidJob, Did, deeds_of}
+use Rattle.job_ends.specs.Steps.{way_of, GivesReply, IsSettled, Asks, OutcomeOf, EndsWithoutExchange, PutsText, DoesLocally, Prepares, Concludes}
 
 -- ---- counts ----
 
@@ -90,7 +90,7 @@ settled-from known job host r from before now did was =
     }
 
 outcome-on : (known : Known) (job : Job) (exchanges : List Exchange) (put : List (List ℕ × List ℕ)) (from before now : EndSeen) (way : Way) (P : Outcome → Type 0) (result : JobOutcome)
-    → from.tree_faults ≤ before.tree_faults → from.outs_faults ≤ before.outs_faults → ((o : Outcome) → P o → Gives known job (deeds_of exchanges put from now) way o)
+    → from.tree_faults ≤ before.tree_faults → from.outs_faults ≤ before.outs_faults → ((o : Outcome) → P o → GivesOutcome known job (deeds_of exchanges put from now) way o)
     → OutcomeOf job before now put P result → OutcomeHolds known job (deeds_of exchanges put from now) way result
 outcome-on known job exchanges put from before now way P (end.Text n) tree outs gives (body, len, put_is, h) = (body, len, put_is, gives (outcome.Text body) h)
 outcome-on known job exchanges put from before now way P (end.Diag words) tree outs gives (put_is, h) = (put_is, gives (outcome.Diag words) h)
@@ -103,8 +103,8 @@ outcome-on known job exchanges put from before now way P end.Memory tree outs gi
 -- ---- the end of a job ----
 
 module _ (known : Known) (job : Job) (host : Host) (n client : ℕ) (from before now : EndSeen) where
-  concluded : (r : Replied) (P : Outcome → Type 0) (result : JobOutcome) (was : IsSettled known job host r from before) (ends : EndsWith job P result before now)
-      → ((o : Outcome) → P o → Gives known job (deeds_of was.exchanges ends.put from now) (way_of r) o) → (way_of r ≡ Broken → ⊥)
+  concluded : (r : Replied) (P : Outcome → Type 0) (result : JobOutcome) (was : IsSettled known job host r from before) (ends : EndsWithoutExchange job P result before now)
+      → ((o : Outcome) → P o → GivesOutcome known job (deeds_of was.exchanges ends.put from now) (way_of r) o) → (way_of r ≡ Broken → ⊥)
       → (did : DidJob known job host (record { job = n; client = client; outcome = result; way = way_of r }) from now) × (did.exchanges ≡ was.exchanges)
   concluded r P result was ends gives never =
       let first = was.did in
@@ -127,9 +127,9 @@ module _ (known : Known) (job : Job) (host : Host) (n client : ℕ) (from before
       → (did : DidJob known job host (record { job = n; client = client; outcome = result; way = Remote }) from now) × (did.exchanges ≡ was.exchanges)
   text-concluded text result was puts =
       concluded (Text text) (λ o. o ≡ outcome.Text text) result was puts
-      (λ o e. subst (λ (x : Outcome). Gives known job (deeds_of was.exchanges puts.put from now) Remote x) (sym e) was.gives) (λ e. absurd (cc))
+      (λ o e. subst (λ (x : Outcome). GivesOutcome known job (deeds_of was.exchanges puts.put from now) Remote x) (sym e) was.gives) (λ e. absurd (cc))
 
-  pub local-concluded : (why : Cause) (result : JobOutcome) (was : IsSettled known job host (Failed why) from before) → EndsWith job (λ o. ForSome known.named (λ tree. known.gives tree job ≡ o)) result before now
+  pub local-concluded : (why : Cause) (result : JobOutcome) (was : IsSettled known job host (Failed why) from before) → EndsWithoutExchange job (λ o. ForSome known.named (λ tree. known.gives tree job ≡ o)) result before now
       → (did : DidJob known job host (record { job = n; client = client; outcome = result; way = Local why }) from now) × (did.exchanges ≡ was.exchanges)
   local-concluded why result was does =
       concluded (Failed why) (λ o. ForSome known.named (λ tree. known.gives tree job ≡ o)) result was does (λ o h. h) (λ e. absurd (cc))
@@ -142,7 +142,7 @@ pub diag-concluded : (known : Known) (job : Job) (host : Host) (n client : ℕ) 
     → (did : DidJob known job host (record { job = n; client = client; outcome = end.Diag words; way = Remote }) from now) × (did.exchanges ≡ was.exchanges)
 diag-concluded known job host n client from now words was =
     concluded known job host n client from now now (Diag words) (λ o. o ≡ outcome.Diag words) (end.Diag words) was (record { put = []; did = did-nothing now; outcome_is = (refl, refl) })
-    (λ o e. subst (λ (x : Outcome). Gives known job (deeds_of was.exchanges [] from now) Remote x) (sym e) was.gives) (λ e. absurd (cc))
+    (λ o e. subst (λ (x : Outcome). GivesOutcome known job (deeds_of was.exchanges [] from now) Remote x) (sym e) was.gives) (λ e. absurd (cc))
 
 -- a fact of a told tree is one of the named tree, where the named tree is told
 pub told-named : (told named : Option FileTree) (P : FileTree → Type 0) → ((tree : FileTree) → named ≡ Some tree → told ≡ Some tree) → IfSome told P → ForSome named P
@@ -180,7 +180,7 @@ pub asked-then-concluded : (named : Option FileTree) (budget : ℕ) (job : Job) 
     → sent ≡ request → Prepares (known named budget) job (Request request) from prepared_at → Asks host sent prepared_at asked_at r → Concludes named job r asked_at now done
     → DidJob (known named budget) job host done from now
 asked-then-concluded named budget job host request sent r done from prepared_at asked_at now same prepares asks concludes =
-    let is : IsRequest (known named budget) job sent = subst (λ (l : List ℕ). IsRequest (known named budget) job l) (sym same) prepares.holds.0 in
+    let is : IsRequestForJob (known named budget) job sent = subst (λ (l : List ℕ). IsRequestForJob (known named budget) job l) (sym same) prepares.holds.0 in
     (concludes budget host from (settled-from (known named budget) job host r from prepared_at asked_at prepares.did (asks (known named budget) job is prepares.holds.1))).0
 
 -- how a job ends, by an equation of its reply

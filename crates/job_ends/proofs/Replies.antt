@@ -18,7 +18,7 @@ use Rattle.job_ends.specs.declared.asking.Replied.{Replied}
 use Rattle.job_ends.specs.declared.asking.Replied.TheVariants.{Text, Diag, Failed}
 use Rattle.job_ends.specs.Exchange.{replied, Began}
 use Rattle.job_ends.specs.Outside.{EndSeen}
-use Rattle.job_ends.specs.Record.{Known, IsRequest, BeginsRequest, NoneHolds, WayHolds, Tried, IsNoAnswer, Did, deeds_of}
+use Rattle.job_ends.specs.Record.{Known, IsRequestForJob, BeginsRequest, NoneHolds, WayHolds, Tried, IsNoAnswer, Did, deeds_of}
 use Rattle.job_ends.specs.Steps.{Says, LinkFails, CameTo, way_of, GivesReply, Asks}
 
 read-whole : RepliesAreSpelled → (bytes : List ℕ) (a : Answer) (s : Step Answer) → reply_at bytes ≡ s → value_of (nothing_follows s) ≡ Some a → IsAnswer a × (bytes ≡ reply_bytes a)
@@ -55,10 +55,10 @@ refused-otherwise spelled bytes read ended n same e other =
 -- ---- asking ----
 
 module _ (known : Known) (job : Job) where
-  begins : (request sent rest : List ℕ) → IsRequest known job request → sent ++ rest ≡ request → BeginsRequest known job sent
+  begins : (request sent rest : List ℕ) → IsRequestForJob known job request → sent ++ rest ≡ request → BeginsRequest known job sent
   begins request sent rest is e tree named = (rest, subst (λ (l : List ℕ). IsRequestOf tree job l) (sym e) (is tree named))
 
-  pub tried : (host : Host) (request : List ℕ) (exchanges : List Exchange) → IsRequest known job request → Began host request exchanges → Tried known job exchanges
+  pub tried : (host : Host) (request : List ℕ) (exchanges : List Exchange) → IsRequestForJob known job request → Began host request exchanges → Tried known job exchanges
   tried host request exchanges is (inl e) = inl e
   tried host request exchanges is (inr (e, one, h, (rest, sent))) = inr (e, one, begins request e.sent rest is sent)
 
@@ -66,7 +66,7 @@ module _ (known : Known) (job : Job) where
   began-host host request exchanges (inl e) = subst (λ (l : List Exchange). AllByRecursion (λ (x : Exchange). x.host ≡ host) l) (sym e) tt
   began-host host request exchanges (inr (e, one, h, rest)) = subst (λ (l : List Exchange). AllByRecursion (λ (x : Exchange). x.host ≡ host) l) (sym one) (h, tt)
 
-  module _ (host : Host) (request received : List ℕ) (ended : Bool) (is : IsRequest known job request) (none : NoneHolds known job) (from now : EndSeen) where
+  module _ (host : Host) (request received : List ℕ) (ended : Bool) (is : IsRequestForJob known job request) (none : NoneHolds known job) (from now : EndSeen) where
     abbrev pub whole : Exchange
     whole = replied host request received ended
 

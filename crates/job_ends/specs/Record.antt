@@ -55,8 +55,8 @@ abbrev pub NoneHolds : Known → Job → Type 0
 NoneHolds known job = OfTree known (λ tree. NothingHolds tree job known.budget)
 
 -- the job's request, over the named tree
-abbrev pub IsRequest : Known → Job → List ℕ → Type 0
-IsRequest known job sent = OfTree known (λ tree. IsRequestOf tree job sent)
+abbrev pub IsRequestForJob : Known → Job → List ℕ → Type 0
+IsRequestForJob known job sent = OfTree known (λ tree. IsRequestOf tree job sent)
 
 -- a beginning of the job's request, over the named tree
 abbrev pub BeginsRequest : Known → Job → List ℕ → Type 0
@@ -65,7 +65,7 @@ BeginsRequest known job sent = OfTree known (λ tree. (rest : List ℕ) × IsReq
 -- one exchange, that sent the whole request, and whose answer has P of (what was received, whether it ended)
 abbrev pub Asked : Known → Job → List Exchange → (List ℕ → Bool → Type 0) → Type 0
 Asked known job exchanges P =
-    (e : Exchange) × (exchanges ≡ e ∷ []) × (e.finished ≡ true) × IsRequest known job e.sent × P e.received e.ended
+    (e : Exchange) × (exchanges ≡ e ∷ []) × (e.finished ≡ true) × IsRequestForJob known job e.sent × P e.received e.ended
 
 -- no exchange, or one that sent a beginning of the request
 abbrev pub Tried : Known → Job → List Exchange → Type 0
@@ -95,16 +95,16 @@ WayHolds known job deeds (Local cause.Memory) = Tried known job deeds.exchanges
 WayHolds known job deeds Broken = (deeds.exchanges ≡ []) × Rose deeds.before.tree deeds.after.tree
 
 -- the outcome is the reply's where the way is Remote, and else what preprocessing gives over the named tree
-abbrev pub Gives : Known → Job → Deeds → Way → Outcome → Type 0
-Gives known job deeds Remote o = Asked known job deeds.exchanges (λ received ended. IsAnswer (carried o) × (received ≡ reply_bytes (carried o)))
-Gives known job deeds (Local cause) o = OfTree known (λ tree. known.gives tree job ≡ o)
-Gives known job deeds Broken o = ⊥
+abbrev pub GivesOutcome : Known → Job → Deeds → Way → Outcome → Type 0
+GivesOutcome known job deeds Remote o = Asked known job deeds.exchanges (λ received ended. IsAnswer (carried o) × (received ≡ reply_bytes (carried o)))
+GivesOutcome known job deeds (Local cause) o = OfTree known (λ tree. known.gives tree job ≡ o)
+GivesOutcome known job deeds Broken o = ⊥
 
 -- the table of outcomes
 abbrev pub OutcomeHolds : Known → Job → Deeds → Way → JobOutcome → Type 0
 OutcomeHolds known job deeds way (end.Text n) =
-    (body : List ℕ) × (length body ≡ n) × (deeds.put ≡ (job.output, body) ∷ []) × Gives known job deeds way (outcome.Text body)
-OutcomeHolds known job deeds way (end.Diag words) = (deeds.put ≡ []) × Gives known job deeds way (outcome.Diag words)
+    (body : List ℕ) × (length body ≡ n) × (deeds.put ≡ (job.output, body) ∷ []) × GivesOutcome known job deeds way (outcome.Text body)
+OutcomeHolds known job deeds way (end.Diag words) = (deeds.put ≡ []) × GivesOutcome known job deeds way (outcome.Diag words)
 OutcomeHolds known job deeds way end.TreeFault = (deeds.put ≡ []) × Rose deeds.before.tree deeds.after.tree
 OutcomeHolds known job deeds way end.OutFault = (deeds.put ≡ []) × Rose deeds.before.outs deeds.after.outs
 OutcomeHolds known job deeds way end.Memory = deeds.put ≡ []

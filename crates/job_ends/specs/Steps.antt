@@ -26,14 +26,14 @@ use Rattle.job_ends.specs.declared.steps.Prepared.TheVariants as prepared
 use Rattle.job_ends.specs.Exchange as exchange
 use Rattle.job_ends.specs.Exchange.{Began}
 use Rattle.job_ends.specs.Outside.{EndSeen}
-use Rattle.job_ends.specs.Record.{Known, known, Deeds, DidJob, IsRequest, NoneHolds, WayHolds, Gives, IsNoAnswer, Did, deeds_of}
+use Rattle.job_ends.specs.Record.{Known, known, Deeds, DidJob, IsRequestForJob, NoneHolds, WayHolds, GivesOutcome, IsNoAnswer, Did, deeds_of}
 
 -- ---- the analysis ----
 
 -- what the analysis of a job comes to: its request, where nothing is refused; a cause to do the job locally, with no
 -- exchange; or a failed tree
 abbrev pub PreparedHolds : Known → Job → Deeds → Prepared → Type 0
-PreparedHolds known job deeds (prepared.Request sent) = IsRequest known job sent × NoneHolds known job
+PreparedHolds known job deeds (prepared.Request sent) = IsRequestForJob known job sent × NoneHolds known job
 PreparedHolds known job deeds (prepared.Failed cause) = WayHolds known job deeds (Local cause)
 PreparedHolds known job deeds prepared.Broken = Rose deeds.before.tree deeds.after.tree
 
@@ -86,8 +86,8 @@ way_of (replied.Failed cause) = Local cause
 
 -- a text or a diagnostic is what the whole reply says
 abbrev pub GivesReply : Known → Job → Deeds → Replied → Type 0
-GivesReply known job deeds (replied.Text body) = Gives known job deeds Remote (outcome.Text body)
-GivesReply known job deeds (replied.Diag words) = Gives known job deeds Remote (outcome.Diag words)
+GivesReply known job deeds (replied.Text body) = GivesOutcome known job deeds Remote (outcome.Text body)
+GivesReply known job deeds (replied.Diag words) = GivesOutcome known job deeds Remote (outcome.Diag words)
 GivesReply known job deeds (replied.Failed cause) = Unit {0}
 
 -- What the exchanges of a job came to: they were all with this host, the way of the reply holds, and the reply gives
@@ -101,7 +101,7 @@ pub record IsSettled (known : Known) (job : Job) (host : Host) (replied : Replie
 
 -- a host was asked with a request: so every job is settled whose request it is, and of which no refusal holds
 abbrev pub Asks : Host → List ℕ → EndSeen → EndSeen → Replied → Type 0
-Asks host request from now replied = (known : Known) (job : Job) → IsRequest known job request → NoneHolds known job → IsSettled known job host replied from now
+Asks host request from now replied = (known : Known) (job : Job) → IsRequestForJob known job request → NoneHolds known job → IsSettled known job host replied from now
 
 -- ---- the end of a job ----
 
@@ -114,18 +114,18 @@ OutcomeOf job from now put P end.OutFault = (put ≡ []) × Rose from.outs_fault
 OutcomeOf job from now put P end.Memory = put ≡ []
 
 -- the job ended with no exchange
-pub record EndsWith (job : Job) (P : Outcome → Type 0) (result : JobOutcome) (from now : EndSeen) : Type 0 where
+pub record EndsWithoutExchange (job : Job) (P : Outcome → Type 0) (result : JobOutcome) (from now : EndSeen) : Type 0 where
   pub put : List (List ℕ × List ℕ)
   pub did : Did [] put from now
   pub outcome_is : OutcomeOf job from now put P result
 
 -- a text is put under the job's output name, or it isn't, and the outcome says which
 abbrev pub PutsText : Job → List ℕ → EndSeen → EndSeen → JobOutcome → Type 0
-PutsText job text from now result = EndsWith job (λ o. o ≡ outcome.Text text) result from now
+PutsText job text from now result = EndsWithoutExchange job (λ o. o ≡ outcome.Text text) result from now
 
 -- the job is done over the end's own tree
 abbrev pub DoesLocally : Option FileTree → Job → EndSeen → EndSeen → JobOutcome → Type 0
-DoesLocally named job from now result = EndsWith job (λ o. ForSome named (λ tree. outcome_over tree job ≡ o)) result from now
+DoesLocally named job from now result = EndsWithoutExchange job (λ o. ForSome named (λ tree. outcome_over tree job ≡ o)) result from now
 
 -- The end of a job whose exchanges are settled: whatever moment it began at, it is done with this host, and with no exchange more.
 abbrev pub Concludes : Option FileTree → Job → Replied → EndSeen → EndSeen → Done → Type 0

@@ -32,14 +32,14 @@ pub record Work : Type 0 where
 
 -- ---- tests of ways and outcomes ----
 
-abbrev pub is_link : Way → Bool
-is_link (Local cause.Link) = true
-is_link (Local (cause.Analysis refused)) = false
-is_link (Local cause.Peer) = false
-is_link (Local cause.DaemonMemory) = false
-is_link (Local cause.Memory) = false
-is_link Remote = false
-is_link Broken = false
+abbrev pub is_link_fault : Way → Bool
+is_link_fault (Local cause.Link) = true
+is_link_fault (Local (cause.Analysis refused)) = false
+is_link_fault (Local cause.Peer) = false
+is_link_fault (Local cause.DaemonMemory) = false
+is_link_fault (Local cause.Memory) = false
+is_link_fault Remote = false
+is_link_fault Broken = false
 
 abbrev pub is_memory : JobOutcome → Bool
 is_memory (end.Text n) = false
@@ -105,7 +105,7 @@ pub record EndHolds (works : List Work) (before after : EndSeen) : Type 0 where
   pub outs : after.kept ≡ added (flat_map (λ (w : Work). w.deeds.put) works) before.kept
   pub talk : after.talk ≡ added (flat_map (λ (w : Work). w.deeds.exchanges) works) before.talk
   pub tree : after.told ≡ before.told
-  pub link_bound : AtMost (count_by (λ (w : Work). is_link w.done.way) works) before.wire_faults after.wire_faults
+  pub link_bound : AtMost (count_by (λ (w : Work). is_link_fault w.done.way) works) before.wire_faults after.wire_faults
   pub tree_bound : AtMost (count_by (λ (w : Work). is_tree_fault w.done.outcome) works) before.tree_faults after.tree_faults
   pub outs_bound : AtMost (count_by (λ (w : Work). is_out_fault w.done.outcome) works) before.outs_faults after.outs_faults
   pub chain : Chain (counts_of before) works (counts_of after)
@@ -140,13 +140,13 @@ EachLooks known (job ∷ jobs) [] = Unit {0}
 -- ---- where hosts answer as daemons do ----
 
 -- the end tells its talk, and each exchange of it was answered as the daemon answers
-pub record IsServed (seen : EndSeen) : Type 0 where
+pub record TalkIsServed (seen : EndSeen) : Type 0 where
   pub talk : List Exchange
   pub told : seen.talk ≡ Some talk
   pub served : AreServed talk
 
 abbrev pub EachServed : List EndSeen → Type 0
-EachServed ends = AllByRecursion IsServed ends
+EachServed ends = AllByRecursion TalkIsServed ends
 
 -- What a job's work says then: the outcome agrees with what preprocessing gives over the whole tree; the job wasn't done
 -- locally for what its host answered; and where no count rose in the job, whatever befell others, it was remote, or

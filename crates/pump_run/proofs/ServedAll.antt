@@ -8,7 +8,7 @@ use Rattle.daemon_answers.specs.Answers.{Answers}
 use Rattle.job_ends.specs.Agree.{AreServed}
 use Rattle.job_ends.specs.Outside.{EndSeen}
 use Rattle.pump_run.specs.Run.{EachTells, EachAnsweredBy, IsDaemon, ServedByDaemon}
-use Rattle.job_ends.specs.Works.{IsServed, EachServed}
+use Rattle.job_ends.specs.Works.{TalkIsServed, EachServed}
 
 module _ (peer : List ℕ → List ℕ → Type 0) (daemon : IsDaemon peer) where
   so-far : (e : Exchange) → (e.received ≡ []) ⊎ ((rest : List ℕ) × peer e.sent (e.received ++ rest)) → (e.received ≡ []) ⊎ ((rest : List ℕ) × Daemon Answers e.sent (e.received ++ rest))
@@ -22,7 +22,7 @@ module _ (peer : List ℕ → List ℕ → Type 0) (daemon : IsDaemon peer) wher
     each-served talk answered.1,
   )
 
-  end-served : (seen : EndSeen) (talk : Option (List Exchange)) → seen.talk ≡ talk → IsSome talk → EachAnswered peer talk → IsServed seen
+  end-served : (seen : EndSeen) (talk : Option (List Exchange)) → seen.talk ≡ talk → IsSome talk → EachAnswered peer talk → TalkIsServed seen
   end-served seen None is tells answered = absurd (cc)
   end-served seen (Some talk) is tells answered = record { talk = talk; told = is; served = each-served talk answered }
 

@@ -1,5 +1,5 @@
 use Rattle.std.proofs.Common.{arith, sym, ap, subst, ℕ, List, length, ◌<◌}
-use Rattle.job_ends.specs.Record.{known, IsRequest}
+use Rattle.job_ends.specs.Record.{known, IsRequestForJob}
 use Rattle.client_steps.proofs.Ends.{read-at}
 use Rattle.client_steps.proofs.Judged.{called}
 use Rattle.client_steps.proofs.ending.call.Goals as goal
@@ -7,7 +7,7 @@ use Rattle.client_steps.proofs.ending.call.Goals as goal
 pub returns-clause-keeps : goal.returns-clause-keeps
 returns-clause-keeps g c = λ calls from h.
     let K = known g.T.Of.Frozen.named c.args.budget in
-    let request = subst (λ (b : List ℕ). IsRequest K h.0 b) (sym c.as_slice.ensures) h.2.request in
+    let request = subst (λ (b : List ℕ). IsRequestForJob K h.0 b) (sym c.as_slice.ensures) h.2.request in
     let lt : c.host-host.result < length c.args.hosts.now = omega arith in
     let listed = read-at c.args.hosts.now c.host-host.result c.index-hosts-host.result lt c.index-hosts-host.is in (
       h.0,
