@@ -23,7 +23,7 @@ use Rattle.job_ends.proofs.Unused.{still-end, quiet}
 use Rattle.client_steps.specs.declared.client.Client.{Client}
 use Rattle.client_steps.specs.declared.phase.Phase.{Phase}
 use Rattle.client_steps.specs.declared.phase.Phase.TheVariants.{Rests, Ended}
-use Rattle.client_steps.specs.Phases.{Current, CanWork, job_of, leased_by}
+use Rattle.client_steps.specs.Phases.{Current, CanWork, job_in_work, leased_by}
 use Rattle.client_steps.specs.Ledger.{Ledger, ClientHolds, IsNew, HasRoom, times_drawn, one_if_job}
 use Rattle.client_order.specs.Ran.{MemoSeen, calls_of, call_at}
 use Rattle.client_order.specs.parts.World.{ClientFits, EachDid, AreNumberedFrom, WorldHolds, held, one_if_same}
@@ -70,8 +70,8 @@ sum-none f k jobs budget (c ∷ clients) none are =
 
 drew-none : (n k jobs budget : ℕ) (c : Client) → IsNew k jobs budget c → times_drawn n c ≡ 0
 drew-none n k jobs budget c new =
-    ap (λ (l : List Done). count_by (λ (d : Done). nat_eq d.job n) l + one_if_job n (job_of c.phase)) new.none
-    ∙ ap (λ (p : Phase). 0 + one_if_job n (job_of p)) new.phase
+    ap (λ (l : List Done). count_by (λ (d : Done). nat_eq d.job n) l + one_if_job n (job_in_work c.phase)) new.none
+    ∙ ap (λ (p : Phase). 0 + one_if_job n (job_in_work p)) new.phase
 
 holds-none : (host k jobs budget : ℕ) (c : Client) → IsNew k jobs budget c → one_if_same host (leased_by c.phase) ≡ 0
 holds-none host k jobs budget c new = ap (λ (p : Phase). one_if_same host (leased_by p)) new.phase
@@ -119,7 +119,7 @@ new-holds known jobs hosts k count budget c e new = record {
   by_client = tt;
   each = tt;
   rising = omega arith;
-  in_work = λ n is. absurd (let both : None ≡ Some n = ap job_of (sym new.phase) ∙ is in cc);
+  in_work = λ n is. absurd (let both : None ≡ Some n = ap job_in_work (sym new.phase) ∙ is in cc);
   ends = still-end e;
   current = subst (λ (p : Phase). Current known jobs hosts p [] e e) (sym new.phase) (refl, refl);
 }

@@ -15,7 +15,7 @@ use Rattle.job_ends.specs.Works.{Work, works_of, EndHolds, EachEnd}
 use Rattle.client_steps.specs.declared.client.Client.{Client}
 use Rattle.client_steps.specs.declared.phase.Phase.{Phase}
 use Rattle.client_steps.specs.declared.phase.Phase.TheVariants.{Ended}
-use Rattle.client_steps.specs.Phases.{Current, job_of}
+use Rattle.client_steps.specs.Phases.{Current, job_in_work}
 use Rattle.client_steps.specs.Ledger.{WorkHolds, GoUp, below_works, times_drawn, one_if_job}
 use Rattle.client_steps.proofs.Puts.{go-further}
 use Rattle.base_types.proofs.Lists.{all_append}
@@ -60,8 +60,8 @@ pub record PartsOf (known : Known) (jobs : List Job) (hosts : List Host) (memo :
 
 -- ---- from clients that have ended ----
 
-below-ended : (phase : Phase) (least : ℕ) → phase ≡ Ended → below_works (job_of phase) least ≡ least
-below-ended phase least e = ap (λ (p : Phase). below_works (job_of p) least) e
+below-ended : (phase : Phase) (least : ℕ) → phase ≡ Ended → below_works (job_in_work phase) least ≡ least
+below-ended phase least e = ap (λ (p : Phase). below_works (job_in_work p) least) e
 
 current-ended : (known : Known) (jobs : List Job) (hosts : List Host) (phase : Phase) (calls : List SheetCall) (from now : EndSeen) → phase ≡ Ended → Current known jobs hosts phase calls from now → (now ≡ from) × (calls ≡ [])
 current-ended known jobs hosts phase calls from now e current = subst (λ (p : Phase). Current known jobs hosts p calls from now) e current
@@ -101,7 +101,7 @@ module _ (known : Known) (jobs : List Job) (hosts : List Host) (memo : MemoSeen)
 -- ---- each number once ----
 
 drawn-ended : (n : ℕ) (c : Client) → c.phase ≡ Ended → times_drawn n c ≡ count_by (λ (d : Done). nat_eq d.job n) c.records.items
-drawn-ended n c e = ap (λ (p : Phase). count_by (λ (d : Done). nat_eq d.job n) c.records.items + one_if_job n (job_of p)) e ∙ add-zero (count_by (λ (d : Done). nat_eq d.job n) c.records.items)
+drawn-ended n c e = ap (λ (p : Phase). count_by (λ (d : Done). nat_eq d.job n) c.records.items + one_if_job n (job_in_work p)) e ∙ add-zero (count_by (λ (d : Done). nat_eq d.job n) c.records.items)
 
 times-of-records : (n : ℕ) (clients : List Client) → AllEnded clients → sum_by (times_drawn n) clients ≡ count_by (λ (d : Done). nat_eq d.job n) (records_of clients)
 times-of-records n [] ended = refl

@@ -24,7 +24,7 @@ use Rattle.client_steps.specs.declared.need.Reply.{Reply}
 use Rattle.client_steps.specs.declared.need.Reply.TheVariants as reply
 use Rattle.client_steps.specs.declared.phase.Phase.{Phase}
 use Rattle.client_steps.specs.declared.phase.Phase.TheVariants.{Draws, Begins, Looks, Publishes, Takes, Gives, Ended}
-use Rattle.client_steps.specs.Phases.{CanWork, NeedOf, answered, rank, most_rank, most_asked, job_of, leased_by, given_by}
+use Rattle.client_steps.specs.Phases.{CanWork, NeedOf, phase_after, phase_rank, most_rank, most_asked, job_in_work, leased_by, lease_given_back}
 use Rattle.client_steps.specs.Ledger.{HasRoom, PutKeeps, IsRightReply, call_by, least_after, one_if_job, times_drawn, with_calls}
 use Rattle.client_order.specs.Ran.{MemoSeen, calls_of}
 use Rattle.client_order.specs.parts.World.{SheetsMemo, seen_memo, OthersStay, IsDrawn, one_if_same}
@@ -41,19 +41,19 @@ pub record Put (r : Reply) (old new : Client) : Type 0 where
   pub room : HasRoom new
   pub least : new.least ≡ least_after old.least r
   pub same : (new.jobs ≡ old.jobs) × ((new.number ≡ old.number) × ((new.budget ≡ old.budget) × (new.records ≡ old.records)))
-  pub phase : new.phase ≡ answered old.phase r
+  pub phase : new.phase ≡ phase_after old.phase r
 
 -- what an answer does to a phase, and the calls on the memo that it is of
 pub record Says (jobs hosts : ℕ) (p : Phase) (r : Reply) (calls : List SheetCall) : Type 0 where
-  pub works : CanWork jobs hosts (answered p r)
-  pub same_job : job_of (answered p r) ≡ job_of p
+  pub works : CanWork jobs hosts (phase_after p r)
+  pub same_job : job_in_work (phase_after p r) ≡ job_in_work p
   pub called : call_by p r ≡ calls
 
 -- it brings the client nearer to its end, and gives it no lease
 pub record Frees (p : Phase) (r : Reply) : Type 0 where
-  pub nearer : rank (answered p r) < rank p
-  pub none : leased_by (answered p r) ≡ None
-  pub goes_on : answered p r ≡ Ended → ⊥
+  pub nearer : phase_rank (phase_after p r) < phase_rank p
+  pub none : leased_by (phase_after p r) ≡ None
+  pub goes_on : phase_after p r ≡ Ended → ⊥
 
 -- ---- a look ----
 
@@ -97,15 +97,15 @@ give-says jobs hosts (Gives n host replied) lease waits = (record { works = wait
 give-says jobs hosts _ lease waits = elim waits [ ]
 
 pub take-says : (jobs hosts : ℕ) (p : Phase) (host : ℕ) → NeedOf jobs hosts p need.Take → host < hosts
-    → Says jobs hosts p (reply.Leased (Some host)) [] × (rank (answered p (reply.Leased (Some host))) < rank p) × (leased_by (answered p (reply.Leased (Some host))) ≡ Some host)
-    × (answered p (reply.Leased (Some host)) ≡ Ended → ⊥) × ((of : Known) → IsRightReply of p (reply.Leased (Some host)))
+    → Says jobs hosts p (reply.Leased (Some host)) [] × (phase_rank (phase_after p (reply.Leased (Some host))) < phase_rank p) × (leased_by (phase_after p (reply.Leased (Some host))) ≡ Some host)
+    × (phase_after p (reply.Leased (Some host)) ≡ Ended → ⊥) × ((of : Known) → IsRightReply of p (reply.Leased (Some host)))
 take-says jobs hosts (Takes n bytes count) host waits less =
     (record { works = (waits.0, (waits.1, omega (arith, less, waits.1))); same_job = refl; called = refl }, omega arith, refl, λ e. absurd (cc), λ of. tt)
 take-says jobs hosts _ host waits less = elim waits [ ]
 
 pub take-none : (jobs hosts : ℕ) (p : Phase) (s : Leased) → NeedOf jobs hosts p need.Take → AllLeased s.limits s.leased
-    → Says jobs hosts p (reply.Leased None) [] × IsRefused p s (answered p (reply.Leased None)) × (leased_by (answered p (reply.Leased None)) ≡ None)
-    × (answered p (reply.Leased None) ≡ Ended → ⊥) × ((of : Known) → IsRightReply of p (reply.Leased None))
+    → Says jobs hosts p (reply.Leased None) [] × IsRefused p s (phase_after p (reply.Leased None)) × (leased_by (phase_after p (reply.Leased None)) ≡ None)
+    × (phase_after p (reply.Leased None) ≡ Ended → ⊥) × ((of : Known) → IsRightReply of p (reply.Leased None))
 take-none jobs hosts (Takes n bytes count) s waits full =
     (record { works = waits.0; same_job = refl; called = refl }, (n, (bytes, (count, (refl, (refl, full))))), refl, λ e. absurd (cc), λ of. tt)
 take-none jobs hosts _ s waits full = elim waits [ ]
@@ -162,19 +162,19 @@ draw-nearer jobs drawn less = let e : jobs - drawn ≡ suc (jobs - suc drawn) = 
 -- ---- together ----
 
 -- the numbers of a client are those of its records and of the job in work
-numbers-of : (n : ℕ) (old new : Client) (o : Option ℕ) → new.records ≡ old.records → job_of new.phase ≡ o → times_drawn n new ≡ count_by (λ (d : Done). nat_eq d.job n) old.records.items + one_if_job n o
+numbers-of : (n : ℕ) (old new : Client) (o : Option ℕ) → new.records ≡ old.records → job_in_work new.phase ≡ o → times_drawn n new ≡ count_by (λ (d : Done). nat_eq d.job n) old.records.items + one_if_job n o
 numbers-of n old new o records job =
-    ap (λ (r : List Done). count_by (λ (d : Done). nat_eq d.job n) r + one_if_job n (job_of new.phase)) (ap (λ v. v.items) records)
+    ap (λ (r : List Done). count_by (λ (d : Done). nat_eq d.job n) r + one_if_job n (job_in_work new.phase)) (ap (λ v. v.items) records)
     ∙ ap (λ (o : Option ℕ). count_by (λ (d : Done). nat_eq d.job n) old.records.items + one_if_job n o) job
 
-same-numbers : (n : ℕ) (old new : Client) → new.records ≡ old.records → job_of new.phase ≡ job_of old.phase → times_drawn n new ≡ times_drawn n old
-same-numbers n old new records job = numbers-of n old new (job_of old.phase) records job
+same-numbers : (n : ℕ) (old new : Client) → new.records ≡ old.records → job_in_work new.phase ≡ job_in_work old.phase → times_drawn n new ≡ times_drawn n old
+same-numbers n old new records job = numbers-of n old new (job_in_work old.phase) records job
 
 -- an answer that draws no number
 pub answers-by : (wanted : Need) (drawn : ℕ) (s after : Leased) (old new : Client) (r : Reply) (calls : List SheetCall) → CanAnswer wanted drawn s old → Put r old new
-    → Says old.jobs (length s.limits) old.phase r calls → least_after old.least r ≡ old.least → (answered old.phase r ≡ Ended → ⊥) → after.limits ≡ s.limits
-    → ((host : ℕ) → slice_index after.leased host + one_if_same host (given_by wanted) ≡ slice_index s.leased host + one_if_same host (leased_by (answered old.phase r)))
-    → AnswerMoves (old.jobs - drawn) old.phase s (old.jobs - drawn) (answered old.phase r) after
+    → Says old.jobs (length s.limits) old.phase r calls → least_after old.least r ≡ old.least → (phase_after old.phase r ≡ Ended → ⊥) → after.limits ≡ s.limits
+    → ((host : ℕ) → slice_index after.leased host + one_if_same host (lease_given_back wanted) ≡ slice_index s.leased host + one_if_same host (leased_by (phase_after old.phase r)))
+    → AnswerMoves (old.jobs - drawn) old.phase s (old.jobs - drawn) (phase_after old.phase r) after
     → Answers wanted drawn s old drawn after new
 answers-by wanted drawn s after old new r calls can put says least goes_on limits leased moves = record {
   works = subst (λ (p : Phase). CanWork old.jobs (length s.limits) p) (sym put.phase) says.works;
@@ -189,17 +189,17 @@ answers-by wanted drawn s after old new r calls can put says least goes_on limit
   limits = limits;
   leased = λ host. leased host ∙ ap (λ (p : Phase). slice_index s.leased host + one_if_same host (leased_by p)) (sym put.phase);
   moves = subst (λ (p : Phase). AnswerMoves (old.jobs - drawn) old.phase s (old.jobs - drawn) p after) (sym put.phase) moves;
-  draws = λ n. ap (λ (k : ℕ). k + cond (nat_lt n drawn) 1 0) (same-numbers n old new put.same.1.1.1 (ap job_of put.phase ∙ says.same_job));
+  draws = λ n. ap (λ (k : ℕ). k + cond (nat_lt n drawn) 1 0) (same-numbers n old new put.same.1.1.1 (ap job_in_work put.phase ∙ says.same_job));
 }
 
 -- an answer that changes no slots
 pub answers-still : (wanted : Need) (drawn : ℕ) (s : Leased) (old new : Client) (r : Reply) (calls : List SheetCall) → CanAnswer wanted drawn s old → Put r old new
-    → Says old.jobs (length s.limits) old.phase r calls → Frees old.phase r → least_after old.least r ≡ old.least → given_by wanted ≡ None
+    → Says old.jobs (length s.limits) old.phase r calls → Frees old.phase r → least_after old.least r ≡ old.least → lease_given_back wanted ≡ None
     → Answers wanted drawn s old drawn s new
 answers-still wanted drawn s old new r calls can put says frees least gives =
     answers-by wanted drawn s s old new r calls can put says least frees.goes_on refl
     (λ host. ap (λ (o : Option ℕ). slice_index s.leased host + one_if_same host o) (gives ∙ sym frees.none))
-    (inl (add-below ((old.jobs - drawn) * most_rank) (rank (answered old.phase r)) (rank old.phase) frees.nearer))
+    (inl (add-below ((old.jobs - drawn) * most_rank) (phase_rank (phase_after old.phase r)) (phase_rank old.phase) frees.nearer))
 
 -- what an answer keeps, by the calls on the memo that it is of
 pub put-keeps : (named : Option FileTree) (memo after : MemoSeen) (old new : Client) (r : Reply) (calls : List SheetCall) → PutKeeps old new r → new.number ≡ old.number → call_by old.phase r ≡ calls
@@ -237,7 +237,7 @@ take-answers drawn s after old new (Some host) can put within first more none li
     let says = take-says old.jobs (length s.limits) old.phase host can.waits first.listed in
     answers-by need.Take drawn s after old new (reply.Leased (Some host)) [] can put says.0 refl says.3 limits
     (λ at. ap (λ (l : List ℕ). slice_index l at + 0) more ∙ one-taken s.leased host at (omega (arith, first.listed, within.each)) ∙ ap (λ (o : Option ℕ). slice_index s.leased at + one_if_same at o) (sym says.2))
-    (inl (add-below ((old.jobs - drawn) * most_rank) (rank (answered old.phase (reply.Leased (Some host)))) (rank old.phase) says.1))
+    (inl (add-below ((old.jobs - drawn) * most_rank) (phase_rank (phase_after old.phase (reply.Leased (Some host)))) (phase_rank old.phase) says.1))
 
 pub give-answers : (drawn : ℕ) (s after : Leased) (old new : Client) (lease : ℕ) → CanAnswer (need.Give lease) drawn s old → Put reply.Given old new → after.leased ≡ slot_given_back lease s.leased → after.limits ≡ s.limits
     → Answers (need.Give lease) drawn s old drawn after new
@@ -246,7 +246,7 @@ give-answers drawn s after old new lease can put less limits =
     let some : 0 < slice_index s.leased lease = (can.lease lease refl).1 in
     answers-by (need.Give lease) drawn s after old new reply.Given [] can put says.0 refl says.1.goes_on limits
     (λ at. ap (λ (l : List ℕ). slice_index l at + one_if_same at (Some lease)) less ∙ one-given s.leased lease at (within-leased s.leased lease some) some ∙ ap (λ (o : Option ℕ). slice_index s.leased at + one_if_same at o) (sym says.1.none))
-    (inl (add-below ((old.jobs - drawn) * most_rank) (rank (answered old.phase reply.Given)) (rank old.phase) says.1.nearer))
+    (inl (add-below ((old.jobs - drawn) * most_rank) (phase_rank (phase_after old.phase reply.Given)) (phase_rank old.phase) says.1.nearer))
 
 -- ---- an answer to a draw ----
 
@@ -277,9 +277,9 @@ pub draw-answers : (drawn after : ℕ) (s : Leased) (old new : Client) (job : Op
     → Answers need.Draw drawn s old after s new
 draw-answers drawn after s old new None can is put =
     let was : old.phase ≡ Draws = draws-is old.jobs (length s.limits) old.phase can.waits in
-    let now : new.phase ≡ Ended = put.phase ∙ ap (λ (p : Phase). answered p (reply.Drawn None)) was in
-    let rank_was : rank old.phase ≡ 1 = ap rank was in
-    let rank_now : rank new.phase ≡ 0 = ap rank now in
+    let now : new.phase ≡ Ended = put.phase ∙ ap (λ (p : Phase). phase_after p (reply.Drawn None)) was in
+    let rank_was : phase_rank old.phase ≡ 1 = ap phase_rank was in
+    let rank_now : phase_rank new.phase ≡ 0 = ap phase_rank now in
     record {
       works = subst (λ (p : Phase). CanWork old.jobs (length s.limits) p) (sym now) tt;
       count = put.same.0;
@@ -292,13 +292,13 @@ draw-answers drawn after s old new None can is put =
       all = λ e. omega (arith, is.0, is.1);
       limits = refl;
       leased = λ host. ap (λ (p : Phase). slice_index s.leased host + one_if_same host (leased_by p)) (sym now);
-      moves = inl (subst (λ (k : ℕ). (old.jobs - k) * most_rank + rank new.phase < (old.jobs - drawn) * most_rank + rank old.phase) (sym is.1) (add-below ((old.jobs - drawn) * most_rank) (rank new.phase) (rank old.phase) (omega arith)));
+      moves = inl (subst (λ (k : ℕ). (old.jobs - k) * most_rank + phase_rank new.phase < (old.jobs - drawn) * most_rank + phase_rank old.phase) (sym is.1) (add-below ((old.jobs - drawn) * most_rank) (phase_rank new.phase) (phase_rank old.phase) (omega arith)));
       draws = λ n. subst (λ (k : ℕ). times_drawn n new + cond (nat_lt n drawn) 1 0 ≡ times_drawn n old + cond (nat_lt n k) 1 0) (sym is.1)
-          (ap (λ (k : ℕ). k + cond (nat_lt n drawn) 1 0) (same-numbers n old new put.same.1.1.1 (ap job_of now ∙ sym (ap job_of was))));
+          (ap (λ (k : ℕ). k + cond (nat_lt n drawn) 1 0) (same-numbers n old new put.same.1.1.1 (ap job_in_work now ∙ sym (ap job_in_work was))));
     }
 draw-answers drawn after s old new (Some job) can is put =
     let was : old.phase ≡ Draws = draws-is old.jobs (length s.limits) old.phase can.waits in
-    let now : new.phase ≡ Begins job = put.phase ∙ ap (λ (p : Phase). answered p (reply.Drawn (Some job))) was in
+    let now : new.phase ≡ Begins job = put.phase ∙ ap (λ (p : Phase). phase_after p (reply.Drawn (Some job))) was in
     record {
       works = subst (λ (p : Phase). CanWork old.jobs (length s.limits) p) (sym now) (omega (arith, is.0, is.1.0));
       count = put.same.0;
@@ -311,11 +311,11 @@ draw-answers drawn after s old new (Some job) can is put =
       all = λ e. absurd (begins-not-ended job (sym now ∙ e));
       limits = refl;
       leased = λ host. ap (λ (p : Phase). slice_index s.leased host + one_if_same host (leased_by p)) (sym now);
-      moves = inl (subst (λ (k : ℕ). k * most_rank + rank new.phase < (old.jobs - drawn) * most_rank + rank old.phase) (sym (ap (λ (k : ℕ). old.jobs - k) is.1.1))
-          (subst (λ (k : ℕ). (old.jobs - suc drawn) * most_rank + k < (old.jobs - drawn) * most_rank + rank old.phase) (sym (ap rank now))
-          (subst (λ (k : ℕ). (old.jobs - suc drawn) * most_rank + (4 * most_asked + 15) < (old.jobs - drawn) * most_rank + k) (sym (ap rank was)) (draw-nearer old.jobs drawn is.0))));
+      moves = inl (subst (λ (k : ℕ). k * most_rank + phase_rank new.phase < (old.jobs - drawn) * most_rank + phase_rank old.phase) (sym (ap (λ (k : ℕ). old.jobs - k) is.1.1))
+          (subst (λ (k : ℕ). (old.jobs - suc drawn) * most_rank + k < (old.jobs - drawn) * most_rank + phase_rank old.phase) (sym (ap phase_rank now))
+          (subst (λ (k : ℕ). (old.jobs - suc drawn) * most_rank + (4 * most_asked + 15) < (old.jobs - drawn) * most_rank + k) (sym (ap phase_rank was)) (draw-nearer old.jobs drawn is.0))));
       draws = λ n. more-numbers n job drawn after (count_by (λ (d : Done). nat_eq d.job n) old.records.items) (times_drawn n new) (times_drawn n old) is.1.0 is.1.1
-          (numbers-of n old new (Some job) put.same.1.1.1 (ap job_of now)) (numbers-of n old old None refl (ap job_of was));
+          (numbers-of n old new (Some job) put.same.1.1.1 (ap job_in_work now)) (numbers-of n old old None refl (ap job_in_work was));
     }
 
 -- ---- an answer that is of a call on the memo ----

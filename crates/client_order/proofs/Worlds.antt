@@ -12,7 +12,7 @@ use Rattle.host_slots.specs.Slots.{Leased, AllLeased}
 use Rattle.client_steps.specs.declared.client.Client.{Client}
 use Rattle.client_steps.specs.declared.phase.Phase.{Phase}
 use Rattle.client_steps.specs.declared.phase.Phase.TheVariants.{Ended}
-use Rattle.client_steps.specs.Phases.{CanWork, rank, most_rank, leased_by}
+use Rattle.client_steps.specs.Phases.{CanWork, phase_rank, most_rank, leased_by}
 use Rattle.client_steps.specs.Ledger.{HasRoom, times_drawn}
 use Rattle.client_order.specs.parts.World.{ClientFits, HasAllDrawn, WorldHolds, SlotsMove, Progresses, RunMoves, IsStuck, DrawsMore, AreFree, AllEnded, distance, held, one_if_same}
 
@@ -89,7 +89,7 @@ drawn-same jobs drawn after few le e = omega arith
 pub moves-turned : (jobs hosts drawn after : ℕ) (s then : Leased) (xs : List Client) (i : ℕ) (x y : Client) → i < length xs → x ≡ slice_index_or xs i x
     → Turned jobs hosts drawn after s then x y → RunMoves jobs drawn s xs i after then (slice_set xs i y)
 moves-turned jobs hosts drawn after s then xs i x y lt is t = elim t.progress [
-  | inl less ↦ inl (nearer-by ((jobs - after) * most_rank) ((jobs - drawn) * most_rank) (rank x.phase) (rank y.phase) (sum_by (λ (c : Client). rank c.phase) xs) (sum_by (λ (c : Client). rank c.phase) (slice_set xs i y)) (sum-moves (λ (c : Client). rank c.phase) xs i x y lt is) less)
+  | inl less ↦ inl (nearer-by ((jobs - after) * most_rank) ((jobs - drawn) * most_rank) (phase_rank x.phase) (phase_rank y.phase) (sum_by (λ (c : Client). phase_rank c.phase) xs) (sum_by (λ (c : Client). phase_rank c.phase) (slice_set xs i y)) (sum-moves (λ (c : Client). phase_rank c.phase) xs i x y lt is) less)
   | inr still ↦ inr (drawn-same jobs drawn after t.drawn_few t.drawn_later still.0, (still.1.1.0, (map-set_same (λ (c : Client). c.phase) xs i y x (still.1.0 ∙ ap (λ (c : Client). c.phase) is), (x.phase, (slice_get-map (λ (c : Client). c.phase) xs i ∙ ap (option_map (λ (c : Client). c.phase)) (slice_get_read xs (length xs) i x refl lt is), still.1.1.1)))))
 ]
 
@@ -107,7 +107,7 @@ SoFar jobs drawn s xs k after then ys =
     ⊎ ((after ≡ drawn) × ((then ≡ s) × ((phases ys ≡ phases xs) × StuckBelow k xs s)))
 
 distance-by : (a : ℕ) (xs ys : List Client) → phases ys ≡ phases xs → distance a ys ≡ distance a xs
-distance-by a xs ys e = ap (λ (n : ℕ). a * most_rank + n) (sum-by rank xs ys e)
+distance-by a xs ys e = ap (λ (n : ℕ). a * most_rank + n) (sum-by phase_rank xs ys e)
 
 one-more : (k : ℕ) (xs : List Client) (s : Leased) (p : Phase) → StuckBelow k xs s → slice_get (phases xs) k ≡ Some p → IsStuck p s → StuckBelow (k + 1) xs s
 one-more k xs s p below at stuck j q lt got = elim (lt-split j k lt) [

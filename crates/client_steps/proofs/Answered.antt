@@ -24,7 +24,7 @@ use Rattle.closure_fixpoint.specs.Progress.{visits_told}
 use Rattle.closure_fixpoint.proofs.ProgressLaws.{EachOnce-last}
 use Rattle.sheet_build.specs.declared.keys.SheetKey.{SheetKey}
 use Rattle.job_ends.specs.Looks.{SheetCall, sheet_call, keys_where, looked, missed, published, LooksSo}
-use Rattle.client_steps.specs.Phases.{IsGoing, IsLooking, HasFound, HasMissed, IsPublishing, LookedFor, IsJudged}
+use Rattle.client_steps.specs.Phases.{IsGoing, IsLooking, HasFound, HasMissed, IsPublishing, LookedFor, WayIsSettled}
 use Rattle.client_steps.proofs.Ends.{any-reads}
 
 keys-snoc : (kind : What → Bool) (calls : List SheetCall) (c : SheetCall) → keys_where kind (calls ++ c ∷ []) ≡ keys_where kind calls ++ cond (kind c.what) (c.key ∷ []) []
@@ -131,7 +131,7 @@ published-kept known job a key k calls from now was = record {
 
 -- a look or a publication for which there was no memory: the job is to be done locally
 refused-so : (known : Known) (job : Job) (hosts : List Host) (calls : List SheetCall) (open_keys : List SheetKey) (from now : EndSeen) → Did [] [] from now → LooksSo known job calls open_keys → length open_keys ≤ 1
-    → ((host : Host) × Member host hosts) → IsJudged known job hosts (Failed cause.Memory) calls from now
+    → ((host : Host) × Member host hosts) → WayIsSettled known job hosts (Failed cause.Memory) calls from now
 refused-so known job hosts calls open_keys from now did looks few some = record {
   host = some.0;
   listed = some.1;
@@ -142,9 +142,9 @@ refused-so known job hosts calls open_keys from now did looks few some = record 
 }
 
 pub look-refused : (known : Known) (job : Job) (hosts : List Host) (a : Progress) (key : SheetKey) (calls : List SheetCall) (from now : EndSeen) → IsLooking known job a key calls from now → ((host : Host) × Member host hosts)
-    → IsJudged known job hosts (Failed cause.Memory) calls from now
+    → WayIsSettled known job hosts (Failed cause.Memory) calls from now
 look-refused known job hosts a key calls from now was some = refused-so known job hosts calls [] from now was.did was.looks (omega arith) some
 
 pub publication-refused : (known : Known) (job : Job) (hosts : List Host) (a : Progress) (key : SheetKey) (calls : List SheetCall) (from now : EndSeen) → IsPublishing known job a key calls from now → ((host : Host) × Member host hosts)
-    → IsJudged known job hosts (Failed cause.Memory) calls from now
+    → WayIsSettled known job hosts (Failed cause.Memory) calls from now
 publication-refused known job hosts a key calls from now was some = refused-so known job hosts calls (key ∷ []) from now was.did was.looks (omega arith) some

@@ -42,7 +42,7 @@ use Rattle.job_ends.proofs.Deeds.{did-nothing}
 use Rattle.client_steps.specs.declared.phase.Phase.TheVariants.{Goes, Concludes}
 use Rattle.client_steps.specs.declared.phase.Advanced.{Advanced}
 use Rattle.client_steps.specs.declared.phase.Advanced.TheVariants as adv
-use Rattle.client_steps.specs.Phases.{IsSound, LookedFor, IsGoing, Awaits, IsLooking, HasFound, HasMissed, IsPublishing, IsReady, IsJudged, Finished, StepHolds, HasAnswered, Advances, AdvancesBelow}
+use Rattle.client_steps.specs.Phases.{IsSound, LookedFor, IsGoing, Awaits, IsLooking, HasFound, HasMissed, IsPublishing, RequestIsReady, WayIsSettled, Finished, StepHolds, HasAnswered, Advances, AdvancesBelow}
 use Rattle.client_steps.proofs.Ends.{of-index, TreeUsed, unused, did-tree, rose-from, reads-same, reads-one, reads-files, reads-none, any-reads}
 
 -- what a step leaves, by an equation of its result
@@ -50,7 +50,7 @@ by-result : (known : Known) (jobs : List Job) (hosts : List Host) (client : ℕ)
 by-result known jobs hosts client calls from now r s e h = subst (λ x. StepHolds known jobs hosts client calls from now x) (sym e) h
 
 -- the same where the job is to be done locally
-pub settled-so : (known : Known) (jobs : List Job) (hosts : List Host) (client n : ℕ) (why : Cause) (of : Job) (calls : List SheetCall) (from now : EndSeen) (r : Advanced) → r ≡ adv.Goes (Concludes n (Failed why)) → slice_get jobs n ≡ Some of → IsJudged known of hosts (Failed why) calls from now → StepHolds known jobs hosts client calls from now r
+pub settled-so : (known : Known) (jobs : List Job) (hosts : List Host) (client n : ℕ) (why : Cause) (of : Job) (calls : List SheetCall) (from now : EndSeen) (r : Advanced) → r ≡ adv.Goes (Concludes n (Failed why)) → slice_get jobs n ≡ Some of → WayIsSettled known of hosts (Failed why) calls from now → StepHolds known jobs hosts client calls from now r
 settled-so known jobs hosts client n why of calls from now r e listed judged = by-result known jobs hosts client calls from now r (adv.Goes (Concludes n (Failed why))) e (of, listed, judged)
 
 -- or where its tree failed
@@ -108,9 +108,9 @@ has-answered known jobs n a b got answer calls from before is never means large 
 }
 
 -- its job is the one that was read at its number
-pub answered-at : (known : Known) (jobs : List Job) (n : ℕ) (of : Job) (a b : Progress) (answer : Next) (calls : List SheetCall) (from before : EndSeen) → n < length jobs → of ≡ slice_index_or jobs n of
+pub phase_after-at : (known : Known) (jobs : List Job) (n : ℕ) (of : Job) (a b : Progress) (answer : Next) (calls : List SheetCall) (from before : EndSeen) → n < length jobs → of ≡ slice_index_or jobs n of
     → HasAnswered known jobs n a answer b calls from before → (slice_get jobs n ≡ Some of) × IsGoing known of a calls from before
-answered-at known jobs n of a b answer calls from before lt is h =
+phase_after-at known jobs n of a b answer calls from before lt is h =
     let same = of-index jobs n h.job of h.listed lt is in
     (h.listed ∙ ap Some same, subst (λ (j : Job). IsGoing known j a calls from before) same h.going)
 
@@ -164,7 +164,7 @@ module _ (known : Known) (of : Job) where
   -- ---- the job is judged with no exchange ----
 
   judge : (why : Cause) (calls : List SheetCall) (from now : EndSeen) → Did [] [] from now → WayHolds known of (deeds_of [] [] from now) (Local why) → LooksFor known of calls now.reads [] (Local why)
-      → (hosts : List Host) (host : Host) → Member host hosts → IsJudged known of hosts (Failed why) calls from now
+      → (hosts : List Host) (host : Host) → Member host hosts → WayIsSettled known of hosts (Failed why) calls from now
   judge why calls from now did way looks hosts host listed = record {
     host = host;
     listed = listed;
@@ -176,19 +176,19 @@ module _ (known : Known) (of : Job) where
 
   -- want of memory, with at most one key open
   pub starved : (calls : List SheetCall) (open_keys : List SheetKey) (from before now : EndSeen) → Did [] [] from before → LooksSo known of calls open_keys → length open_keys ≤ 1 → TreeUsed before now
-      → (hosts : List Host) (host : Host) → Member host hosts → IsJudged known of hosts (Failed cause.Memory) calls from now
+      → (hosts : List Host) (host : Host) → Member host hosts → WayIsSettled known of hosts (Failed cause.Memory) calls from now
   starved calls open_keys from before now did looks few used hosts host listed =
       judge cause.Memory calls from now (did-tree from before now did used) (inl refl) (record { left = open_keys; looks = looks; few = few }, inl refl) hosts host listed
 
-  pub going-starved : (a : Progress) (calls : List SheetCall) (from before now : EndSeen) → IsGoing known of a calls from before → TreeUsed before now → (hosts : List Host) (host : Host) → Member host hosts → IsJudged known of hosts (Failed cause.Memory) calls from now
+  pub going-starved : (a : Progress) (calls : List SheetCall) (from before now : EndSeen) → IsGoing known of a calls from before → TreeUsed before now → (hosts : List Host) (host : Host) → Member host hosts → WayIsSettled known of hosts (Failed cause.Memory) calls from now
   going-starved a calls from before now was used hosts host listed = starved calls was.open_keys from before now was.did was.looks was.few used hosts host listed
 
-  starved-now : (e : EndSeen) (hosts : List Host) (host : Host) → Member host hosts → IsJudged known of hosts (Failed cause.Memory) [] e e
+  starved-now : (e : EndSeen) (hosts : List Host) (host : Host) → Member host hosts → WayIsSettled known of hosts (Failed cause.Memory) [] e e
   starved-now e hosts host listed = starved [] [] e e e (did-nothing e) no-calls (omega arith) (unused e) hosts host listed
 
-  pub starved-at-once : (calls : List SheetCall) (from now : EndSeen) → now ≡ from → calls ≡ [] → (hosts : List Host) (host : Host) → Member host hosts → IsJudged known of hosts (Failed cause.Memory) calls from now
+  pub starved-at-once : (calls : List SheetCall) (from now : EndSeen) → now ≡ from → calls ≡ [] → (hosts : List Host) (host : Host) → Member host hosts → WayIsSettled known of hosts (Failed cause.Memory) calls from now
   starved-at-once calls from now same none hosts host listed =
-      subst (λ (e : EndSeen). IsJudged known of hosts (Failed cause.Memory) calls from e) (sym same) (subst (λ (l : List SheetCall). IsJudged known of hosts (Failed cause.Memory) l from from) (sym none) (starved-now from hosts host listed))
+      subst (λ (e : EndSeen). WayIsSettled known of hosts (Failed cause.Memory) calls from e) (sym same) (subst (λ (l : List SheetCall). WayIsSettled known of hosts (Failed cause.Memory) l from from) (sym none) (starved-now from hosts host listed))
 
   -- a fault of the tree in the analysis
   pub tree-fault : (jobs : List Job) (hosts : List Host) (n client : ℕ) (calls : List SheetCall) (open_keys : List SheetKey) (from before now : EndSeen) → slice_get jobs n ≡ Some of
@@ -335,7 +335,7 @@ module _ (known : Known) (of : Job) where
   }
 
   pub missed-starved : (a : Progress) (key : SheetKey) (calls : List SheetCall) (from before now : EndSeen) → HasMissed known of a key calls from before → TreeUsed before now → (hosts : List Host) (host : Host) → Member host hosts
-      → IsJudged known of hosts (Failed cause.Memory) calls from now
+      → WayIsSettled known of hosts (Failed cause.Memory) calls from now
   missed-starved a key calls from before now was used hosts host listed = starved calls (key ∷ []) from before now was.did was.looks (omega arith) used hosts host listed
 
   pub missed-fault : (jobs : List Job) (hosts : List Host) (n client : ℕ) (a : Progress) (key : SheetKey) (calls : List SheetCall) (from before now : EndSeen) → slice_get jobs n ≡ Some of
@@ -431,7 +431,7 @@ module _ (known : Known) (of : Job) where
 
   pub ready : (a b : Progress) (visits : List Visit) (nodes : List Path) (bytes : List ℕ) (calls : List SheetCall) (from before now : EndSeen) → IsGoing known of a calls from before → a.broken ≡ false → IsDone a visits nodes b
       → OfTree known (λ tree. (budget : ℕ) → IsDoneIn tree of budget visits nodes → AnalysisHolds tree of budget (analysed.Request bytes)) → TreeUsed before now
-      → OfTree known (λ tree. (budget : ℕ) → IsDoneIn tree of budget visits nodes → ReadsEntries tree of before.reads now.reads (analysed.Request bytes)) → IsReady known of bytes calls from now
+      → OfTree known (λ tree. (budget : ℕ) → IsDoneIn tree of budget visits nodes → ReadsEntries tree of before.reads now.reads (analysed.Request bytes)) → RequestIsReady known of bytes calls from now
   ready a b visits nodes bytes calls from before now was whole done means used reads =
       let sound = was.sound whole in
       let small = done.means.small in
@@ -452,7 +452,7 @@ module _ (known : Known) (of : Job) where
   -- the closure's files are refused
   pub gathered-refused : (a b : Progress) (visits : List Visit) (nodes : List Path) (r : Refusal) (calls : List SheetCall) (from before now : EndSeen) → IsGoing known of a calls from before → a.broken ≡ false → IsDone a visits nodes b
       → OfTree known (λ tree. (budget : ℕ) → IsDoneIn tree of budget visits nodes → AnalysisHolds tree of budget (analysed.Refused r)) → TreeUsed before now → (hosts : List Host) (host : Host) → Member host hosts
-      → IsJudged known of hosts (Failed (cause.Analysis r)) calls from now
+      → WayIsSettled known of hosts (Failed (cause.Analysis r)) calls from now
   gathered-refused a b visits nodes r calls from before now was whole done means used hosts host listed =
       judge (cause.Analysis r) calls from now (did-tree from before now was.did used) (refl, λ tree named. means tree named known.budget (done-in a b visits nodes (was.sound whole) done tree named))
       (record { left = was.open_keys; looks = was.looks; few = was.few }, inl (closed-looks a calls from before was whole done.means.small)) hosts host listed
@@ -466,7 +466,7 @@ module _ (known : Known) (of : Job) where
 
   pub refused : (a b : Progress) (r : Refusal) (calls : List SheetCall) (from now : EndSeen) → RefusalsHold → OfTree known IsTree → IsGoing known of a calls from now → a.broken ≡ false
       → ((visit : Visit) → a.heard.large ≡ Some visit → SaysLarge (next.Refused r)) → IsRefused a r b → (hosts : List Host) (host : Host) → Member host hosts
-      → IsJudged known of hosts (Failed (cause.Analysis r)) calls from now
+      → WayIsSettled known of hosts (Failed (cause.Analysis r)) calls from now
   refused a b r calls from now hold trees was whole large means hosts host listed =
       let sound = was.sound whole in
       let why : RefusalMeans of known.budget a.heard r =

@@ -17,7 +17,7 @@ use Rattle.base_types.specs.Told.{added}
 use Rattle.closure_fixpoint.specs.Gathering.{files_among}
 use Rattle.job_ends.specs.Looks.{SheetCall, LooksFor, missed}
 use Rattle.job_ends.proofs.Deeds.{added-nil}
-use Rattle.client_steps.specs.Phases.{IsReady, IsJudged, Finished}
+use Rattle.client_steps.specs.Phases.{RequestIsReady, WayIsSettled, Finished}
 use Rattle.client_steps.proofs.Ends.{member-get, at-most, rose-from, reads-same, any-reads}
 
 did-more : (exchanges : List Exchange) (from before now : EndSeen) → Did [] [] from before → Did exchanges [] before now → Did exchanges [] from now
@@ -52,7 +52,7 @@ sub-reads from before n le = omega (arith, le)
 add-reads : (from before now : ℕ) → now ≡ before → now ≤ from + (before - from)
 add-reads from before now e = omega (arith, e)
 
-looks-judged : (known : Known) (of : Job) (bytes : List ℕ) (calls : List SheetCall) (from before : EndSeen) (exchanges : List Exchange) (r : Replied) → IsReady known of bytes calls from before
+looks-judged : (known : Known) (of : Job) (bytes : List ℕ) (calls : List SheetCall) (from before : EndSeen) (exchanges : List Exchange) (r : Replied) → RequestIsReady known of bytes calls from before
     → LooksFor known of calls (before.reads - from.reads) exchanges (way_of r)
 looks-judged known of bytes calls from before exchanges (Text body) was = (was.looks, λ tree named. let files = was.reads tree named in (files.0, files.1, sub-reads from.reads before.reads (length (missed calls) + files_among files.0) files.2))
 looks-judged known of bytes calls from before exchanges (Diag words) was = (was.looks, λ tree named. let files = was.reads tree named in (files.0, files.1, sub-reads from.reads before.reads (length (missed calls) + files_among files.0) files.2))
@@ -62,8 +62,8 @@ looks-judged known of bytes calls from before exchanges (Failed cause.DaemonMemo
 looks-judged known of bytes calls from before exchanges (Failed cause.Memory) was = (record { left = []; looks = was.looks.looks; few = omega arith }, inr was.looks)
 looks-judged known of bytes calls from before exchanges (Failed (cause.Analysis r)) was = (record { left = []; looks = was.looks.looks; few = omega arith }, inl was.looks.looks)
 
-pub called : (known : Known) (of : Job) (hosts : List Host) (n : ℕ) (host : Host) (bytes : List ℕ) (calls : List SheetCall) (from before now : EndSeen) (r : Replied) → slice_get hosts n ≡ Some host → IsReady known of bytes calls from before
-    → IsSettled known of host r before now → now.reads ≡ before.reads → (judged : IsJudged known of hosts r calls from now) × (slice_get hosts n ≡ Some judged.host)
+pub called : (known : Known) (of : Job) (hosts : List Host) (n : ℕ) (host : Host) (bytes : List ℕ) (calls : List SheetCall) (from before now : EndSeen) (r : Replied) → slice_get hosts n ≡ Some host → RequestIsReady known of bytes calls from before
+    → IsSettled known of host r before now → now.reads ≡ before.reads → (judged : WayIsSettled known of hosts r calls from now) × (slice_get hosts n ≡ Some judged.host)
 called known of hosts n host bytes calls from before now r listed was asked same =
     let first = was.did in (
       record {
@@ -109,7 +109,7 @@ done-parts : (done : Done) (n client : ℕ) → done.job ≡ n → done.client �
 done-parts done n client e f = ap (λ j. record { job = j; client = done.client; outcome = done.outcome; way = done.way }) e ∙ ap (λ k. record { job = n; client = k; outcome = done.outcome; way = done.way }) f
 
 pub ended : (named : Option FileTree) (budget : ℕ) (of : Job) (jobs : List Job) (hosts : List Host) (n client : ℕ) (r : Replied) (done : Done) (calls : List SheetCall) (from before now : EndSeen) → slice_get jobs n ≡ Some of → done.job ≡ n → done.client ≡ client
-    → IsJudged (known_of named budget) of hosts r calls from before → done.way ≡ way_of r → Concludes named of r before now done → (done.way ≡ Remote → now.reads ≡ before.reads)
+    → WayIsSettled (known_of named budget) of hosts r calls from before → done.way ≡ way_of r → Concludes named of r before now done → (done.way ≡ Remote → now.reads ≡ before.reads)
     → Finished (known_of named budget) jobs hosts client done calls from now
 ended named budget of jobs hosts n client r done calls from before now listed number client_is was way_is concludes same =
     let did = concludes budget was.host from was.settled in

@@ -17,7 +17,7 @@ use Rattle.client_steps.specs.declared.phase.Phase.{Phase}
 use Rattle.client_steps.specs.declared.phase.Phase.TheVariants.{Rests, Wants}
 use Rattle.client_steps.specs.declared.phase.Advanced.{Advanced}
 use Rattle.client_steps.specs.declared.phase.Advanced.TheVariants as adv
-use Rattle.client_steps.specs.Phases.{Current, Finished, WantsThenTakes, StepKeeps, job_of, rank}
+use Rattle.client_steps.specs.Phases.{Current, Finished, WantsThenTakes, StepKeeps, job_in_work, phase_rank}
 use Rattle.client_steps.specs.Ledger.{GoUp, below_works, Ledger, all_calls, ClientHolds, NextKeeps, WorkHolds, one_if_some, one_if_job, DrewTheSame}
 use Rattle.client_steps.proofs.Ledgers.{flat-snoc, count-snoc, one-more, work-holds}
 
@@ -40,20 +40,20 @@ pub record Stays (old new : Client) : Type 0 where
 
 -- ---- another phase of the job ----
 
-stays-held : (known : Known) (jobs : List Job) (hosts : List Host) (c d : Client) (ledger : Ledger) (first before now : EndSeen) → Stays c d → job_of d.phase ≡ job_of c.phase
+stays-held : (known : Known) (jobs : List Job) (hosts : List Host) (c d : Client) (ledger : Ledger) (first before now : EndSeen) → Stays c d → job_in_work d.phase ≡ job_in_work c.phase
     → ((calls : List SheetCall) (from : EndSeen) → Current known jobs hosts c.phase calls from before → Current known jobs hosts d.phase calls from now)
     → ClientHolds known jobs hosts c ledger first before → ClientHolds known jobs hosts d ledger first now
 stays-held known jobs hosts c d ledger first before now stays same keeps was = record {
   records_are = was.records_are ∙ sym stays.records;
   by_client = subst (λ (n : ℕ). AllByRecursion (λ (w : Work). w.done.client ≡ n) ledger.works) (sym stays.number) was.by_client;
   each = was.each;
-  rising = subst (λ (o : Option ℕ). GoUp 0 ledger.works (below_works o d.least)) (sym same) (subst (λ (n : ℕ). GoUp 0 ledger.works (below_works (job_of c.phase) n)) (sym stays.least) was.rising);
+  rising = subst (λ (o : Option ℕ). GoUp 0 ledger.works (below_works o d.least)) (sym same) (subst (λ (n : ℕ). GoUp 0 ledger.works (below_works (job_in_work c.phase) n)) (sym stays.least) was.rising);
   in_work = λ n e. stays.least ∙ was.in_work n (sym same ∙ e);
   ends = was.ends;
   current = keeps ledger.calls ledger.from was.current;
 }
 
-pub next-on : (known : Known) (jobs : List Job) (hosts : List Host) (old c d : Client) (start before now : EndSeen) → Stays c d → job_of d.phase ≡ job_of c.phase
+pub next-on : (known : Known) (jobs : List Job) (hosts : List Host) (old c d : Client) (start before now : EndSeen) → Stays c d → job_in_work d.phase ≡ job_in_work c.phase
     → ((calls : List SheetCall) (from : EndSeen) → Current known jobs hosts c.phase calls from before → Current known jobs hosts d.phase calls from now)
     → NextKeeps known jobs hosts old c start before → NextKeeps known jobs hosts old d start now
 next-on known jobs hosts old c d start before now stays same keeps so_far = λ first was h.
@@ -69,7 +69,7 @@ next-on known jobs hosts old c d start before now stays same keeps so_far = λ f
 pub next-begins : (known : Known) (jobs : List Job) (hosts : List Host) (old d : Client) (start : EndSeen) → Stays old d → d.phase ≡ old.phase → NextKeeps known jobs hosts old d start start
 next-begins known jobs hosts old d start stays same = λ first was h. record {
   ledger = was;
-  holds = stays-held known jobs hosts old d was first start start stays (ap job_of same) (λ calls from now. current-by known jobs hosts old.phase d.phase calls from start (sym same) now) h;
+  holds = stays-held known jobs hosts old d was first start start stays (ap job_in_work same) (λ calls from now. current-by known jobs hosts old.phase d.phase calls from start (sym same) now) h;
   more_works = [];
   works_are = sym (append-nil was.works);
   same_calls = refl;
@@ -86,11 +86,11 @@ pub record Adds (old new : Client) (done : Done) : Type 0 where
   pub number : new.number ≡ old.number
   pub least : new.least ≡ old.least
   pub records : new.records.items ≡ old.records.items ++ done ∷ []
-  pub in_work : job_of old.phase ≡ Some done.job
+  pub in_work : job_in_work old.phase ≡ Some done.job
   pub rests : new.phase ≡ Rests
 
-no-job : (d : Client) → d.phase ≡ Rests → job_of d.phase ≡ None
-no-job d rests = ap job_of rests
+no-job : (d : Client) → d.phase ≡ Rests → job_in_work d.phase ≡ None
+no-job d rests = ap job_in_work rests
 
 at-least : (job number least bound : ℕ) → job ≡ number → bound ≡ suc number → least ≡ bound → suc job ≤ least
 at-least job number least bound is in_work same = omega (arith, is, in_work, same)
@@ -110,7 +110,7 @@ module _ (known : Known) (jobs : List Job) (hosts : List Host) where
         rising = subst (λ (o : Option ℕ). GoUp 0 (ledger.works ++ w ∷ []) (below_works o d.least)) (sym (no-job d adds.rests))
             (go-up-snoc 0 ledger.works w done.job d.least (subst (λ (o : Option ℕ). GoUp 0 ledger.works (below_works o c.least)) adds.in_work was.rising) (sym job_is)
             (at-least w.done.job done.job d.least c.least job_is (was.in_work done.job adds.in_work) adds.least));
-        in_work = λ n e. absurd (some-none (job_of d.phase) n (no-job d adds.rests) e);
+        in_work = λ n e. absurd (some-none (job_in_work d.phase) n (no-job d adds.rests) e);
         ends = one-more known jobs hosts ledger.works w first ledger.from now was.ends ended.works;
         current = current-by known jobs hosts Rests d.phase [] now now (sym adds.rests) (refl, refl);
       }
@@ -135,9 +135,9 @@ module _ (known : Known) (jobs : List Job) (hosts : List Host) where
 
 -- ---- the numbers drawn ----
 
-pub drew-on : (old c d : Client) → d.records.items ≡ c.records.items → job_of d.phase ≡ job_of c.phase → DrewTheSame old c → DrewTheSame old d
+pub drew-on : (old c d : Client) → d.records.items ≡ c.records.items → job_in_work d.phase ≡ job_in_work c.phase → DrewTheSame old c → DrewTheSame old d
 drew-on old c d records same so_far = λ n.
-    ap (λ (l : List Done). count_by (λ (x : Done). nat_eq x.job n) l + one_if_job n (job_of d.phase)) records ∙ ap (λ (o : Option ℕ). count_by (λ (x : Done). nat_eq x.job n) c.records.items + one_if_job n o) same ∙ so_far n
+    ap (λ (l : List Done). count_by (λ (x : Done). nat_eq x.job n) l + one_if_job n (job_in_work d.phase)) records ∙ ap (λ (o : Option ℕ). count_by (λ (x : Done). nat_eq x.job n) c.records.items + one_if_job n o) same ∙ so_far n
 
 add-none : (a b : ℕ) → a + b + 0 ≡ a + b
 add-none a b = omega arith
@@ -156,27 +156,27 @@ drew-adds old c d done adds so_far = λ n.
 
 -- no step was made, or the client is nearer to its end and didn't want a slot
 abbrev pub IsNearer : Phase → Phase → Type 0
-IsNearer new old = (new ≡ old) ⊎ ((rank new < rank old) × ((n : ℕ) (bytes : List ℕ) → old ≡ Wants n bytes → ⊥))
+IsNearer new old = (new ≡ old) ⊎ ((phase_rank new < phase_rank old) × ((n : ℕ) (bytes : List ℕ) → old ≡ Wants n bytes → ⊥))
 
 abbrev WantsNone : Phase → Type 0
 WantsNone p = (n : ℕ) (bytes : List ℕ) → p ≡ Wants n bytes → ⊥
 
-nearer-by : (old p q : Phase) → rank q < rank p → WantsNone p → IsNearer p old → IsNearer q old
-nearer-by old p q lt none (inl same) = inr (subst (λ (x : Phase). rank q < rank x) same lt, subst WantsNone same none)
-nearer-by old p q lt none (inr h) = inr (lt_trans {n = rank q} {m = rank p} {k = rank old} lt h.0, h.1)
+nearer-by : (old p q : Phase) → phase_rank q < phase_rank p → WantsNone p → IsNearer p old → IsNearer q old
+nearer-by old p q lt none (inl same) = inr (subst (λ (x : Phase). phase_rank q < phase_rank x) same lt, subst WantsNone same none)
+nearer-by old p q lt none (inr h) = inr (lt_trans {n = phase_rank q} {m = phase_rank p} {k = phase_rank old} lt h.0, h.1)
 
-pub nearer-goes : (hosts : ℕ) (old p q : Phase) → rank q < rank p → WantsThenTakes hosts p (adv.Goes q) → IsNearer p old → IsNearer q old
+pub nearer-goes : (hosts : ℕ) (old p q : Phase) → phase_rank q < phase_rank p → WantsThenTakes hosts p (adv.Goes q) → IsNearer p old → IsNearer q old
 nearer-goes hosts old p q lt wants so_far = nearer-by old p q lt (λ n bytes e. let no = wants n bytes e in absurd (cc)) so_far
 
-pub nearer-records : (hosts : ℕ) (old p : Phase) (done : Done) → 2 < rank p → WantsThenTakes hosts p (adv.Records done) → IsNearer p old → IsNearer Rests old
+pub nearer-records : (hosts : ℕ) (old p : Phase) (done : Done) → 2 < phase_rank p → WantsThenTakes hosts p (adv.Records done) → IsNearer p old → IsNearer Rests old
 nearer-records hosts old p done lt wants so_far = nearer-by old p Rests lt (λ n bytes e. let no = wants n bytes e in absurd (cc)) so_far
 
 -- ---- room for its records ----
 
-pub room-goes : (p q : Phase) (n least : ℕ) → job_of q ≡ job_of p → one_if_some (job_of p) + n ≤ least → one_if_some (job_of q) + n ≤ least
+pub room-goes : (p q : Phase) (n least : ℕ) → job_in_work q ≡ job_in_work p → one_if_some (job_in_work p) + n ≤ least → one_if_some (job_in_work q) + n ≤ least
 room-goes p q n least same was = subst (λ (o : Option ℕ). one_if_some o + n ≤ least) (sym same) was
 
-pub room-records : (p : Phase) (job n more least : ℕ) → job_of p ≡ Some job → more ≡ n + 1 → one_if_some (job_of p) + n ≤ least → 0 + more ≤ least
+pub room-records : (p : Phase) (job n more least : ℕ) → job_in_work p ≡ Some job → more ≡ n + 1 → one_if_some (job_in_work p) + n ≤ least → 0 + more ≤ least
 room-records p job n more least is longer was = one-longer n more least longer (subst (λ (o : Option ℕ). one_if_some o + n ≤ least) is was)
   where
     one-longer : (n more least : ℕ) → more ≡ n + 1 → 1 + n ≤ least → 0 + more ≤ least

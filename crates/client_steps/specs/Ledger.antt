@@ -20,7 +20,7 @@ use Rattle.client_steps.specs.declared.need.Reply.{Reply}
 use Rattle.client_steps.specs.declared.need.Reply.TheVariants as reply
 use Rattle.job_ends.specs.Looks.{SheetCall, sheet_call, LooksFor}
 use Rattle.job_ends.specs.Works.{Work, EndHolds}
-use Rattle.client_steps.specs.Phases.{Current, NeedOf, rank, job_of, leased_by, given_by}
+use Rattle.client_steps.specs.Phases.{Current, NeedOf, phase_rank, job_in_work, leased_by, lease_given_back}
 
 -- ---- what is kept of a client ----
 
@@ -30,7 +30,7 @@ one_if_some (Some n) = 1
 
 -- a record is kept for each number drawn, and there is room for the job in work
 pub record HasRoom (c : Client) : Type 0 where
-  pub enough : one_if_some (job_of c.phase) + vec_len c.records ≤ c.least
+  pub enough : one_if_some (job_in_work c.phase) + vec_len c.records ≤ c.least
   pub below : c.least ≤ c.jobs
   pub room : c.jobs ≤ vec_capacity c.records
 
@@ -65,8 +65,8 @@ least_after least reply.Refused = least
 -- a client works up to its need: it comes nearer to its end, and a lease that it held goes into the need
 pub record NextMoves (jobs hosts : ℕ) (old new : Phase) (wanted : Need) : Type 0 where
   pub waits : NeedOf jobs hosts new wanted
-  pub nearer : (rank new < rank old) ⊎ ((old ≡ Ended) × (new ≡ Ended))
-  pub lease : leased_by old ≡ given_by wanted
+  pub nearer : (phase_rank new < phase_rank old) ⊎ ((old ≡ Ended) × (new ≡ Ended))
+  pub lease : leased_by old ≡ lease_given_back wanted
   pub wants : (n : ℕ) (bytes : List ℕ) → old ≡ Wants n bytes → new ≡ Takes n bytes hosts
 
 -- ---- the numbers of its jobs ----
@@ -77,7 +77,7 @@ one_if_job n (Some k) = cond (nat_eq k n) 1 0
 
 -- how often a client drew a number: for a job that ended, or for the one in work
 abbrev pub times_drawn : ℕ → Client → ℕ
-times_drawn n c = count_by (λ (d : Done). nat_eq d.job n) c.records.items + one_if_job n (job_of c.phase)
+times_drawn n c = count_by (λ (d : Done). nat_eq d.job n) c.records.items + one_if_job n (job_in_work c.phase)
 
 abbrev pub DrewTheSame : Client → Client → Type 0
 DrewTheSame old new = (n : ℕ) → times_drawn n new ≡ times_drawn n old
@@ -118,8 +118,8 @@ pub record ClientHolds (known : Known) (jobs : List Job) (hosts : List Host) (c 
   pub records_are : map (λ (w : Work). w.done) ledger.works ≡ c.records.items
   pub by_client : AllByRecursion (λ (w : Work). w.done.client ≡ c.number) ledger.works
   pub each : AllByRecursion (WorkHolds known jobs hosts) ledger.works
-  pub rising : GoUp 0 ledger.works (below_works (job_of c.phase) c.least)
-  pub in_work : (n : ℕ) → job_of c.phase ≡ Some n → c.least ≡ suc n
+  pub rising : GoUp 0 ledger.works (below_works (job_in_work c.phase) c.least)
+  pub in_work : (n : ℕ) → job_in_work c.phase ≡ Some n → c.least ≡ suc n
   pub ends : EndHolds ledger.works first ledger.from
   pub current : Current known jobs hosts c.phase ledger.calls ledger.from now
 

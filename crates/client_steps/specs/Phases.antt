@@ -103,7 +103,7 @@ pub record IsPublishing (known : Known) (of : Job) (a : Progress) (key : SheetKe
 -- ---- after the analysis ----
 
 -- the request is ready, and no refusal holds
-pub record IsReady (known : Known) (of : Job) (bytes : List ℕ) (calls : List SheetCall) (from now : EndSeen) : Type 0 where
+pub record RequestIsReady (known : Known) (of : Job) (bytes : List ℕ) (calls : List SheetCall) (from now : EndSeen) : Type 0 where
   pub did : Did [] [] from now
   pub request : IsRequestForJob known of bytes
   pub none : NoneHolds known of
@@ -111,7 +111,7 @@ pub record IsReady (known : Known) (of : Job) (bytes : List ℕ) (calls : List S
   pub reads : OfTree known (λ tree. (entries : Entries) × AreEntriesOf tree of entries × (now.reads ≤ from.reads + (length (missed calls) + files_among entries)))
 
 -- the job's way is settled by its exchanges, and its outcome isn't yet
-pub record IsJudged (known : Known) (of : Job) (hosts : List Host) (replied : Replied) (calls : List SheetCall) (from now : EndSeen) : Type 0 where
+pub record WayIsSettled (known : Known) (of : Job) (hosts : List Host) (replied : Replied) (calls : List SheetCall) (from now : EndSeen) : Type 0 where
   pub host : Host
   pub listed : Member host hosts
   pub settled : IsSettled known of host replied from now
@@ -148,11 +148,11 @@ module _ (known : Known) (jobs : List Job) (hosts : List Host) where
   Current (Finds n left a key sheet) calls from now = OfJob n (λ job. HasFound known job a key sheet calls from now)
   Current (Misses n left a key) calls from now = OfJob n (λ job. HasMissed known job a key calls from now)
   Current (Publishes n left a key) calls from now = OfJob n (λ job. IsPublishing known job a key calls from now)
-  Current (Wants n bytes) calls from now = OfJob n (λ job. IsReady known job bytes calls from now)
-  Current (Takes n bytes count) calls from now = OfJob n (λ job. IsReady known job bytes calls from now)
-  Current (Calls n bytes count lease) calls from now = OfJob n (λ job. IsReady known job bytes calls from now)
-  Current (Gives n host replied) calls from now = OfJob n (λ job. (judged : IsJudged known job hosts replied calls from now) × (slice_get hosts host ≡ Some judged.host))
-  Current (Concludes n replied) calls from now = OfJob n (λ job. IsJudged known job hosts replied calls from now)
+  Current (Wants n bytes) calls from now = OfJob n (λ job. RequestIsReady known job bytes calls from now)
+  Current (Takes n bytes count) calls from now = OfJob n (λ job. RequestIsReady known job bytes calls from now)
+  Current (Calls n bytes count lease) calls from now = OfJob n (λ job. RequestIsReady known job bytes calls from now)
+  Current (Gives n host replied) calls from now = OfJob n (λ job. (judged : WayIsSettled known job hosts replied calls from now) × (slice_get hosts host ≡ Some judged.host))
+  Current (Concludes n replied) calls from now = OfJob n (λ job. WayIsSettled known job hosts replied calls from now)
 
 -- ---- what a call asks for ----
 
@@ -184,31 +184,31 @@ NeedOf jobs hosts Ended need.Ended = Unit {0}
 NeedOf jobs hosts _ _ = ⊥
 
 -- the answer fits the phase. (That a drawn number is above all that the client drew before is asked beside this.)
-abbrev pub Fits : ℕ → Phase → Reply → Type 0
-Fits jobs Draws (reply.Drawn None) = Unit {0}
-Fits jobs Draws (reply.Drawn (Some n)) = n < jobs
-Fits jobs (Looks n left a key) (reply.Looked got) = Unit {0}
-Fits jobs (Looks n left a key) reply.Refused = Unit {0}
-Fits jobs (Publishes n left a key) (reply.Kept kept) = Unit {0}
-Fits jobs (Publishes n left a key) reply.Refused = Unit {0}
-Fits jobs (Takes n bytes count) (reply.Leased None) = Unit {0}
-Fits jobs (Takes n bytes count) (reply.Leased (Some lease)) = lease < count
-Fits jobs (Gives n host replied) reply.Given = Unit {0}
-Fits jobs _ _ = ⊥
+abbrev pub AnswerFits : ℕ → Phase → Reply → Type 0
+AnswerFits jobs Draws (reply.Drawn None) = Unit {0}
+AnswerFits jobs Draws (reply.Drawn (Some n)) = n < jobs
+AnswerFits jobs (Looks n left a key) (reply.Looked got) = Unit {0}
+AnswerFits jobs (Looks n left a key) reply.Refused = Unit {0}
+AnswerFits jobs (Publishes n left a key) (reply.Kept kept) = Unit {0}
+AnswerFits jobs (Publishes n left a key) reply.Refused = Unit {0}
+AnswerFits jobs (Takes n bytes count) (reply.Leased None) = Unit {0}
+AnswerFits jobs (Takes n bytes count) (reply.Leased (Some lease)) = lease < count
+AnswerFits jobs (Gives n host replied) reply.Given = Unit {0}
+AnswerFits jobs _ _ = ⊥
 
 -- the phase after an answer
-abbrev pub answered : Phase → Reply → Phase
-answered Draws (reply.Drawn None) = Ended
-answered Draws (reply.Drawn (Some n)) = Begins n
-answered (Looks n left a key) (reply.Looked None) = Misses n left a key
-answered (Looks n left a key) (reply.Looked (Some sheet)) = Finds n left a key sheet
-answered (Looks n left a key) reply.Refused = Concludes n (Failed cause.Memory)
-answered (Publishes n left a key) (reply.Kept kept) = Goes n left a
-answered (Publishes n left a key) reply.Refused = Concludes n (Failed cause.Memory)
-answered (Takes n bytes count) (reply.Leased None) = Wants n bytes
-answered (Takes n bytes count) (reply.Leased (Some lease)) = Calls n bytes count lease
-answered (Gives n host replied) reply.Given = Concludes n replied
-answered phase _ = phase
+abbrev pub phase_after : Phase → Reply → Phase
+phase_after Draws (reply.Drawn None) = Ended
+phase_after Draws (reply.Drawn (Some n)) = Begins n
+phase_after (Looks n left a key) (reply.Looked None) = Misses n left a key
+phase_after (Looks n left a key) (reply.Looked (Some sheet)) = Finds n left a key sheet
+phase_after (Looks n left a key) reply.Refused = Concludes n (Failed cause.Memory)
+phase_after (Publishes n left a key) (reply.Kept kept) = Goes n left a
+phase_after (Publishes n left a key) reply.Refused = Concludes n (Failed cause.Memory)
+phase_after (Takes n bytes count) (reply.Leased None) = Wants n bytes
+phase_after (Takes n bytes count) (reply.Leased (Some lease)) = Calls n bytes count lease
+phase_after (Gives n host replied) reply.Given = Concludes n replied
+phase_after phase _ = phase
 
 -- ---- how far a client is from its end ----
 
@@ -217,42 +217,42 @@ abbrev pub most_asked : ℕ
 most_asked = 2 ^ 64 - 1
 
 -- a number that each private step and each answer makes smaller, but for a draw and a slot that isn't free
-abbrev pub rank : Phase → ℕ
-rank Ended = 0
-rank Draws = 1
-rank Rests = 2
-rank (Concludes n replied) = 3
-rank (Gives n host replied) = 4
-rank (Calls n bytes count lease) = 5
-rank (Takes n bytes count) = 6
-rank (Wants n bytes) = 7
-rank (Goes n left a) = 4 * left + 11
-rank (Publishes n left a key) = 4 * left + 12
-rank (Misses n left a key) = 4 * left + 13
-rank (Finds n left a key sheet) = 4 * left + 13
-rank (Looks n left a key) = 4 * left + 14
-rank (Begins n) = 4 * most_asked + 15
+abbrev pub phase_rank : Phase → ℕ
+phase_rank Ended = 0
+phase_rank Draws = 1
+phase_rank Rests = 2
+phase_rank (Concludes n replied) = 3
+phase_rank (Gives n host replied) = 4
+phase_rank (Calls n bytes count lease) = 5
+phase_rank (Takes n bytes count) = 6
+phase_rank (Wants n bytes) = 7
+phase_rank (Goes n left a) = 4 * left + 11
+phase_rank (Publishes n left a key) = 4 * left + 12
+phase_rank (Misses n left a key) = 4 * left + 13
+phase_rank (Finds n left a key sheet) = 4 * left + 13
+phase_rank (Looks n left a key) = 4 * left + 14
+phase_rank (Begins n) = 4 * most_asked + 15
 
 -- a number above the rank of every phase
 abbrev pub most_rank : ℕ
 most_rank = 4 * most_asked + 16
 
 -- the job in work
-abbrev pub job_of : Phase → Option ℕ
-job_of Rests = None
-job_of Draws = None
-job_of Ended = None
-job_of (Begins n) = Some n
-job_of (Goes n left a) = Some n
-job_of (Looks n left a key) = Some n
-job_of (Finds n left a key sheet) = Some n
-job_of (Misses n left a key) = Some n
-job_of (Publishes n left a key) = Some n
-job_of (Wants n bytes) = Some n
-job_of (Takes n bytes count) = Some n
-job_of (Calls n bytes count lease) = Some n
-job_of (Gives n host replied) = Some n
-job_of (Concludes n replied) = Some n
+abbrev pub job_in_work : Phase → Option ℕ
+job_in_work Rests = None
+job_in_work Draws = None
+job_in_work Ended = None
+job_in_work (Begins n) = Some n
+job_in_work (Goes n left a) = Some n
+job_in_work (Looks n left a key) = Some n
+job_in_work (Finds n left a key sheet) = Some n
+job_in_work (Misses n left a key) = Some n
+job_in_work (Publishes n left a key) = Some n
+job_in_work (Wants n bytes) = Some n
+job_in_work (Takes n bytes count) = Some n
+job_in_work (Calls n bytes count lease) = Some n
+job_in_work (Gives n host replied) = Some n
+job_in_work (Concludes n replied) = Some n
 
 -- the host whose slot the client holds
 abbrev pub leased_by : Phase → Option ℕ
@@ -272,29 +272,29 @@ leased_by (Gives n host replied) = None
 leased_by (Concludes n replied) = None
 
 -- the lease that a need gives back
-abbrev pub given_by : Need → Option ℕ
-given_by need.Draw = None
-given_by (need.Look key) = None
-given_by (need.Publish key sheet) = None
-given_by need.Take = None
-given_by (need.Give lease) = Some lease
-given_by need.Ended = None
+abbrev pub lease_given_back : Need → Option ℕ
+lease_given_back need.Draw = None
+lease_given_back (need.Look key) = None
+lease_given_back (need.Publish key sheet) = None
+lease_given_back need.Take = None
+lease_given_back (need.Give lease) = Some lease
+lease_given_back need.Ended = None
 
 -- ---- a private step ----
 
 -- A private step makes the rank smaller, keeps the job, and leaves work to do, a record or a need. A lease goes into the need.
 abbrev pub Advances : ℕ → ℕ → Phase → Advanced → Type 0
-Advances jobs hosts old (adv.Goes new) = CanWork jobs hosts new × ((rank new < rank old) × ((job_of new ≡ job_of old) × (leased_by new ≡ leased_by old)))
-Advances jobs hosts old (adv.Records done) = (2 < rank old) × ((job_of old ≡ Some done.job) × (leased_by old ≡ None))
+Advances jobs hosts old (adv.Goes new) = CanWork jobs hosts new × ((phase_rank new < phase_rank old) × ((job_in_work new ≡ job_in_work old) × (leased_by new ≡ leased_by old)))
+Advances jobs hosts old (adv.Records done) = (2 < phase_rank old) × ((job_in_work old ≡ Some done.job) × (leased_by old ≡ None))
 Advances jobs hosts old (adv.Waits new wanted) =
-    NeedOf jobs hosts new wanted × (((rank new < rank old) ⊎ ((old ≡ Ended) × (new ≡ Ended))) × ((job_of new ≡ job_of old) × (leased_by old ≡ given_by wanted)))
+    NeedOf jobs hosts new wanted × (((phase_rank new < phase_rank old) ⊎ ((old ≡ Ended) × (new ≡ Ended))) × ((job_in_work new ≡ job_in_work old) × (leased_by old ≡ lease_given_back wanted)))
 
 -- The same for a step of this job with no lease, from a rank below which it leads.
 abbrev pub AdvancesBelow : ℕ → ℕ → ℕ → ℕ → Advanced → Type 0
-AdvancesBelow jobs hosts n bound (adv.Goes new) = CanWork jobs hosts new × ((rank new < bound) × ((job_of new ≡ Some n) × (leased_by new ≡ None)))
+AdvancesBelow jobs hosts n bound (adv.Goes new) = CanWork jobs hosts new × ((phase_rank new < bound) × ((job_in_work new ≡ Some n) × (leased_by new ≡ None)))
 AdvancesBelow jobs hosts n bound (adv.Records done) = done.job ≡ n
 AdvancesBelow jobs hosts n bound (adv.Waits new wanted) =
-    NeedOf jobs hosts new wanted × ((rank new < bound) × ((job_of new ≡ Some n) × (given_by wanted ≡ None)))
+    NeedOf jobs hosts new wanted × ((phase_rank new < bound) × ((job_in_work new ≡ Some n) × (lease_given_back wanted ≡ None)))
 
 -- a sheet that is published is right for its key
 abbrev pub NeedHolds : Known → Need → Type 0
@@ -340,8 +340,8 @@ pub record HasAnswered (known : Known) (jobs : List Job) (n : ℕ) (was : Progre
   pub large : (visit : Visit) → was.heard.large ≡ Some visit → SaysLarge answer
 
 -- a step from such an answer: whatever the job has done before it
-abbrev pub AnswerKeeps : Known → List Job → List Host → ℕ → ℕ → Progress → Next → Progress → EndSeen → EndSeen → Advanced → Type 0
-AnswerKeeps known jobs hosts client n was answer now before after result =
+abbrev pub AnswerStepHolds : Known → List Job → List Host → ℕ → ℕ → Progress → Next → Progress → EndSeen → EndSeen → Advanced → Type 0
+AnswerStepHolds known jobs hosts client n was answer now before after result =
     (calls : List SheetCall) (from : EndSeen) → HasAnswered known jobs n was answer now calls from before → StepHolds known jobs hosts client calls from after result
 
 -- a client that wants a slot needs one next, and nothing else of it changes

@@ -5,7 +5,7 @@ ghost use Rattle.job_ends.specs.Outside.{seen_end};
 ghost use Rattle.search_path.specs.Search.{NeedsFrom};
 ghost use Rattle.sheet_build.specs.Keys.{key_of};
 ghost use Rattle.closure_fixpoint.specs.Told.{Progress};
-ghost use Rattle.client_steps.specs.Phases.{Advances, AdvancesBelow, StepKeeps, StepIsRight, AnswerKeeps};
+ghost use Rattle.client_steps.specs.Phases.{Advances, AdvancesBelow, StepKeeps, StepIsRight, AnswerStepHolds};
 
 use crate::Need;
 use crate::phase::{Advanced, Phase};
@@ -146,7 +146,7 @@ fn searched<T: Tree, W: Wire, O: Outs>(
     ensures wire { end.new.wire ≡ end.old.wire }
     ensures right { StepIsRight (known T.Of.named budget) result }
     ensures keeps { let seen = seen_end T.told T.Tree.faults T.reads W.talk W.state W.Wire.faults O.kept O.Outs.faults in
-        (was : Progress) → AnswerKeeps (known T.Of.named budget) jobs.now hosts.now client job was (Next.Search ask) fixpoint (seen end.old) (seen end.new) result }
+        (was : Progress) → AnswerStepHolds (known T.Of.named budget) jobs.now hosts.now client job was (Next.Search ask) fixpoint (seen end.old) (seen end.new) result }
 {
     let mut fixpoint = fixpoint;
     match search(alloc, &mut end.tree, jobs[job as usize].setup(), &ask) {
@@ -181,7 +181,7 @@ fn asked<T: Tree, W: Wire, O: Outs>(
     ensures advances { AdvancesBelow (length jobs.now) (length hosts.now) job (4 * left + 15) result }
     ensures right { StepIsRight (known T.Of.named budget) result }
     ensures keeps { let seen = seen_end T.told T.Tree.faults T.reads W.talk W.state W.Wire.faults O.kept O.Outs.faults in
-        (was : Progress) → AnswerKeeps (known T.Of.named budget) jobs.now hosts.now client job was (Next.Sheet visit) fixpoint (seen end.now) (seen end.now) result }
+        (was : Progress) → AnswerStepHolds (known T.Of.named budget) jobs.now hosts.now client job was (Next.Sheet visit) fixpoint (seen end.now) (seen end.now) result }
 {
     closures();
     match two_keys(alloc, &jobs[job as usize], visit) {
@@ -227,7 +227,7 @@ fn gathered<T: Tree, W: Wire, O: Outs>(
     ensures wire { end.new.wire ≡ end.old.wire }
     ensures right { StepIsRight (known T.Of.named budget) result }
     ensures keeps { let seen = seen_end T.told T.Tree.faults T.reads W.talk W.state W.Wire.faults O.kept O.Outs.faults in
-        (was now : Progress) → AnswerKeeps (known T.Of.named budget) jobs.now hosts.now client job was (Next.Done closure) now (seen end.old) (seen end.new) result }
+        (was now : Progress) → AnswerStepHolds (known T.Of.named budget) jobs.now hosts.now client job was (Next.Done closure) now (seen end.old) (seen end.new) result }
 {
     match request_of(alloc, &mut end.tree, &jobs[job as usize], &closure) {
         Ok(Analysed::Request(request)) => return Advanced::Goes(Phase::Wants { job, request }),
@@ -252,7 +252,7 @@ fn refused<T: Tree, W: Wire, O: Outs>(
     ensures advances { AdvancesBelow (length jobs.now) (length hosts.now) job 11 result }
     ensures right { StepIsRight (known T.Of.named budget) result }
     ensures keeps { let seen = seen_end T.told T.Tree.faults T.reads W.talk W.state W.Wire.faults O.kept O.Outs.faults in
-        (was now : Progress) → AnswerKeeps (known T.Of.named budget) jobs.now hosts.now client job was (Next.Refused refusal) now (seen end.now) (seen end.now) result }
+        (was now : Progress) → AnswerStepHolds (known T.Of.named budget) jobs.now hosts.now client job was (Next.Refused refusal) now (seen end.now) (seen end.now) result }
 {
     refusals_hold();
     settled(job, Cause::Analysis(refusal))

@@ -3,7 +3,7 @@ ghost use Rattle.std.specs.Prelude.{◌≡◌, ◌<◌, ℕ, length, IfOk, IsTru
 ghost use Rattle.io_edges.specs.Talk.{EachAnswered};
 ghost use Rattle.job_ends.specs.Outside.{seen_end};
 ghost use Rattle.job_ends.specs.Record.{known};
-ghost use Rattle.client_steps.specs.Phases.{CanWork, Fits, NeedHolds, answered};
+ghost use Rattle.client_steps.specs.Phases.{CanWork, AnswerFits, NeedHolds, phase_after};
 ghost use Rattle.client_steps.specs.Ledger.{HasRoom, IsNew, NextMoves, NextKeeps, DrewTheSame, PutKeeps, IsAbove, least_after};
 
 use crate::phase::{Advanced, Phase};
@@ -43,7 +43,7 @@ fn put_back(slot: &mut Phase, phase: Phase)
 
 // The least number that may be drawn next.
 fn least_next(least: u32, jobs: u32, phase: &Phase, reply: &Reply) -> u32
-    requires { Fits jobs phase.now reply.now }
+    requires { AnswerFits jobs phase.now reply.now }
     ensures { result ≡ least_after least reply.now }
 {
     match reply {
@@ -55,7 +55,7 @@ fn least_next(least: u32, jobs: u32, phase: &Phase, reply: &Reply) -> u32
 // The phase after a draw.
 fn after_draw(phase: Phase, job: Option<u32>) -> Phase
     requires { phase ≡ Phase.Draws }
-    ensures { result ≡ answered phase (Reply.Drawn job) }
+    ensures { result ≡ phase_after phase (Reply.Drawn job) }
 {
     match phase {
         Phase::Draws => match job {
@@ -68,8 +68,8 @@ fn after_draw(phase: Phase, job: Option<u32>) -> Phase
 
 // The phase after a look.
 fn after_look(phase: Phase, got: Option<Sheet>) -> Phase
-    requires { Fits 0 phase (Reply.Looked got) }
-    ensures { result ≡ answered phase (Reply.Looked got) }
+    requires { AnswerFits 0 phase (Reply.Looked got) }
+    ensures { result ≡ phase_after phase (Reply.Looked got) }
 {
     match phase {
         Phase::Looks {
@@ -98,8 +98,8 @@ fn after_look(phase: Phase, got: Option<Sheet>) -> Phase
 
 // The phase after a publication.
 fn after_publish(phase: Phase, kept: Kept) -> Phase
-    requires { Fits 0 phase (Reply.Kept kept) }
-    ensures { result ≡ answered phase (Reply.Kept kept) }
+    requires { AnswerFits 0 phase (Reply.Kept kept) }
+    ensures { result ≡ phase_after phase (Reply.Kept kept) }
 {
     match phase {
         Phase::Publishes {
@@ -118,8 +118,8 @@ fn after_publish(phase: Phase, kept: Kept) -> Phase
 
 // The phase after a slot was asked for.
 fn after_take(phase: Phase, lease: Option<Lease>) -> Phase
-    requires { Fits 0 phase (Reply.Leased lease) }
-    ensures { result ≡ answered phase (Reply.Leased lease) }
+    requires { AnswerFits 0 phase (Reply.Leased lease) }
+    ensures { result ≡ phase_after phase (Reply.Leased lease) }
 {
     match phase {
         Phase::Takes {
@@ -141,8 +141,8 @@ fn after_take(phase: Phase, lease: Option<Lease>) -> Phase
 
 // The phase after a slot was given back.
 fn after_give(phase: Phase) -> Phase
-    requires { Fits 0 phase Reply.Given }
-    ensures { result ≡ answered phase Reply.Given }
+    requires { AnswerFits 0 phase Reply.Given }
+    ensures { result ≡ phase_after phase Reply.Given }
 {
     match phase {
         Phase::Gives {
@@ -156,8 +156,8 @@ fn after_give(phase: Phase) -> Phase
 
 // The phase after a look or a publication for which there was no memory.
 fn after_refusal(phase: Phase) -> Phase
-    requires { Fits 0 phase Reply.Refused }
-    ensures { result ≡ answered phase Reply.Refused }
+    requires { AnswerFits 0 phase Reply.Refused }
+    ensures { result ≡ phase_after phase Reply.Refused }
 {
     match phase {
         Phase::Looks {
@@ -184,8 +184,8 @@ fn after_refusal(phase: Phase) -> Phase
 
 // The phase after an answer.
 fn after(phase: Phase, reply: Reply) -> Phase
-    requires { (jobs : ℕ) × Fits jobs phase reply }
-    ensures { result ≡ answered phase reply }
+    requires { (jobs : ℕ) × AnswerFits jobs phase reply }
+    ensures { result ≡ phase_after phase reply }
 {
     match reply {
         Reply::Drawn(job) => return after_draw(phase, job),
@@ -258,13 +258,13 @@ impl Client {
     /// The answer to the need that stands: any that fits it. `Refused` answers a look or a publication, for which there was no
     /// memory; a number that was drawn is above all that the client drew before; a lease is of one of the hosts.
     pub fn put(&mut self, reply: Reply)
-        requires fits { Fits self.old.jobs self.old.phase reply }
+        requires fits { AnswerFits self.old.jobs self.old.phase reply }
         requires above { IsAbove self.old.least reply }
         requires room { HasRoom self.old }
         ensures room { HasRoom self.new }
         ensures least { self.new.least ≡ least_after self.old.least reply }
         ensures same { (self.new.jobs ≡ self.old.jobs) × ((self.new.number ≡ self.old.number) × ((self.new.budget ≡ self.old.budget) × (self.new.records ≡ self.old.records))) }
-        ensures phase { self.new.phase ≡ answered self.old.phase reply }
+        ensures phase { self.new.phase ≡ phase_after self.old.phase reply }
         ensures keeps { PutKeeps self.old self.new reply }
     {
         let phase = replace(&mut self.phase, Phase::Ended);

@@ -10,7 +10,7 @@ use Rattle.client_steps.specs.declared.client.Client.{Client}
 use Rattle.client_steps.specs.declared.need.Need.{Need}
 use Rattle.client_steps.specs.declared.phase.Phase.{Phase}
 use Rattle.client_steps.specs.declared.phase.Phase.TheVariants.{Wants, Takes, Ended}
-use Rattle.client_steps.specs.Phases.{CanWork, NeedOf, rank, most_rank, leased_by, given_by}
+use Rattle.client_steps.specs.Phases.{CanWork, NeedOf, phase_rank, most_rank, leased_by, lease_given_back}
 use Rattle.client_steps.specs.Ledger.{HasRoom}
 use Rattle.client_order.specs.Ran.{MemoSeen}
 use Rattle.client_order.specs.parts.World.{ClientDid, HasAllDrawn, DrawsMore, one_if_same}
@@ -23,7 +23,7 @@ pub record CanAnswer (wanted : Need) (drawn : ℕ) (s : Leased) (c : Client) : T
   pub drawn_few : drawn ≤ c.jobs
   pub room : HasRoom c
   pub all : HasAllDrawn c.jobs drawn c.phase
-  pub lease : (host : ℕ) → given_by wanted ≡ Some host → (host < length s.limits) × (0 < slice_index s.leased host)
+  pub lease : (host : ℕ) → lease_given_back wanted ≡ Some host → (host < length s.limits) × (0 < slice_index s.leased host)
 
 -- no slot is free for the client
 abbrev pub IsRefused : Phase → Leased → Phase → Type 0
@@ -32,7 +32,7 @@ IsRefused old s new = (n : ℕ) × ((bytes : List ℕ) × ((count : ℕ) × ((ol
 -- an answer brings the client nearer to its end, or a job is drawn; else nothing is changed: it has ended, or no slot is free
 abbrev pub AnswerMoves : ℕ → Phase → Leased → ℕ → Phase → Leased → Type 0
 AnswerMoves undrawn old s undrawn_after new after =
-    (undrawn_after * most_rank + rank new < undrawn * most_rank + rank old)
+    (undrawn_after * most_rank + phase_rank new < undrawn * most_rank + phase_rank old)
     ⊎ ((undrawn_after ≡ undrawn) × ((after ≡ s) × (((old ≡ Ended) × (new ≡ Ended)) ⊎ IsRefused old s new)))
 
 -- the client and what clients share after the answer
@@ -47,7 +47,7 @@ pub record Answers (wanted : Need) (drawn : ℕ) (s : Leased) (old : Client) (dr
   pub room : HasRoom new
   pub all : HasAllDrawn old.jobs drawn_after new.phase
   pub limits : after.limits ≡ s.limits
-  pub leased : (host : ℕ) → slice_index after.leased host + one_if_same host (given_by wanted) ≡ slice_index s.leased host + one_if_same host (leased_by new.phase)
+  pub leased : (host : ℕ) → slice_index after.leased host + one_if_same host (lease_given_back wanted) ≡ slice_index s.leased host + one_if_same host (leased_by new.phase)
   pub moves : AnswerMoves (old.jobs - drawn) old.phase s (old.jobs - drawn_after) new.phase after
   pub draws : DrawsMore drawn old drawn_after new
 

@@ -13,7 +13,7 @@ use Rattle.sheet_build.specs.declared.keys.SheetKey.{SheetKey}
 use Rattle.client_steps.specs.declared.client.Client.{Client}
 use Rattle.client_steps.specs.declared.phase.Phase.{Phase}
 use Rattle.client_steps.specs.declared.phase.Phase.TheVariants.{Wants, Ended}
-use Rattle.client_steps.specs.Phases.{CanWork, rank, most_rank, leased_by}
+use Rattle.client_steps.specs.Phases.{CanWork, phase_rank, most_rank, leased_by}
 use Rattle.client_steps.specs.Ledger.{HasRoom, ClientHolds, Ledger, all_calls, times_drawn}
 use Rattle.client_order.specs.Ran.{MemoSeen, calls_of}
 
@@ -49,7 +49,7 @@ SlotsMove old s new after =
 -- ---- how far the run is from its end ----
 
 abbrev pub distance : ℕ → List Client → ℕ
-distance undrawn clients = undrawn * most_rank + sum_by (λ (c : Client). rank c.phase) clients
+distance undrawn clients = undrawn * most_rank + sum_by (λ (c : Client). phase_rank c.phase) clients
 
 -- a client that a turn doesn't move: it has ended, or it wants a slot and none is free
 abbrev pub IsStuck : Phase → Leased → Type 0
@@ -58,7 +58,7 @@ IsStuck phase s = (phase ≡ Ended) ⊎ ((n : ℕ) × ((bytes : List ℕ) × (ph
 -- what a turn does: the client comes nearer to the end or draws a job, or it is stuck and nothing is changed
 abbrev pub Progresses : ℕ → Phase → Leased → ℕ → Phase → Leased → Type 0
 Progresses undrawn old s undrawn_after new after =
-    (undrawn_after * most_rank + rank new < undrawn * most_rank + rank old) ⊎ ((undrawn_after ≡ undrawn) × ((new ≡ old) × ((after ≡ s) × IsStuck old s)))
+    (undrawn_after * most_rank + phase_rank new < undrawn * most_rank + phase_rank old) ⊎ ((undrawn_after ≡ undrawn) × ((new ≡ old) × ((after ≡ s) × IsStuck old s)))
 
 -- ---- the world ----
 

@@ -2,14 +2,14 @@ use Rattle.std.proofs.Common.{rules, refl, ap, Err}
 use Rattle.job_ends.specs.Record.{known}
 use Rattle.job_ends.specs.declared.record.Cause.TheVariants as cause
 use Rattle.client_steps.proofs.Ends.{used-by, some-host}
-use Rattle.client_steps.proofs.Going.{settled-so, broken-so, answered-at, going-starved, going-fault, ready, gathered-refused}
+use Rattle.client_steps.proofs.Going.{settled-so, broken-so, phase_after-at, going-starved, going-fault, ready, gathered-refused}
 use Rattle.client_steps.proofs.analysing.gathered.Goals as goal
 
 pub returns-in-Ok-Request-clause-keeps : goal.returns-in-Ok-Request-clause-keeps
 returns-in-Ok-Request-clause-keeps g c = λ was now calls from h.
     let K = known g.T.Of.Frozen.named c.args.budget in
     let of = c.index-jobs-job.result in
-    let at = answered-at K c.args.jobs.now c.args.job of was now _ calls from _ c.requires.job c.index-jobs-job.is h in (
+    let at = phase_after-at K c.args.jobs.now c.args.job of was now _ calls from _ c.requires.job c.index-jobs-job.is h in (
       of,
       at.0,
       ready K of was now c.args.closure.visits c.args.closure.nodes c.in-Ok-Request.request calls from _ _ at.1 h.whole h.means
@@ -21,7 +21,7 @@ pub returns-in-Ok-Refused-clause-keeps : goal.returns-in-Ok-Refused-clause-keeps
 returns-in-Ok-Refused-clause-keeps g c = λ was now calls from h.
     let K = known g.T.Of.Frozen.named c.args.budget in
     let of = c.index-jobs-job.result in
-    let at = answered-at K c.args.jobs.now c.args.job of was now _ calls from _ c.requires.job c.index-jobs-job.is h in
+    let at = phase_after-at K c.args.jobs.now c.args.job of was now _ calls from _ c.requires.job c.index-jobs-job.is h in
     let some = some-host c.args.hosts.now c.requires.some_host in
     settled-so K _ _ _ c.args.job (cause.Analysis c.in-Ok-Refused.refusal) of calls from _ _ c.settled.ensures at.0
     (gathered-refused K of was now c.args.closure.visits c.args.closure.nodes c.in-Ok-Refused.refusal calls from _ _ at.1 h.whole h.means

@@ -4,14 +4,14 @@ use Rattle.search_path.specs.SetupOf.{SetupData}
 use Rattle.job_ends.specs.Record.{known}
 use Rattle.job_ends.specs.declared.record.Cause.TheVariants as cause
 use Rattle.client_steps.proofs.Ends.{used-by, at-some, some-host}
-use Rattle.client_steps.proofs.Going.{settled-so, broken-so, answered-at, going-starved, going-fault, searched}
+use Rattle.client_steps.proofs.Going.{settled-so, broken-so, phase_after-at, going-starved, going-fault, searched}
 use Rattle.client_steps.proofs.analysing.searched.Goals as goal
 
 pub returns-in-Ok-clause-keeps : goal.returns-in-Ok-clause-keeps
 returns-in-Ok-clause-keeps g c = λ was calls from h.
     let K = known g.T.Of.Frozen.named c.args.budget in
     let of = c.index-jobs-job.result in
-    let at = answered-at K c.args.jobs.now c.args.job of was c.args.fixpoint _ calls from _ c.requires.job c.index-jobs-job.is h in (
+    let at = phase_after-at K c.args.jobs.now c.args.job of was c.args.fixpoint _ calls from _ c.requires.job c.index-jobs-job.is h in (
       of,
       at.0,
       searched K of was c.args.fixpoint c.put_search.new.self c.args.ask c.in-Ok.got calls from _ _ at.1 h.whole h.large h.means c.put_search.ensures.told

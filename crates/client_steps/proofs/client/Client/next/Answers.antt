@@ -4,7 +4,7 @@ use Rattle.job_ends.specs.Outside.{seen_end}
 use Rattle.job_ends.specs.Record.{known}
 use Rattle.client_steps.specs.declared.phase.Advanced.TheVariants as adv
 use Rattle.client_steps.specs.declared.phase.Phase.TheVariants.{Rests}
-use Rattle.client_steps.specs.Phases.{job_of}
+use Rattle.client_steps.specs.Phases.{job_in_work}
 use Rattle.client_steps.proofs.Ends.{at-most-same}
 use Rattle.client_steps.proofs.Worked.{current-by, steps-by, Adds, next-on, next-adds, drew-on, drew-adds, nearer-goes, nearer-records, room-goes, room-records}
 use Rattle.client_steps.proofs.client.Client.next.Goals as goal
@@ -84,5 +84,5 @@ returns-in-Waits-clause-keeps g c =
     let so_far = c.loop-next.invariant in
     let moves = c.in-Waits.ensures.advances in
     let step = steps-by g.T.Of.Frozen.named jobs hosts c.loop-next.self.number c.loop-next.self.budget c.args.self.now.budget c.loop-next.phase (seen c.loop-next.end) (seen c.advance.new.end) (adv.Waits c.in-Waits.next c.in-Waits.need) so_far.budget c.in-Waits.ensures.keeps in
-    next-on K jobs hosts c.args.self.now was now (seen c.args.end.now) (seen c.loop-next.end) (seen c.advance.new.end) (record { number = refl; least = refl; records = refl }) (ap job_of c.put_back.ensures ∙ moves.1.1.0)
+    next-on K jobs hosts c.args.self.now was now (seen c.args.end.now) (seen c.loop-next.end) (seen c.advance.new.end) (record { number = refl; least = refl; records = refl }) (ap job_in_work c.put_back.ensures ∙ moves.1.1.0)
     (λ calls from h. current-by K jobs hosts c.in-Waits.next c.put_back.new.slot calls from (seen c.advance.new.end) (sym c.put_back.ensures) (step calls from h)) so_far.keeps
