@@ -26,7 +26,7 @@ use Rattle.client_steps.specs.declared.phase.Phase.TheVariants.{Rests, Ended}
 use Rattle.client_steps.specs.Phases.{Current, CanWork, job_in_work, leased_by}
 use Rattle.client_steps.specs.Ledger.{Ledger, ClientHolds, IsNew, HasRoom, times_drawn, one_if_job}
 use Rattle.client_order.specs.Ran.{MemoSeen, calls_of, call_at}
-use Rattle.client_order.specs.parts.World.{ClientFits, EachDid, AreNumberedFrom, WorldHolds, held, one_if_same}
+use Rattle.client_order.specs.parts.World.{ClientFits, EachDid, AreNumberedFrom, WorldHolds, slots_held, one_if_same}
 use Rattle.client_order.specs.parts.Merged.{AreNew}
 
 -- ---- clients ----

@@ -6,7 +6,7 @@ use Rattle.std.proofs.lemmas.List.{length-replicate, map-append}
 use Rattle.std.proofs.lemmas.List.Elements.{filter-append, All-from_recursion, recursion_from_All}
 use Rattle.job_ends.specs.declared.record.Done.{Done}
 use Rattle.base_types.proofs.Lists.{all_append}
-use Rattle.client_order.specs.parts.Merged.{with_number, in_order, job_number, placed, in_places, AtMostOnce, EachBelow}
+use Rattle.client_order.specs.parts.Merged.{with_number, in_order, job_number, records_placed, in_places, AtMostOnce, EachBelow}
 
 -- ---- filters ----
 
@@ -163,27 +163,27 @@ none-before records d rest once =
     let parts : with_number job_number d.job (records ++ d ∷ rest) ≡ with_number job_number d.job records ++ d ∷ with_number job_number d.job rest = with-number-append job_number d.job records (d ∷ rest) ∙ rw same refl in
     short-front (with_number job_number d.job records) d (with_number job_number d.job rest) (subst (λ (l : List Done). length l ≤ 1) parts (once d.job))
 
-pub length-placed : (rest : List Done) (places : List (Option Done)) → length (placed rest places) ≡ length places
+pub length-placed : (rest : List Done) (places : List (Option Done)) → length (records_placed rest places) ≡ length places
 length-placed [] places = refl
 length-placed (d ∷ rest) places = length-placed rest (slice_set places d.job (Some d)) ∙ length-set places d.job (Some d)
 
-show-placed : (rest records : List Done) (places : List (Option Done)) → AtMostOnce (records ++ rest) → Show 0 places records → Show 0 (placed rest places) (records ++ rest)
+show-placed : (rest records : List Done) (places : List (Option Done)) → AtMostOnce (records ++ rest) → Show 0 places records → Show 0 (records_placed rest places) (records ++ rest)
 show-placed [] records places once show = subst (λ (l : List Done). Show 0 places l) (sym (append-nil records)) show
 show-placed (d ∷ rest) records places once show =
     let split : (records ++ d ∷ []) ++ rest ≡ records ++ d ∷ rest = append_assoc records (d ∷ []) rest in
-    subst (λ (l : List Done). Show 0 (placed rest (slice_set places d.job (Some d))) l) split
+    subst (λ (l : List Done). Show 0 (records_placed rest (slice_set places d.job (Some d))) l) split
     (show-placed rest (records ++ d ∷ []) (slice_set places d.job (Some d)) (subst AtMostOnce (sym split) once)
     (show-more 0 d.job places records d (omega arith) (none-before records d rest once) show))
 
 -- the records that were put into places stand there in order of number
-pub in-placed : (n : ℕ) (records : List Done) → AtMostOnce records → in_places (placed records (replicate n None)) ≡ in_order job_number 0 n records
+pub in-placed : (n : ℕ) (records : List Done) → AtMostOnce records → in_places (records_placed records (replicate n None)) ≡ in_order job_number 0 n records
 in-placed n records once =
-    in-places 0 (placed records (replicate n None)) records (show-placed records [] (replicate n None) once (show-none 0 n))
+    in-places 0 (records_placed records (replicate n None)) records (show-placed records [] (replicate n None) once (show-none 0 n))
     ∙ ap (λ m. in_order job_number 0 m records) (length-placed records (replicate n None) ∙ length-replicate n None)
 
-pub placed-append : (xs ys : List Done) (places : List (Option Done)) → placed (xs ++ ys) places ≡ placed ys (placed xs places)
-placed-append [] ys places = refl
-placed-append (d ∷ xs) ys places = placed-append xs ys (slice_set places d.job (Some d))
+pub records_placed-append : (xs ys : List Done) (places : List (Option Done)) → records_placed (xs ++ ys) places ≡ records_placed ys (records_placed xs places)
+records_placed-append [] ys places = refl
+records_placed-append (d ∷ xs) ys places = records_placed-append xs ys (slice_set places d.job (Some d))
 
 pub below-first : (n : ℕ) (xs ys : List Done) → EachBelow n (xs ++ ys) → EachBelow n xs
 below-first n xs ys below = All-from_recursion (λ (d : Done). d.job < n) xs (all-first (λ (d : Done). d.job < n) xs ys (recursion_from_All (λ (d : Done). d.job < n) (xs ++ ys) below))
@@ -191,5 +191,5 @@ below-first n xs ys below = All-from_recursion (λ (d : Done). d.job < n) xs (al
 pub below-second : (n : ℕ) (xs ys : List Done) → EachBelow n (xs ++ ys) → EachBelow n ys
 below-second n xs ys below = All-from_recursion (λ (d : Done). d.job < n) ys (all-second (λ (d : Done). d.job < n) xs ys (recursion_from_All (λ (d : Done). d.job < n) (xs ++ ys) below))
 
-pub placed_more : (xs : List Done) (d : Done) (places : List (Option Done)) → placed (xs ++ d ∷ []) places ≡ slice_set (placed xs places) d.job (Some d)
-placed_more xs d places = placed-append xs (d ∷ []) places
+pub placed_more : (xs : List Done) (d : Done) (places : List (Option Done)) → records_placed (xs ++ d ∷ []) places ≡ slice_set (records_placed xs places) d.job (Some d)
+placed_more xs d places = records_placed-append xs (d ∷ []) places

@@ -22,7 +22,7 @@ use Rattle.job_ends.specs.declared.record.Way.TheVariants.{Remote, Local, Broken
 use Rattle.job_ends.specs.declared.record.Cause.TheVariants as cause
 use Rattle.job_ends.specs.Looks.{SheetCall, keys_where, looked, LooksSo, LooksAll, LooksFor}
 use Rattle.job_ends.specs.Works.{Work, EachRecord, EachLooks}
-use Rattle.client_order.specs.Ran.{count_calls, may_leave, is_analysed, IsAnalysed, LooksSize, EachLooksSize}
+use Rattle.client_order.specs.Ran.{count_calls, may_leave, is_analysed, AnalysisEnded, LooksSize, EachLooksSize}
 
 -- ---- the visits looked for ----
 
@@ -108,7 +108,7 @@ asked-all known job calls reads deeds (Local cause.Memory) h holds asked = elim 
 asked-all known job calls reads deeds (Local (cause.Analysis r)) h holds asked = absurd (asked holds.0)
 asked-all known job calls reads deeds Broken h holds asked = absurd (asked holds.0)
 
-all-looked : (known : Known) (job : Job) (w : Work) → LooksFor known job w.calls w.reads w.deeds.exchanges w.done.way → IsRecord known job w.done w.deeds → IsAnalysed w → LooksAll known job w.calls
+all-looked : (known : Known) (job : Job) (w : Work) → LooksFor known job w.calls w.reads w.deeds.exchanges w.done.way → IsRecord known job w.done w.deeds → AnalysisEnded w → LooksAll known job w.calls
 all-looked known job w h recorded (inl is) = looks-all known job w.calls w.reads w.deeds.exchanges w.done.way h is
 all-looked known job w h recorded (inr asked) = asked-all known job w.calls w.reads w.deeds w.done.way h recorded.way asked
 

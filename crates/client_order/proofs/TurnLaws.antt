@@ -29,7 +29,7 @@ use Rattle.client_steps.specs.Ledger.{HasRoom, PutKeeps, IsRightReply, call_by, 
 use Rattle.client_order.specs.Ran.{MemoSeen, calls_of}
 use Rattle.client_order.specs.parts.World.{SheetsMemo, seen_memo, OthersStay, IsDrawn, one_if_same}
 use Rattle.client_order.proofs.Histories.{AreListed, with_call, own-call, other-calls}
-use Rattle.client_order.specs.parts.Answering.{CanAnswer, IsRefused, AnswerMoves, Answers, AnswerKeeps}
+use Rattle.client_order.specs.parts.Answering.{CanAnswer, NoSlotIsFree, AnswerMoves, AfterAnswer, AnswerKeeps}
 
 add-below : (a x y : ℕ) → x < y → a + x < a + y
 add-below a x y less = omega arith
@@ -104,7 +104,7 @@ take-says jobs hosts (Takes n bytes count) host waits less =
 take-says jobs hosts _ host waits less = elim waits [ ]
 
 pub take-none : (jobs hosts : ℕ) (p : Phase) (s : Leased) → NeedOf jobs hosts p need.Take → AllLeased s.limits s.leased
-    → Says jobs hosts p (reply.Leased None) [] × IsRefused p s (phase_after p (reply.Leased None)) × (leased_by (phase_after p (reply.Leased None)) ≡ None)
+    → Says jobs hosts p (reply.Leased None) [] × NoSlotIsFree p s (phase_after p (reply.Leased None)) × (leased_by (phase_after p (reply.Leased None)) ≡ None)
     × (phase_after p (reply.Leased None) ≡ Ended → ⊥) × ((of : Known) → IsRightReply of p (reply.Leased None))
 take-none jobs hosts (Takes n bytes count) s waits full =
     (record { works = waits.0; same_job = refl; called = refl }, (n, (bytes, (count, (refl, (refl, full))))), refl, λ e. absurd (cc), λ of. tt)
@@ -175,7 +175,7 @@ pub answers-by : (wanted : Need) (drawn : ℕ) (s after : Leased) (old new : Cli
     → Says old.jobs (length s.limits) old.phase r calls → least_after old.least r ≡ old.least → (phase_after old.phase r ≡ Ended → ⊥) → after.limits ≡ s.limits
     → ((host : ℕ) → slice_index after.leased host + one_if_same host (lease_given_back wanted) ≡ slice_index s.leased host + one_if_same host (leased_by (phase_after old.phase r)))
     → AnswerMoves (old.jobs - drawn) old.phase s (old.jobs - drawn) (phase_after old.phase r) after
-    → Answers wanted drawn s old drawn after new
+    → AfterAnswer wanted drawn s old drawn after new
 answers-by wanted drawn s after old new r calls can put says least goes_on limits leased moves = record {
   works = subst (λ (p : Phase). CanWork old.jobs (length s.limits) p) (sym put.phase) says.works;
   count = put.same.0;
@@ -195,7 +195,7 @@ answers-by wanted drawn s after old new r calls can put says least goes_on limit
 -- an answer that changes no slots
 pub answers-still : (wanted : Need) (drawn : ℕ) (s : Leased) (old new : Client) (r : Reply) (calls : List SheetCall) → CanAnswer wanted drawn s old → Put r old new
     → Says old.jobs (length s.limits) old.phase r calls → Frees old.phase r → least_after old.least r ≡ old.least → lease_given_back wanted ≡ None
-    → Answers wanted drawn s old drawn s new
+    → AfterAnswer wanted drawn s old drawn s new
 answers-still wanted drawn s old new r calls can put says frees least gives =
     answers-by wanted drawn s s old new r calls can put says least frees.goes_on refl
     (λ host. ap (λ (o : Option ℕ). slice_index s.leased host + one_if_same host o) (gives ∙ sym frees.none))
@@ -227,7 +227,7 @@ same-slots one other limits leased i = record { limits = limits i; leased = leas
 
 pub take-answers : (drawn : ℕ) (s after : Leased) (old new : Client) (lease : Option ℕ) → CanAnswer need.Take drawn s old → Put (reply.Leased lease) old new → AreWithinLimits s.limits s.leased
     → IfSome lease (λ host. IsFirstFree s.limits s.leased host) → IfSome lease (λ host. after.leased ≡ slot_taken host s.leased) → IfNone lease (AllLeased s.limits s.leased × (after.leased ≡ s.leased)) → after.limits ≡ s.limits
-    → Answers need.Take drawn s old drawn after new
+    → AfterAnswer need.Take drawn s old drawn after new
 take-answers drawn s after old new None can put within first more none limits =
     let says = take-none old.jobs (length s.limits) old.phase s can.waits none.0 in
     answers-by need.Take drawn s after old new (reply.Leased None) [] can put says.0 refl says.3 limits
@@ -240,7 +240,7 @@ take-answers drawn s after old new (Some host) can put within first more none li
     (inl (add-below ((old.jobs - drawn) * most_rank) (phase_rank (phase_after old.phase (reply.Leased (Some host)))) (phase_rank old.phase) says.1))
 
 pub give-answers : (drawn : ℕ) (s after : Leased) (old new : Client) (lease : ℕ) → CanAnswer (need.Give lease) drawn s old → Put reply.Given old new → after.leased ≡ slot_given_back lease s.leased → after.limits ≡ s.limits
-    → Answers (need.Give lease) drawn s old drawn after new
+    → AfterAnswer (need.Give lease) drawn s old drawn after new
 give-answers drawn s after old new lease can put less limits =
     let says = give-says old.jobs (length s.limits) old.phase lease can.waits in
     let some : 0 < slice_index s.leased lease = (can.lease lease refl).1 in
@@ -274,7 +274,7 @@ more-numbers n job drawn after times now before is next new old =
     omega arith
 
 pub draw-answers : (drawn after : ℕ) (s : Leased) (old new : Client) (job : Option ℕ) → CanAnswer need.Draw drawn s old → IsDrawn drawn old.jobs job after → Put (reply.Drawn job) old new
-    → Answers need.Draw drawn s old after s new
+    → AfterAnswer need.Draw drawn s old after s new
 draw-answers drawn after s old new None can is put =
     let was : old.phase ≡ Draws = draws-is old.jobs (length s.limits) old.phase can.waits in
     let now : new.phase ≡ Ended = put.phase ∙ ap (λ (p : Phase). phase_after p (reply.Drawn None)) was in

@@ -14,7 +14,7 @@ use Rattle.client_steps.specs.declared.phase.Phase.{Phase}
 use Rattle.client_steps.specs.declared.phase.Phase.TheVariants.{Ended}
 use Rattle.client_steps.specs.Phases.{CanWork, phase_rank, most_rank, leased_by}
 use Rattle.client_steps.specs.Ledger.{HasRoom, times_drawn}
-use Rattle.client_order.specs.parts.World.{ClientFits, HasAllDrawn, WorldHolds, SlotsMove, Progresses, RunMoves, IsStuck, DrawsMore, AreFree, AllEnded, distance, held, one_if_same}
+use Rattle.client_order.specs.parts.World.{ClientFits, HasAllDrawn, WorldHolds, SlotsMove, Progresses, RunMoves, IsStuck, DrawsMore, AreFree, AllEnded, distance, slots_held, one_if_same}
 
 -- a sum over clients, where one of them changes
 sum-moves : (f : Client → ℕ) (xs : List Client) (i : ℕ) (x y : Client) → i < length xs → x ≡ slice_index_or xs i x → sum_by f (slice_set xs i y) + f x ≡ sum_by f xs + f y
@@ -76,7 +76,7 @@ world-turned jobs hosts drawn after s then xs i x y lt is w t =
       one_each = ap length t.moves.0 ∙ w.one_each;
       some = w.some;
       limits = λ k k_lt. subst (λ (l : List ℕ). 1 ≤ slice_index l k) (sym t.moves.0) (w.limits k k_lt);
-      held = λ host. add-up (held host xs) (held host (slice_set xs i y)) (one_if_same host (leased_by x.phase)) (one_if_same host (leased_by y.phase)) (slice_index s.leased host) (slice_index then.leased host)
+      held = λ host. add-up (slots_held host xs) (slots_held host (slice_set xs i y)) (one_if_same host (leased_by x.phase)) (one_if_same host (leased_by y.phase)) (slice_index s.leased host) (slice_index then.leased host)
           (sum-moves (λ (c : Client). one_if_same host (leased_by c.phase)) xs i x y lt is) (w.held host) (t.moves.1 host);
     }
 
@@ -125,7 +125,7 @@ so-far-more jobs drawn s xs k after then ys last end zs (inr (d, (e, (f, below))
 so-far-more jobs drawn s xs k after then ys last end zs (inr (d, (e, (f, below)))) (inr (d2, (e2, (f2, (p, (at, stuck)))))) =
     inr (d2 ∙ d, (e2 ∙ e, (f2 ∙ f, one-more k xs s p below (ap (λ (l : List Phase). slice_get l k) (sym f) ∙ at) (subst (λ (t : Leased). IsStuck p t) e stuck))))
 
-none-held : (host : ℕ) (xs : List Client) → AllEnded xs → held host xs ≡ 0
+none-held : (host : ℕ) (xs : List Client) → AllEnded xs → slots_held host xs ≡ 0
 none-held host [] all = refl
 none-held host (x ∷ xs) all =
     let e = sum_by-cons (λ (c : Client). one_if_same host (leased_by c.phase)) x xs in
@@ -148,14 +148,14 @@ ended-more x xs s stuck (inr full) = inr full
 ended-more x xs s (inl e) (inl all) = inl (e, all)
 ended-more x xs s (inr (n, (bytes, e), full)) (inl all) = inr full
 
-zero-more : (host : ℕ) (x : Client) (xs : List Client) (s : Leased) → IsStuck x.phase s → held host xs ≡ 0 → held host (x ∷ xs) ≡ 0
+zero-more : (host : ℕ) (x : Client) (xs : List Client) (s : Leased) → IsStuck x.phase s → slots_held host xs ≡ 0 → slots_held host (x ∷ xs) ≡ 0
 zero-more host x xs s stuck none =
     let e = sum_by-cons (λ (c : Client). one_if_same host (leased_by c.phase)) x xs in
     let z = not-leased host x.phase s stuck in omega arith
 
 -- either all have ended, or some client wants a slot and none is free; and no lease is held
 stuck-cases : (xs : List Client) (s : Leased) → ((j : ℕ) (p : Phase) → j < length xs → slice_get (phases xs) j ≡ Some p → IsStuck p s)
-    → (EndedEach xs ⊎ AllLeased s.limits s.leased) × ((host : ℕ) → held host xs ≡ 0)
+    → (EndedEach xs ⊎ AllLeased s.limits s.leased) × ((host : ℕ) → slots_held host xs ≡ 0)
 stuck-cases [] s all = (inl tt, λ host. refl)
 stuck-cases (x ∷ xs) s all =
     let head = all 0 x.phase (omega arith) refl in

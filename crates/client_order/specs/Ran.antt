@@ -122,13 +122,13 @@ is_analysed (Local (cause.Analysis refused)) = false
 is_analysed Broken = false
 
 -- the analysis of the job came to its end: its way says so, or its host was asked
-abbrev pub IsAnalysed : Work → Type 0
-IsAnalysed w = (is_analysed w.done.way ≡ true) ⊎ (w.deeds.exchanges ≡ [] → ⊥)
+abbrev pub AnalysisEnded : Work → Type 0
+AnalysisEnded w = (is_analysed w.done.way ≡ true) ⊎ (w.deeds.exchanges ≡ [] → ⊥)
 
 -- a job looks at most as often as its least closed set has visits, and just as often where its analysis came to its end
 pub record LooksSize (tree : FileTree) (job : Job) (w : Work) : Type 0 where
   pub few : (visits : List Visit) → IsClosureOf tree job visits → EachOnce visits → count_calls is_look w.calls ≤ length visits
-  pub whole : IsAnalysed w → (visits : List Visit) × IsClosureOf tree job visits × EachOnce visits × (count_calls is_look w.calls ≡ length visits)
+  pub whole : AnalysisEnded w → (visits : List Visit) × IsClosureOf tree job visits × EachOnce visits × (count_calls is_look w.calls ≡ length visits)
 
 abbrev pub EachLooksSize : FileTree → List Job → List Work → Type 0
 EachLooksSize tree (job ∷ jobs) (w ∷ works) = LooksSize tree job w × EachLooksSize tree jobs works

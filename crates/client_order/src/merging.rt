@@ -3,7 +3,7 @@ ghost use Rattle.std.specs.Prelude.{◌≡◌, ◌+◌, ◌≤◌, ◌++◌, [],
 ghost use Rattle.std.specs.List.{All};
 ghost use Rattle.std.specs.Vec.{vec_len, vec_capacity};
 ghost use Rattle.client_order.specs.parts.World.{AllEnded};
-ghost use Rattle.client_order.specs.parts.Merged.{in_order, in_places, job_number, placed, records_of, AtMostOnce, EachBelow};
+ghost use Rattle.client_order.specs.parts.Merged.{in_order, in_places, job_number, records_placed, records_of, AtMostOnce, EachBelow};
 
 use client_steps::Client;
 use job_ends::Done;
@@ -30,7 +30,7 @@ pub fn merge(clients: Vec<Client>, places: Vec<Option<Done>>, records: Vec<Done>
 fn put_all(clients: Vec<Client>, places: &mut [Option<Done>])
     requires ended { AllEnded clients.items }
     requires below { EachBelow (length places.old) (records_of clients.items) }
-    ensures { places.new ≡ placed (records_of clients.items) places.old }
+    ensures { places.new ≡ records_placed (records_of clients.items) places.old }
 {
     let mut left = clients.into_iter();
     while let Some(client) = left.next() {
@@ -43,7 +43,7 @@ fn put_all(clients: Vec<Client>, places: &mut [Option<Done>])
 #[tactic(auto, using(crate::proofs::InOrder::placed_more))]
 fn put(records: Vec<Done>, places: &mut [Option<Done>])
     requires below { EachBelow (length places.old) records.items }
-    ensures { places.new ≡ placed records.items places.old }
+    ensures { places.new ≡ records_placed records.items places.old }
 {
     for done in records {
         let place = done.job as usize;

@@ -7,7 +7,7 @@ ghost use Rattle.job_ends.specs.Record.{known};
 ghost use Rattle.client_steps.specs.Phases.{CanWork, NeedHolds};
 ghost use Rattle.client_steps.specs.Ledger.{HasRoom};
 ghost use Rattle.client_order.specs.parts.World.{seen_memo, SlotsMove, LeaseIsIn, Progresses, WorldHolds, RunMoves, HasAllDrawn, AllEnded, AreFree, AreNumberedFrom, IsDrawn, DrawsMore, OthersStay, StrangersStay, TurnKeeps, RunKeeps, distance};
-ghost use Rattle.client_order.specs.parts.Answering.{CanAnswer, Answers, AnswerKeeps};
+ghost use Rattle.client_order.specs.parts.Answering.{CanAnswer, AfterAnswer, AnswerKeeps};
 
 use crate::progress::Progress;
 use client_steps::{Client, Need, Reply};
@@ -85,7 +85,7 @@ fn answer<F: Frozen>(shared: &mut Shared<F>, client: &mut Client, jobs: usize, n
     requires jobs { jobs ≡ client.old.jobs }
     requires can { CanAnswer need shared.old.drawn shared.old.slots client.old }
     requires right { NeedHolds (known F.named client.old.budget) need }
-    ensures answers { Answers need shared.old.drawn shared.old.slots client.old shared.new.drawn shared.new.slots client.new }
+    ensures answers { AfterAnswer need shared.old.drawn shared.old.slots client.old shared.new.drawn shared.new.slots client.new }
     ensures limit { shared.new.memo.limit ≡ shared.old.memo.limit }
     ensures others { OthersStay client.old.number (seen_memo shared.old.memo) (seen_memo shared.new.memo) }
     ensures keeps { AnswerKeeps F.named (seen_memo shared.old.memo) client.old (seen_memo shared.new.memo) client.new }
@@ -104,7 +104,7 @@ fn answer<F: Frozen>(shared: &mut Shared<F>, client: &mut Client, jobs: usize, n
 fn answer_draw<F: Frozen>(shared: &mut Shared<F>, client: &mut Client, jobs: usize)
     requires jobs { jobs ≡ client.old.jobs }
     requires can { CanAnswer Need.Draw shared.old.drawn shared.old.slots client.old }
-    ensures answers { Answers Need.Draw shared.old.drawn shared.old.slots client.old shared.new.drawn shared.new.slots client.new }
+    ensures answers { AfterAnswer Need.Draw shared.old.drawn shared.old.slots client.old shared.new.drawn shared.new.slots client.new }
     ensures limit { shared.new.memo.limit ≡ shared.old.memo.limit }
     ensures others { OthersStay client.old.number (seen_memo shared.old.memo) (seen_memo shared.new.memo) }
     ensures keeps { AnswerKeeps F.named (seen_memo shared.old.memo) client.old (seen_memo shared.new.memo) client.new }
@@ -116,7 +116,7 @@ fn answer_draw<F: Frozen>(shared: &mut Shared<F>, client: &mut Client, jobs: usi
 // Looks for the sheet of a key in the memo.
 fn answer_look<F: Frozen>(shared: &mut Shared<F>, client: &mut Client, key: SheetKey)
     requires can { CanAnswer (Need.Look key) shared.old.drawn shared.old.slots client.old }
-    ensures answers { Answers (Need.Look key) shared.old.drawn shared.old.slots client.old shared.new.drawn shared.new.slots client.new }
+    ensures answers { AfterAnswer (Need.Look key) shared.old.drawn shared.old.slots client.old shared.new.drawn shared.new.slots client.new }
     ensures limit { shared.new.memo.limit ≡ shared.old.memo.limit }
     ensures others { OthersStay client.old.number (seen_memo shared.old.memo) (seen_memo shared.new.memo) }
     ensures keeps { AnswerKeeps F.named (seen_memo shared.old.memo) client.old (seen_memo shared.new.memo) client.new }
@@ -138,7 +138,7 @@ fn answer_publish<F: Frozen>(
 )
     requires can { CanAnswer (Need.Publish key sheet) shared.old.drawn shared.old.slots client.old }
     requires right { NeedHolds (known F.named client.old.budget) (Need.Publish key sheet) }
-    ensures answers { Answers (Need.Publish key sheet) shared.old.drawn shared.old.slots client.old shared.new.drawn shared.new.slots client.new }
+    ensures answers { AfterAnswer (Need.Publish key sheet) shared.old.drawn shared.old.slots client.old shared.new.drawn shared.new.slots client.new }
     ensures limit { shared.new.memo.limit ≡ shared.old.memo.limit }
     ensures others { OthersStay client.old.number (seen_memo shared.old.memo) (seen_memo shared.new.memo) }
     ensures keeps { AnswerKeeps F.named (seen_memo shared.old.memo) client.old (seen_memo shared.new.memo) client.new }
@@ -154,7 +154,7 @@ fn answer_publish<F: Frozen>(
 // Leases a slot for the client, where one is free.
 fn answer_take<F: Frozen>(shared: &mut Shared<F>, client: &mut Client)
     requires can { CanAnswer Need.Take shared.old.drawn shared.old.slots client.old }
-    ensures answers { Answers Need.Take shared.old.drawn shared.old.slots client.old shared.new.drawn shared.new.slots client.new }
+    ensures answers { AfterAnswer Need.Take shared.old.drawn shared.old.slots client.old shared.new.drawn shared.new.slots client.new }
     ensures limit { shared.new.memo.limit ≡ shared.old.memo.limit }
     ensures others { OthersStay client.old.number (seen_memo shared.old.memo) (seen_memo shared.new.memo) }
     ensures keeps { AnswerKeeps F.named (seen_memo shared.old.memo) client.old (seen_memo shared.new.memo) client.new }
@@ -168,7 +168,7 @@ fn answer_take<F: Frozen>(shared: &mut Shared<F>, client: &mut Client)
 // Gives back the lease that the client held.
 fn answer_give<F: Frozen>(shared: &mut Shared<F>, client: &mut Client, lease: Lease)
     requires can { CanAnswer (Need.Give lease) shared.old.drawn shared.old.slots client.old }
-    ensures answers { Answers (Need.Give lease) shared.old.drawn shared.old.slots client.old shared.new.drawn shared.new.slots client.new }
+    ensures answers { AfterAnswer (Need.Give lease) shared.old.drawn shared.old.slots client.old shared.new.drawn shared.new.slots client.new }
     ensures limit { shared.new.memo.limit ≡ shared.old.memo.limit }
     ensures others { OthersStay client.old.number (seen_memo shared.old.memo) (seen_memo shared.new.memo) }
     ensures keeps { AnswerKeeps F.named (seen_memo shared.old.memo) client.old (seen_memo shared.new.memo) client.new }

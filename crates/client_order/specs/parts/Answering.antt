@@ -26,17 +26,17 @@ pub record CanAnswer (wanted : Need) (drawn : ℕ) (s : Leased) (c : Client) : T
   pub lease : (host : ℕ) → lease_given_back wanted ≡ Some host → (host < length s.limits) × (0 < slice_index s.leased host)
 
 -- no slot is free for the client
-abbrev pub IsRefused : Phase → Leased → Phase → Type 0
-IsRefused old s new = (n : ℕ) × ((bytes : List ℕ) × ((count : ℕ) × ((old ≡ Takes n bytes count) × ((new ≡ Wants n bytes) × AllLeased s.limits s.leased))))
+abbrev pub NoSlotIsFree : Phase → Leased → Phase → Type 0
+NoSlotIsFree old s new = (n : ℕ) × ((bytes : List ℕ) × ((count : ℕ) × ((old ≡ Takes n bytes count) × ((new ≡ Wants n bytes) × AllLeased s.limits s.leased))))
 
 -- an answer brings the client nearer to its end, or a job is drawn; else nothing is changed: it has ended, or no slot is free
 abbrev pub AnswerMoves : ℕ → Phase → Leased → ℕ → Phase → Leased → Type 0
 AnswerMoves undrawn old s undrawn_after new after =
     (undrawn_after * most_rank + phase_rank new < undrawn * most_rank + phase_rank old)
-    ⊎ ((undrawn_after ≡ undrawn) × ((after ≡ s) × (((old ≡ Ended) × (new ≡ Ended)) ⊎ IsRefused old s new)))
+    ⊎ ((undrawn_after ≡ undrawn) × ((after ≡ s) × (((old ≡ Ended) × (new ≡ Ended)) ⊎ NoSlotIsFree old s new)))
 
 -- the client and what clients share after the answer
-pub record Answers (wanted : Need) (drawn : ℕ) (s : Leased) (old : Client) (drawn_after : ℕ) (after : Leased) (new : Client) : Type 0 where
+pub record AfterAnswer (wanted : Need) (drawn : ℕ) (s : Leased) (old : Client) (drawn_after : ℕ) (after : Leased) (new : Client) : Type 0 where
   pub works : CanWork old.jobs (length s.limits) new.phase
   pub count : new.jobs ≡ old.jobs
   pub number : new.number ≡ old.number

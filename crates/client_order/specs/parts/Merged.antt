@@ -40,9 +40,9 @@ EachBelow n records = All (λ (d : Done). d.job < n) records
 -- ---- places ----
 
 -- the places, with these records put into those of their numbers
-abbrev pub placed : List Done → List (Option Done) → List (Option Done)
-placed [] places = places
-placed (d ∷ records) places = placed records (slice_set places d.job (Some d))
+abbrev pub records_placed : List Done → List (Option Done) → List (Option Done)
+records_placed [] places = places
+records_placed (d ∷ records) places = records_placed records (slice_set places d.job (Some d))
 
 -- what stands in the places
 abbrev pub in_places : List (Option Done) → List Done

@@ -30,8 +30,8 @@ one_if_same host (Some k) = cond (nat_eq k host) 1 0
 -- ---- slots ----
 
 -- the slots of a host that the clients hold
-abbrev pub held : ℕ → List Client → ℕ
-held host clients = sum_by (λ (c : Client). one_if_same host (leased_by c.phase)) clients
+abbrev pub slots_held : ℕ → List Client → ℕ
+slots_held host clients = sum_by (λ (c : Client). one_if_same host (leased_by c.phase)) clients
 
 -- no slot is leased
 abbrev pub AreFree : Leased → Type 0
@@ -105,7 +105,7 @@ pub record WorldHolds (jobs hosts drawn : ℕ) (s : Leased) (clients : List Clie
   pub one_each : length s.limits ≡ hosts
   pub some : 1 ≤ hosts
   pub limits : (host : ℕ) → host < hosts → 1 ≤ slice_index s.limits host
-  pub held : (host : ℕ) → held host clients ≡ slice_index s.leased host
+  pub held : (host : ℕ) → slots_held host clients ≡ slice_index s.leased host
 
 -- a turn brings the run nearer to its end, or its client is stuck and nothing of phases and slots is changed
 abbrev pub RunMoves : ℕ → ℕ → Leased → List Client → ℕ → ℕ → Leased → List Client → Type 0

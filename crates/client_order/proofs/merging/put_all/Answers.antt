@@ -5,8 +5,8 @@ use Rattle.job_ends.specs.declared.record.Done.{Done}
 use Rattle.client_steps.specs.declared.client.Client.{Client}
 use Rattle.client_steps.specs.declared.phase.Phase.TheVariants.{Ended}
 use Rattle.client_order.specs.parts.World.{AllEnded}
-use Rattle.client_order.specs.parts.Merged.{placed, records_of, EachBelow}
-use Rattle.client_order.proofs.InOrder.{below-first, below-second, placed-append, length-placed}
+use Rattle.client_order.specs.parts.Merged.{records_placed, records_of, EachBelow}
+use Rattle.client_order.proofs.InOrder.{below-first, below-second, records_placed-append, length-placed}
 use Rattle.client_order.proofs.merging.put_all.Goals as goal
 
 first-ended : (client : Client) (left rest : List Client) → left ≡ client ∷ rest → AllEnded left → client.phase ≡ Ended
@@ -17,13 +17,13 @@ first-below n client left rest is below = below-first n client.records.items (re
 
 -- the records of the first client that is left were put
 one-put : (all : List Done) (before places after : List (Option Done)) (client : Client) (left rest : List Client) → left ≡ client ∷ rest → AllEnded left → EachBelow (length places) (records_of left)
-    → placed (records_of left) places ≡ placed all before → after ≡ placed client.records.items places
-    → record { ended : AllEnded rest; below : EachBelow (length after) (records_of rest); same : placed (records_of rest) after ≡ placed all before }
+    → records_placed (records_of left) places ≡ records_placed all before → after ≡ records_placed client.records.items places
+    → record { ended : AllEnded rest; below : EachBelow (length after) (records_of rest); same : records_placed (records_of rest) after ≡ records_placed all before }
 one-put all before places after client left rest is ended below same put = record {
   ended = All-rest (λ (c : Client). c.phase ≡ Ended) client rest left is ended;
   below = subst (λ n. EachBelow n (records_of rest)) (sym (ap length put ∙ length-placed client.records.items places))
       (below-second (length places) client.records.items (records_of rest) (subst (λ (l : List Client). EachBelow (length places) (records_of l)) is below));
-  same = ap (placed (records_of rest)) put ∙ (sym (placed-append client.records.items (records_of rest) places) ∙ (ap (λ (l : List Client). placed (records_of l) places) (sym is) ∙ same));
+  same = ap (records_placed (records_of rest)) put ∙ (sym (records_placed-append client.records.items (records_of rest) places) ∙ (ap (λ (l : List Client). records_placed (records_of l) places) (sym is) ∙ same));
 }
 
 pub into_records-requires : goal.into_records-requires
@@ -39,4 +39,4 @@ pub loop-client-preserved : goal.loop-client-preserved
 loop-client-preserved c =
     one-put (records_of c.args.clients.items) c.args.places.now c.loop-client.places c.put.new.places c.in-Some.client (into_iter_items c.loop-client.left) (into_iter_items c.next.new.self)
     c.in-Some.ensures.items c.loop-client.invariant.ended c.loop-client.invariant.below c.loop-client.invariant.same
-    (c.put.ensures ∙ ap (λ v. placed v.items c.loop-client.places) c.into_records.ensures)
+    (c.put.ensures ∙ ap (λ v. records_placed v.items c.loop-client.places) c.into_records.ensures)
