@@ -49,9 +49,9 @@ line_words line = option_map unit_words (units line)
 
 -- ---- the job of a line ----
 
-abbrev pub begins_comment : Text → Bool
-begins_comment [] = false
-begins_comment (b ∷ line) = b == 35
+abbrev pub is_comment_line : Text → Bool
+is_comment_line [] = false
+is_comment_line (b ∷ line) = b == 35
 
 -- an earlier job has the output's name
 abbrev pub is_taken : Text → List Job → Bool
@@ -63,14 +63,14 @@ with_read jobs (Err why) = Err (Words why)
 with_read jobs (Ok job) = if is_taken job.output jobs then Err Output else Ok (jobs ++ job ∷ [])
 
 -- jobs, and the one that a line's words ask for behind them, if they aren't 20,000: a working directory and compile words
-abbrev pub with_words : List Job → Option (List Text) → Result (List Job) ListWhy
-with_words jobs None = Err Escape
-with_words jobs (Some []) = Ok jobs
-with_words jobs (Some (cwd ∷ words)) = if nat_le 20000 (length jobs) then Err Limit else with_read jobs (job_reading cwd words)
+abbrev pub with_line_job : List Job → Option (List Text) → Result (List Job) ListWhy
+with_line_job jobs None = Err Escape
+with_line_job jobs (Some []) = Ok jobs
+with_line_job jobs (Some (cwd ∷ words)) = if nat_le 20000 (length jobs) then Err Limit else with_read jobs (job_reading cwd words)
 
 -- the jobs of the lines in front of a line, and its own, if it gives one; or why it is refused
 abbrev pub with_line : List Job → Text → Result (List Job) ListWhy
-with_line jobs line = if begins_comment line then Ok jobs else with_words jobs (line_words line)
+with_line jobs line = if is_comment_line line then Ok jobs else with_line_job jobs (line_words line)
 
 -- ---- the jobs of a list ----
 

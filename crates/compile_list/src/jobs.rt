@@ -2,7 +2,7 @@
 ghost use Rattle.std.specs.Prelude.{◌≡◌, ◌<◌, ◌≤◌, ◌⊎◌, ℕ, [], length, IfOk, IfErr, OnOk, Ok, Err};
 ghost use Rattle.std.specs.List.{AllByRecursion};
 ghost use Rattle.job_words.specs.Words.{IsJob};
-ghost use Rattle.compile_list.specs.Listed.{begins_comment, with_line, with_read};
+ghost use Rattle.compile_list.specs.Listed.{is_comment_line, with_line, with_read};
 ghost use Rattle.compile_list.specs.parts.Steps.{HasOutputs};
 
 use crate::line::words_of_line;
@@ -90,7 +90,7 @@ impl ReadJobs {
 }
 
 fn begins_comment(line: &[u8]) -> bool
-    ensures { result ≡ begins_comment line.now }
+    ensures { result ≡ is_comment_line line.now }
 {
     match line {
         [first, ..] => *first == b'#',
