@@ -6,11 +6,11 @@ use Rattle.std.specs.Option.{option_and_then, unwrap_or}
 use Rattle.std.proofs.lemmas.List.{take_rest}
 use Rattle.tree_model.specs.Paths.{Text}
 use Rattle.io_edges.specs.declared.wire.Host.{Host}
-use Rattle.run_words.specs.Asked.{Given, nothing_given, order_in, settings_by, settings_given, settings_of, settings_with, with_flags}
+use Rattle.run_words.specs.Asked.{FlagsGiven, nothing_given, order_in, settings_by, settings_given, settings_of, settings_with, with_flags}
 
 -- ---- what an order and flags ask for ----
 
-module _ (ends : ℕ) (order : List ℕ) (given : Given) (hosts : List Host) (clients budget : ℕ)
+module _ (ends : ℕ) (order : List ℕ) (given : FlagsGiven) (hosts : List Host) (clients budget : ℕ)
     (named : given.hosts ≡ Some hosts) (many : clients ≡ unwrap_or given.clients ends) (work : budget ≡ unwrap_or given.budget 4096) where
   asks : settings_with ends order hosts clients budget ≡ settings_given ends order given
   asks =
@@ -57,7 +57,7 @@ module _ (ends : ℕ) {W : Type 0} (now : W → Text) where
       ∙ ap (λ b. if b then settings_by ends (order_in (now (get_or words 1 o))) (with_flags (map now (take (length words - 2) (drop 2 words))) (Some nothing_given)) else None) other)
 
   module _ (o a : W) (words : List W) (long : 2 ≤ length words) where
-    pub behind-command : (order : Option (List ℕ)) (given : Option Given) → bytes_eq (now (get_or words 0 o)) (codes "order") ≡ true
+    pub behind-command : (order : Option (List ℕ)) (given : Option FlagsGiven) → bytes_eq (now (get_or words 0 o)) (codes "order") ≡ true
         → order ≡ order_in (now (get_or words 1 a)) → given ≡ with_flags (map now (take (length words - 2) (drop 2 words))) (Some nothing_given)
         → settings_by ends order given ≡ settings_of ends (map now words)
     behind-command order given is order_is given_is = sym (

@@ -7,7 +7,7 @@ use Rattle.std.specs.Str.Parse.{ParsesUnsigned, digits_value}
 use Rattle.std.proofs.lemmas.Str.Parse.{IsNumeralModel, numerals_by_value, parse_digits}
 use Rattle.std.proofs.lemmas.Bool.Decides.{nat_tests}
 use Rattle.tree_model.specs.Paths.{Text}
-use Rattle.run_words.specs.Asked.{is_number, number_in}
+use Rattle.run_words.specs.Asked.{is_decimal, number_between}
 
 digits : IsNumeralModel (λ ds. list_all is_ascii_digit ds ≡ true) (digits_value 10)
 digits = numerals_by_value _ (search rules)
@@ -30,22 +30,22 @@ out-of-range true n never = absurd (never refl)
 out-of-range false n never = refl
 
 module _ (least most : ℕ) (word : Text) where
-  pub no-number : is_number word ≡ false → None ≡ number_in least most word
-  unfolding number_in
-  no-number is = refused (is_number word) _ _ is
+  pub no-number : is_decimal word ≡ false → None ≡ number_between least most word
+  unfolding number_between
+  no-number is = refused (is_decimal word) _ _ is
 
-  module _ {E : Type 0} (r : Result ℕ E) (parses : ParsesUnsigned 32 10 word r) (is : is_number word ≡ true) where
+  module _ {E : Type 0} (r : Result ℕ E) (parses : ParsesUnsigned 32 10 word r) (is : is_decimal word ≡ true) where
     read : OkIff r ((0 < length word) × (digits_value 10 word < 2 ^ 32)) (digits_value 10 word)
     read = parse_digits digits 32 word r parses (parts _ _ _ is).1
 
-    pub number : (n : ℕ) → r ≡ Ok n → (if nat_le least n && nat_le n most then Some n else None) ≡ number_in least most word
-    unfolding number_in
-    number n ok = let got = rw ok at read in rw got.1 (taken (is_number word) _ _ is)
+    pub number : (n : ℕ) → r ≡ Ok n → (if nat_le least n && nat_le n most then Some n else None) ≡ number_between least most word
+    unfolding number_between
+    number n ok = let got = rw ok at read in rw got.1 (taken (is_decimal word) _ _ is)
 
-    pub no-number-within : most < 2 ^ 32 → (e : E) → r ≡ Err e → None ≡ number_in least most word
-    unfolding number_in
+    pub no-number-within : most < 2 ^ 32 → (e : E) → r ≡ Err e → None ≡ number_between least most word
+    unfolding number_between
     no-number-within small e err =
         let got = rw err at read in
         let some : nat_lt 0 (length word) ≡ true = (parts (nat_lt 0 (length word)) (list_all is_ascii_digit word) _ is).0 in
         out-of-range (nat_le least (digits_value 10 word) && nat_le (digits_value 10 word) most) (digits_value 10 word) (λ fits. got (grind (arith, nat_tests), grind (arith, nat_tests)))
-        ∙ taken (is_number word) _ _ is
+        ∙ taken (is_decimal word) _ _ is

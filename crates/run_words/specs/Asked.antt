@@ -19,25 +19,25 @@ pub record Settings : Type 0 where
 -- ---- numbers ----
 
 -- decimal digits without a sign, and without a zero in front of others
-abbrev pub is_number : Text → Bool
-is_number word = nat_lt 0 (length word) && (list_all is_ascii_digit word && ((length word == 1) || (nat_lt 48 (slice_index word 0))))
+abbrev pub is_decimal : Text → Bool
+is_decimal word = nat_lt 0 (length word) && (list_all is_ascii_digit word && ((length word == 1) || (nat_lt 48 (slice_index word 0))))
 
 -- a number within these limits
-unfoldable pub number_in : ℕ → ℕ → Text → Option ℕ
-number_in least most word = if is_number word && (nat_le least (digits_value 10 word) && nat_le (digits_value 10 word) most) then Some (digits_value 10 word) else None
+unfoldable pub number_between : ℕ → ℕ → Text → Option ℕ
+number_between least most word = if is_decimal word && (nat_le least (digits_value 10 word) && nat_le (digits_value 10 word) most) then Some (digits_value 10 word) else None
 
 -- ---- the order ----
 
 -- a number in front of others
-abbrev pub with_number : Option ℕ → Option (List ℕ) → Option (List ℕ)
-with_number None numbers = None
-with_number (Some n) None = None
-with_number (Some n) (Some numbers) = Some (n ∷ numbers)
+abbrev pub number_in_front : Option ℕ → Option (List ℕ) → Option (List ℕ)
+number_in_front None numbers = None
+number_in_front (Some n) None = None
+number_in_front (Some n) (Some numbers) = Some (n ∷ numbers)
 
 -- the numbers of clients that words name
 unfoldable pub numbers_in : List Text → Option (List ℕ)
 numbers_in [] = Some []
-numbers_in (word ∷ words) = with_number (number_in 0 63 word) (numbers_in words)
+numbers_in (word ∷ words) = number_in_front (number_between 0 63 word) (numbers_in words)
 
 -- at most 1,000,000 of them
 abbrev pub few_in : List Text → Option (List ℕ)
@@ -59,40 +59,40 @@ hosts_in word = hosts_read (hosts_of word)
 
 -- 1 to 64 clients
 abbrev pub clients_in : Text → Option ℕ
-clients_in word = number_in 1 64 word
+clients_in word = number_between 1 64 word
 
 -- a budget from 1 to 65,536
 abbrev pub budget_in : Text → Option ℕ
-budget_in word = number_in 1 65536 word
+budget_in word = number_between 1 65536 word
 
 -- ---- the flags ----
 
 -- what flags gave: None of a flag that didn't stand there
-pub record Given : Type 0 where
+pub record FlagsGiven : Type 0 where
   pub hosts : Option (List Host)
   pub clients : Option ℕ
   pub budget : Option ℕ
 
-abbrev pub nothing_given : Given
+abbrev pub nothing_given : FlagsGiven
 nothing_given = record { hosts = None; clients = None; budget = None }
 
 -- what is given by a flag that didn't stand there before, where its word says something
-abbrev pub once : {A : Type 0} → Option A → Option A → (A → Given) → Option Given
+abbrev pub once : {A : Type 0} → Option A → Option A → (A → FlagsGiven) → Option FlagsGiven
 once None (Some said) given = Some (given said)
 once None None given = None
 once (Some before) word given = None
 
-abbrev pub with_hosts : Given → Text → Option Given
+abbrev pub with_hosts : FlagsGiven → Text → Option FlagsGiven
 with_hosts given word = once given.hosts (hosts_in word) (λ hosts. record given { hosts = Some hosts })
 
-abbrev pub with_clients : Given → Text → Option Given
+abbrev pub with_clients : FlagsGiven → Text → Option FlagsGiven
 with_clients given word = once given.clients (clients_in word) (λ clients. record given { clients = Some clients })
 
-abbrev pub with_budget : Given → Text → Option Given
+abbrev pub with_budget : FlagsGiven → Text → Option FlagsGiven
 with_budget given word = once given.budget (budget_in word) (λ budget. record given { budget = Some budget })
 
 -- what is given with one flag more; None where it stood there before, is unknown, or its word says nothing
-unfoldable pub with_flag : Given → Text → Text → Option Given
+unfoldable pub with_flag : FlagsGiven → Text → Text → Option FlagsGiven
 with_flag given flag word =
     if bytes_eq flag (codes "--hosts") then with_hosts given word
     else if bytes_eq flag (codes "-j") then with_clients given word
@@ -100,7 +100,7 @@ with_flag given flag word =
     else None
 
 -- what is given by pairs of a flag and its word, behind what was given before
-unfoldable pub with_flags : List Text → Option Given → Option Given
+unfoldable pub with_flags : List Text → Option FlagsGiven → Option FlagsGiven
 with_flags words None = None
 with_flags [] (Some given) = Some given
 with_flags (flag ∷ []) (Some given) = None
@@ -116,11 +116,11 @@ settings_with ends order hosts clients budget =
     then Some (record { order = order; hosts = hosts; clients = clients; budget = budget })
     else None
 
-abbrev pub settings_given : ℕ → List ℕ → Given → Option Settings
+abbrev pub settings_given : ℕ → List ℕ → FlagsGiven → Option Settings
 settings_given ends order given =
     option_and_then (λ hosts. settings_with ends order hosts (unwrap_or given.clients ends) (unwrap_or given.budget 4096)) given.hosts
 
-abbrev pub settings_by : ℕ → Option (List ℕ) → Option Given → Option Settings
+abbrev pub settings_by : ℕ → Option (List ℕ) → Option FlagsGiven → Option Settings
 settings_by ends None given = None
 settings_by ends (Some order) None = None
 settings_by ends (Some order) (Some given) = settings_given ends order given

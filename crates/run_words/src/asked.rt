@@ -4,7 +4,7 @@ ghost use Rattle.std.specs.List.{All, list_all};
 ghost use Rattle.std.specs.Option.{option_map};
 ghost use Rattle.host_slots.specs.Slots.{HasSlots};
 ghost use Rattle.run_words.specs.Asked.{settings_of, settings_by, settings_with, settings_given, order_in, with_flags, nothing_given};
-ghost use Rattle.run_words.specs.parts.Flagged.{given_by, settings_by_asked, Fits};
+ghost use Rattle.run_words.specs.parts.Flagged.{given_by, settings_by_asked, FlagsFit};
 
 use crate::flags::{Flags, flags_in};
 use crate::order::order_in;
@@ -56,7 +56,7 @@ pub fn asked_in(alloc: Global, ends: usize, words: &[&str]) -> Result<Option<Ask
 // What an order and flags ask for, or None where no hosts are given or clients are missing.
 fn asked_by(ends: usize, order: Vec<u32>, flags: Flags) -> Option<Asked>
     requires few { ends ≤ 64 }
-    requires fits { Fits flags }
+    requires fits { FlagsFit flags }
     ensures asked { option_map settings_by_asked result ≡ settings_given ends order.items (given_by flags) }
     ensures clients { IfSome result (λ a. (1 ≤ ends → 1 ≤ a.clients) × (a.clients ≤ ends)) }
     ensures order { IfSome result (λ a. All (λ client. client < a.clients) a.order.items) }

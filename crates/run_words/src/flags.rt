@@ -4,7 +4,7 @@ ghost use Rattle.std.specs.List.{All};
 ghost use Rattle.std.specs.Option.{option_map};
 ghost use Rattle.host_slots.specs.Slots.{HasSlots};
 ghost use Rattle.run_words.specs.Asked.{with_hosts, with_clients, with_budget, with_flag, with_flags, nothing_given, hosts_in};
-ghost use Rattle.run_words.specs.parts.Flagged.{given_by, Fits};
+ghost use Rattle.run_words.specs.parts.Flagged.{given_by, FlagsFit};
 
 use crate::numbers::number_in;
 use host_slots::{HostError, read_hosts};
@@ -29,7 +29,7 @@ pub struct Flags {
 #[tactic(auto, unfolding(crate::specs::Asked::with_flags))]
 pub fn flags_in(alloc: Global, words: &[&str]) -> Result<Option<Flags>, AllocError>
     ensures flags { IfOk result (λ flags. option_map given_by flags ≡ with_flags (map (λ word. word.now) words.now) (Some nothing_given)) }
-    ensures fits { IfOk result (λ flags. IfSome flags Fits) }
+    ensures fits { IfOk result (λ flags. IfSome flags FlagsFit) }
 {
     let mut flags = Flags {
         hosts: None,
@@ -60,9 +60,9 @@ fn with_flag(
     flag: &str,
     word: &str,
 ) -> Result<Option<Flags>, AllocError>
-    requires { Fits flags }
+    requires { FlagsFit flags }
     ensures flags { IfOk result (λ more. option_map given_by more ≡ with_flag (given_by flags) flag.now word.now) }
-    ensures fits { IfOk result (λ more. IfSome more Fits) }
+    ensures fits { IfOk result (λ more. IfSome more FlagsFit) }
 {
     match flag {
         "--hosts" => with_hosts(alloc, flags, word),
@@ -73,9 +73,9 @@ fn with_flag(
 }
 
 fn with_hosts(alloc: Global, flags: Flags, word: &str) -> Result<Option<Flags>, AllocError>
-    requires { Fits flags }
+    requires { FlagsFit flags }
     ensures flags { IfOk result (λ more. option_map given_by more ≡ with_hosts (given_by flags) word.now) }
-    ensures fits { IfOk result (λ more. IfSome more Fits) }
+    ensures fits { IfOk result (λ more. IfSome more FlagsFit) }
 {
     if flags.hosts.is_some() {
         return Ok(None);
@@ -104,9 +104,9 @@ fn hosts_in(alloc: Global, word: &str) -> Result<Option<Vec<Host>>, AllocError>
 }
 
 fn with_clients(flags: Flags, word: &str) -> Option<Flags>
-    requires { Fits flags }
+    requires { FlagsFit flags }
     ensures flags { option_map given_by result ≡ with_clients (given_by flags) word.now }
-    ensures fits { IfSome result Fits }
+    ensures fits { IfSome result FlagsFit }
 {
     if flags.clients.is_some() {
         return None;
@@ -121,9 +121,9 @@ fn with_clients(flags: Flags, word: &str) -> Option<Flags>
 }
 
 fn with_budget(flags: Flags, word: &str) -> Option<Flags>
-    requires { Fits flags }
+    requires { FlagsFit flags }
     ensures flags { option_map given_by result ≡ with_budget (given_by flags) word.now }
-    ensures fits { IfSome result Fits }
+    ensures fits { IfSome result FlagsFit }
 {
     if flags.budget.is_some() {
         return None;

@@ -2,11 +2,11 @@
 ghost use Rattle.std.specs.Prelude.{◌≡◌, ◌≤◌, ◌&&◌, ◌||◌, ◌==◌, if◌then◌else◌, length, nat_le, nat_lt, slice_index, Some, None, IfSome};
 ghost use Rattle.std.specs.List.{list_all};
 ghost use Rattle.std.specs.Char.{is_ascii_digit};
-ghost use Rattle.run_words.specs.Asked.{is_number, number_in};
+ghost use Rattle.run_words.specs.Asked.{is_decimal, number_between};
 
 // The number that a word says, within these limits.
 pub fn number_in(word: &str, least: u32, most: u32) -> Option<u32>
-    ensures number { result ≡ number_in least most word.now }
+    ensures number { result ≡ number_between least most word.now }
     ensures within { IfSome result (λ n. (least ≤ n) × (n ≤ most)) }
 {
     if !is_number(word.as_bytes()) {
@@ -31,7 +31,7 @@ fn within(number: u32, least: u32, most: u32) -> Option<u32>
 
 // Decimal digits without a sign, and without a zero in front of others.
 fn is_number(word: &[u8]) -> bool
-    ensures { result ≡ is_number word.now }
+    ensures { result ≡ is_decimal word.now }
 {
     !word.is_empty() && (has_digits(word) && has_first_digit(word))
 }

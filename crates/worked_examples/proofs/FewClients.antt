@@ -6,7 +6,7 @@ use Rattle.std.proofs.Common.{refl, ap, subst}
 use Rattle.std.proofs.lemmas.Bool.{leb-true}
 use Rattle.tree_model.specs.Paths.{Text}
 use Rattle.io_edges.specs.declared.wire.Host.{Host}
-use Rattle.run_words.specs.Asked.{Settings, settings_of, settings_by, settings_with, Given, nothing_given, with_flags, order_in}
+use Rattle.run_words.specs.Asked.{Settings, settings_of, settings_by, settings_with, FlagsGiven, nothing_given, with_flags, order_in}
 
 -- the number of clients of settings, or another
 clients_or : ℕ → Option Settings → ℕ
@@ -30,7 +30,7 @@ few_given : (ends : ℕ) (order : List ℕ) (hosts : Option (List Host)) (client
 few_given ends order None clients budget s is = absurd (cc)
 few_given ends order (Some hosts) clients budget s is = few_with ends order hosts clients budget s is
 
-few_by : (ends : ℕ) (order : Option (List ℕ)) (given : Option Given) (s : Settings) → settings_by ends order given ≡ Some s → s.clients ≤ ends
+few_by : (ends : ℕ) (order : Option (List ℕ)) (given : Option FlagsGiven) (s : Settings) → settings_by ends order given ≡ Some s → s.clients ≤ ends
 few_by ends None given s is = absurd (cc)
 few_by ends (Some order) None s is = absurd (cc)
 few_by ends (Some order) (Some given) s is = few_given ends order given.hosts (unwrap_or given.clients ends) (unwrap_or given.budget 4096) s is
