@@ -12,7 +12,7 @@ use Rattle.client_order.specs.declared.totals.Totals.{Totals}
 use Rattle.run_words.specs.Asked.{Settings}
 use Rattle.compile_list.specs.parts.Steps.{ListGives}
 use Rattle.pump_run.specs.Report.{Ran, run_text}
-use Rattle.pump_run.specs.Run.{IsRun, Outside, Given, IsPut, OutsideRose, StatusIs, some_outcome, asked_for}
+use Rattle.pump_run.specs.Run.{IsRun, Outside, PumpGiven, IsPut, OutsideRose, StatusIs, some_outcome, settings_asked_for}
 use Rattle.pump_run.specs.parts.Steps.{ClientsDid, JobsAreTold, some_record, status_for}
 use Rattle.pump_run.proofs.Beyond.{all-ends}
 use Rattle.pump_run.proofs.Calm.{all-calm, first-served}
@@ -47,7 +47,7 @@ status-cases R S status false false lost told rose (inr (inr (four, r))) starved
 
 -- ---- the run ----
 
-module _ (given : Given) (before : Outside) (left report : Option (List ℕ)) (ends : List EndSeen) (list count status : ℕ)
+module _ (given : PumpGiven) (before : Outside) (left report : Option (List ℕ)) (ends : List EndSeen) (list count status : ℕ)
     (settings : Settings) (jobs : List Job) (records : List Done) (totals : Totals)
     (did : ClientsDid given.named given.peer settings.budget settings.clients jobs settings.hosts records totals before.ends ends) where
   -- the outside after the jobs were done and the report was put
@@ -67,7 +67,7 @@ module _ (given : Given) (before : Outside) (left report : Option (List ℕ)) (e
       status-cases (Rose before.counts.report count) (OutsideRose before after) status (some_outcome is_memory works) (some_outcome is_out_fault works) (some_outcome is_tree_fault works) (some_outcome is_diag works)
       (λ rose. inr (inr rose)) (rw same at told.status_is) (rw same at told.no_memory)
 
-  pub ran-run : asked_for given before ≡ Some settings → settings.clients ≤ length before.ends → ListGives before.left left before.counts.list list (Ok jobs)
+  pub ran-run : settings_asked_for given before ≡ Some settings → settings.clients ≤ length before.ends → ListGives before.left left before.counts.list list (Ok jobs)
       → JobsAreTold records totals before.report report before.counts.report count status → IsRun given before after status
   ran-run asked few gives told = record {
     ending = Ran works totals;
@@ -101,11 +101,11 @@ module _ (given : Given) (before : Outside) (left report : Option (List ℕ)) (e
   }
 
 -- the same over ends that are seen, where what was asked for, shown and told is written in other words
-pub whole-run : {E : Type 0} (seen : E → EndSeen) (olds shown news now : List E) (given : Given) (before : Outside) (left report : Option (List ℕ)) (list count status : ℕ)
+pub whole-run : {E : Type 0} (seen : E → EndSeen) (olds shown news now : List E) (given : PumpGiven) (before : Outside) (left report : Option (List ℕ)) (list count status : ℕ)
     (settings : Settings) (listed jobs : List Job) (told_records records : List Done) (totals : Totals)
     → before.ends ≡ map seen olds → shown ≡ olds → now ≡ news → listed ≡ jobs → told_records ≡ records
     → ClientsDid given.named given.peer settings.budget settings.clients listed settings.hosts records totals (map seen shown) (map seen news)
-    → asked_for given before ≡ Some settings → settings.clients ≤ length before.ends → ListGives before.left left before.counts.list list (Ok jobs)
+    → settings_asked_for given before ≡ Some settings → settings.clients ≤ length before.ends → ListGives before.left left before.counts.list list (Ok jobs)
     → JobsAreTold told_records totals before.report report before.counts.report count status
     → IsRun given before (record before { ends = map seen now; left = left; report = report; counts = record { list = list; spawner = before.counts.spawner; report = count } }) status
 whole-run seen olds shown news now given before left report list count status settings listed jobs told_records records totals were same is jobs_are records_are did asked few gives told =

@@ -7,10 +7,10 @@ use Rattle.job_words.specs.declared.job.Job.{Job}
 use Rattle.compile_list.specs.Listed.{jobs_of}
 use Rattle.run_words.specs.Asked.{Settings}
 use Rattle.compile_list.specs.declared.refused.ListError.{ListError}
-use Rattle.pump_run.specs.Report.{Ending, Usage, ListRefused, ListFault, NoMemory, report_text}
+use Rattle.pump_run.specs.Report.{PumpEnding, Usage, ListRefused, ListFault, NoMemory, report_text}
 use Rattle.job_ends.specs.Outside.{EndSeen}
 use Rattle.job_ends.specs.Works.{IsFresh}
-use Rattle.pump_run.specs.Run.{IsRun, Outside, Given, IsPut, Reports, HasEnding, ran, StatusIs, NoFaults, IsComplete, AsksSomething, asked_for}
+use Rattle.pump_run.specs.Run.{IsRun, Outside, PumpGiven, IsPut, ReportIsPut, HasEnding, ran, StatusIs, NoFaults, IsComplete, AsksSomething, settings_asked_for}
 use Rattle.job_ends.specs.Works.{EachEnd}
 use Rattle.pump_run.specs.parts.Steps.{LineIsPut, refusal_text_of}
 use Rattle.pump_run.proofs.Still.{still-ends, fresh-answered}
@@ -21,18 +21,18 @@ no_settings asked settings none some = let both : None ≡ Some settings = sym n
 no_jobs : (bytes : List ℕ) (jobs : List Job) (error : ListError) → jobs_of bytes ≡ Err error → jobs_of bytes ≡ Ok jobs → ⊥
 no_jobs bytes jobs error none some = let both = sym none ∙ some in cc
 
-module _ (given : Given) (before : Outside) (fresh : AllByRecursion IsFresh before.ends) (left report : Option (List ℕ)) (list count status : ℕ) (text : List ℕ) where
+module _ (given : PumpGiven) (before : Outside) (fresh : AllByRecursion IsFresh before.ends) (left report : Option (List ℕ)) (list count status : ℕ) (text : List ℕ) where
   -- the outside after the list was read in part and the line was put
   abbrev pub after : Outside
   after = record before { left = left; report = report; counts = record { list = list; spawner = before.counts.spawner; report = count } }
 
-  abbrev Completes : Ending → Type 0
-  Completes ending = (settings : Settings) → asked_for given before ≡ Some settings → (bytes : List ℕ) → before.left ≡ Some bytes → (jobs : List Job) → jobs_of bytes ≡ Ok jobs → NoFaults before after → IsComplete given before after ending status
+  abbrev Completes : PumpEnding → Type 0
+  Completes ending = (settings : Settings) → settings_asked_for given before ≡ Some settings → (bytes : List ℕ) → before.left ≡ Some bytes → (jobs : List Job) → jobs_of bytes ≡ Ok jobs → NoFaults before after → IsComplete given before after ending status
 
   abbrev Put : List ℕ → Type 0
   Put line = IsPut line status before.report report before.counts.report count
 
-  refused : (ending : Ending) → HasEnding given before after ending → EachEnd 0 (ran ending) before.ends before.ends → Reports (report_text ending) status before after
+  refused : (ending : PumpEnding) → HasEnding given before after ending → EachEnd 0 (ran ending) before.ends before.ends → ReportIsPut (report_text ending) status before after
       → (status ≡ 5) ⊎ StatusIs before after ending status → Completes ending → IsRun given before after status
   refused ending cause ends reports status_is complete = record {
     ending = ending;
@@ -45,9 +45,9 @@ module _ (given : Given) (before : Outside) (fresh : AllByRecursion IsFresh befo
     complete = λ _ tree named. complete;
   }
 
-  pub usage-run : asked_for given before ≡ None → text ≡ report_text Usage → LineIsPut text 2 before.report report before.counts.report count status → IsRun given before after status
+  pub usage-run : settings_asked_for given before ≡ None → text ≡ report_text Usage → LineIsPut text 2 before.report report before.counts.report count status → IsRun given before after status
   usage-run nothing is line = refused Usage nothing (still-ends 0 before.ends) (subst Put is line.line_is) line.status_is
-      (λ settings asks bytes left_is jobs lists calm. no_settings (asked_for given before) settings nothing asks)
+      (λ settings asks bytes left_is jobs lists calm. no_settings (settings_asked_for given before) settings nothing asks)
 
   pub fault-run : AsksSomething given before → Rose before.counts.list list → text ≡ report_text ListFault → LineIsPut text 4 before.report report before.counts.report count status → IsRun given before after status
   fault-run asked rose is line = refused ListFault (asked, rose) (still-ends 0 before.ends) (subst Put is line.line_is) line.status_is
@@ -64,7 +64,7 @@ module _ (given : Given) (before : Outside) (fresh : AllByRecursion IsFresh befo
       refused NoMemory tt (still-ends 0 before.ends) (subst Put is line.line_is) (inl five) (λ settings asks bytes left_is jobs lists calm. five)
 
 -- the same where the ends are as they were
-pub stayed-run : (given : Given) (before : Outside) (ends : List EndSeen) → ends ≡ before.ends → AllByRecursion IsFresh before.ends → (left report : Option (List ℕ)) (list count status : ℕ) (text : List ℕ)
+pub stayed-run : (given : PumpGiven) (before : Outside) (ends : List EndSeen) → ends ≡ before.ends → AllByRecursion IsFresh before.ends → (left report : Option (List ℕ)) (list count status : ℕ) (text : List ℕ)
     → text ≡ report_text NoMemory → LineIsPut text 5 before.report report before.counts.report count status
     → IsRun given before (record before { ends = ends; left = left; report = report; counts = record { list = list; spawner = before.counts.spawner; report = count } }) status
 stayed-run given before ends same fresh left report list count status text is line =

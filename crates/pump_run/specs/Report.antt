@@ -19,13 +19,13 @@ use Rattle.compile_list.specs.declared.refused.ListWhy.{ListWhy}
 use Rattle.compile_list.specs.declared.refused.ListWhy.TheVariants as list
 
 -- how a run may end: refused before its jobs, or with its jobs run
-pub data Ending : Type 0 where
-  Usage : Ending
-  ListRefused : ListError → Ending
-  ListFault : Ending
-  SpawnFault : Ending
-  NoMemory : Ending
-  Ran : List Work → Totals → Ending
+pub data PumpEnding : Type 0 where
+  Usage : PumpEnding
+  ListRefused : ListError → PumpEnding
+  ListFault : PumpEnding
+  SpawnFault : PumpEnding
+  NoMemory : PumpEnding
+  Ran : List Work → Totals → PumpEnding
 
 abbrev pub refusal_text : Refusal → List ℕ
 refusal_text refusal.Budget = codes "A1"
@@ -79,14 +79,14 @@ is_local Remote = false
 is_local (Local cause) = true
 is_local Broken = false
 
-abbrev pub counted : (Way → Bool) → List Done → List ℕ
-counted test records = decimal (count_by (λ (done : Done). test done.way) records)
+abbrev pub count_text : (Way → Bool) → List Done → List ℕ
+count_text test records = decimal (count_by (λ (done : Done). test done.way) records)
 
 -- the report of the jobs: their lines, and the line of how many were done where
 unfoldable pub totals_text : List Done → List ℕ
 totals_text records =
-    codes "jobs " ++ (decimal (length records) ++ (codes " remote " ++ (counted is_remote records ++ (codes " local " ++ (counted is_local records
-    ++ (codes " broken " ++ (counted is_broken records ++ 10 ∷ [])))))))
+    codes "jobs " ++ (decimal (length records) ++ (codes " remote " ++ (count_text is_remote records ++ (codes " local " ++ (count_text is_local records
+    ++ (codes " broken " ++ (count_text is_broken records ++ 10 ∷ [])))))))
 
 unfoldable pub jobs_text : List Done → List ℕ
 jobs_text records = flat_map job_text records ++ totals_text records
@@ -121,7 +121,7 @@ why_text list.Output = codes "output"
 why_text list.Memory = codes "memory"
 
 -- the whole text of the report
-abbrev pub report_text : Ending → List ℕ
+abbrev pub report_text : PumpEnding → List ℕ
 report_text Usage = codes "pump: usage" ++ 10 ∷ []
 report_text (ListRefused error) = codes "pump: list " ++ decimal error.line ++ codes ": " ++ why_text error.why ++ 10 ∷ []
 report_text ListFault = codes "pump: list read fault" ++ 10 ∷ []

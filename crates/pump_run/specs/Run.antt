@@ -34,11 +34,11 @@ use Rattle.client_order.specs.Ran.{ClientsRan}
 use Rattle.client_order.specs.declared.totals.Totals.{Totals}
 use Rattle.compile_list.specs.Listed.{jobs_of}
 use Rattle.run_words.specs.Asked.{Settings, settings_of}
-use Rattle.pump_run.specs.Report.{Ending, Usage, ListRefused, ListFault, SpawnFault, NoMemory, Ran, report_text}
+use Rattle.pump_run.specs.Report.{PumpEnding, Usage, ListRefused, ListFault, SpawnFault, NoMemory, Ran, report_text}
 
 -- ---- the outside before the call and after it ----
 
-pub record Counts : Type 0 where
+pub record RunCounts : Type 0 where
   pub list : ℕ
   pub spawner : ℕ
   pub report : ℕ
@@ -50,20 +50,20 @@ pub record Outside : Type 0 where
   pub begun : List (ℕ × Host)
   pub running : List Host
   pub asked : Bool
-  pub counts : Counts
+  pub counts : RunCounts
 
 -- what the call is given beside the outside
-pub record Given : Type 1 where
+pub record PumpGiven : Type 1 where
   pub named : Option FileTree
   pub peer : List ℕ → List ℕ → Type 0
   pub words : List (List ℕ)
 
 -- what the words ask of the ends that there are
-abbrev pub asked_for : Given → Outside → Option Settings
-asked_for given before = settings_of (length before.ends) given.words
+abbrev pub settings_asked_for : PumpGiven → Outside → Option Settings
+settings_asked_for given before = settings_of (length before.ends) given.words
 
 -- the jobs that were run: none after a refusal
-abbrev pub ran : Ending → List Work
+abbrev pub ran : PumpEnding → List Work
 ran Usage = []
 ran (ListRefused error) = []
 ran ListFault = []
@@ -92,9 +92,9 @@ ServedByDaemon peer = IsDaemon peer → (ends : List EndSeen) → EachTells ends
 -- ---- how the run ended ----
 
 -- the jobs were run: they are those of the list, which was read to its end, and the first ends had a client each, which did them
-pub record JobsRan (given : Given) (before after : Outside) (works : List Work) (totals : Totals) : Type 0 where
+pub record JobsRan (given : PumpGiven) (before after : Outside) (works : List Work) (totals : Totals) : Type 0 where
   pub settings : Settings
-  pub asked : asked_for given before ≡ Some settings
+  pub asked : settings_asked_for given before ≡ Some settings
   pub jobs : List Job
   pub listed : ForSome before.left (λ bytes. jobs_of bytes ≡ Ok jobs)
   pub read : ForSome after.left (λ rest. rest ≡ [])
@@ -102,16 +102,16 @@ pub record JobsRan (given : Given) (before after : Outside) (works : List Work) 
   pub works_are : ran.works ≡ works
 
 -- the words are in the grammar, and ask for no more clients than there are ends
-abbrev pub AsksSomething : Given → Outside → Type 0
-AsksSomething given before = (settings : Settings) × (asked_for given before ≡ Some settings)
+abbrev pub AsksSomething : PumpGiven → Outside → Type 0
+AsksSomething given before = (settings : Settings) × (settings_asked_for given before ≡ Some settings)
 
 -- the list, where it is told, is in the grammar
 abbrev pub Readable : Outside → Type 0
 Readable before = ForSome before.left (λ bytes. (jobs : List Job) × (jobs_of bytes ≡ Ok jobs))
 
 -- the cause of each ending
-abbrev pub HasEnding : Given → Outside → Outside → Ending → Type 0
-HasEnding given before after Usage = asked_for given before ≡ None
+abbrev pub HasEnding : PumpGiven → Outside → Outside → PumpEnding → Type 0
+HasEnding given before after Usage = settings_asked_for given before ≡ None
 HasEnding given before after (ListRefused error) = AsksSomething given before × ForSome before.left (λ bytes. jobs_of bytes ≡ Err error)
 HasEnding given before after ListFault = AsksSomething given before × Rose before.counts.list after.counts.list
 HasEnding given before after SpawnFault = AsksSomething given before × (Readable before × Rose before.counts.spawner after.counts.spawner)
@@ -126,8 +126,8 @@ pub record IsPut (text : List ℕ) (status : ℕ) (before now : Option (List ℕ
   pub whole : (status ≡ 5 → ⊥) → (Rose from to → ⊥) → now ≡ added text before
   pub whole_by_status : (status ≡ 0) ⊎ ((status ≡ 1) ⊎ (status ≡ 6)) → now ≡ added text before
 
-abbrev pub Reports : List ℕ → ℕ → Outside → Outside → Type 0
-Reports text status before after = IsPut text status before.report after.report before.counts.report after.counts.report
+abbrev pub ReportIsPut : List ℕ → ℕ → Outside → Outside → Type 0
+ReportIsPut text status before after = IsPut text status before.report after.report before.counts.report after.counts.report
 
 abbrev pub some_outcome : (JobOutcome → Bool) → List Work → Bool
 some_outcome test works = list_any (λ (w : Work). test w.done.outcome) works
@@ -142,7 +142,7 @@ OutsideRose before after =
     Rose before.counts.list after.counts.list ⊎ (Rose before.counts.spawner after.counts.spawner ⊎ Rose before.counts.report after.counts.report)
 
 -- the status of a run that isn't 5 for want of memory outside its jobs
-abbrev pub StatusIs : Outside → Outside → Ending → ℕ → Type 0
+abbrev pub StatusIs : Outside → Outside → PumpEnding → ℕ → Type 0
 StatusIs before after Usage status = status ≡ 2
 StatusIs before after (ListRefused error) status = status ≡ 3
 StatusIs before after ListFault status = status ≡ 4
@@ -155,7 +155,7 @@ StatusIs before after (Ran works totals) status =
 -- ---- daemons ----
 
 -- no daemon is started: hosts are given by name
-pub record DaemonsHold (given : Given) (ending : Ending) (status : ℕ) (before after : Outside) : Type 0 where
+pub record DaemonsHold (given : PumpGiven) (ending : PumpEnding) (status : ℕ) (before after : Outside) : Type 0 where
   pub begun : after.begun ≡ before.begun
   pub running : after.running ≡ before.running
   pub asked : after.asked ≡ before.asked
@@ -170,7 +170,7 @@ pub record NoFaults (before after : Outside) : Type 0 where
   pub ends : EachCalm before.ends after.ends
 
 -- where the words and the list are in their grammars and nothing failed, the jobs were run, and only want of memory stood in the way
-abbrev pub IsComplete : Given → Outside → Outside → Ending → ℕ → Type 0
+abbrev pub IsComplete : PumpGiven → Outside → Outside → PumpEnding → ℕ → Type 0
 IsComplete given before after (Ran works totals) status = AllByRecursion (λ (w : Work). IsCalm w.done.way w.done.outcome) works
 IsComplete given before after Usage status = ⊥
 IsComplete given before after (ListRefused error) status = ⊥
@@ -180,15 +180,15 @@ IsComplete given before after NoMemory status = status ≡ 5
 
 -- ---- the run ----
 
-pub record IsRun (given : Given) (before after : Outside) (status : ℕ) : Type 0 where
-  pub ending : Ending
+pub record IsRun (given : PumpGiven) (before after : Outside) (status : ℕ) : Type 0 where
+  pub ending : PumpEnding
   pub cause : HasEnding given before after ending
   pub ends : EachEnd 0 (ran ending) before.ends after.ends
-  pub report : Reports (report_text ending) status before after
+  pub report : ReportIsPut (report_text ending) status before after
   pub status_is : (status ≡ 5) ⊎ StatusIs before after ending status
   pub daemons : DaemonsHold given ending status before after
   pub answered : EachAnsweredBy given.peer after.ends
-  pub complete : EachServed after.ends → ForSome given.named (λ tree. (settings : Settings) → asked_for given before ≡ Some settings → (bytes : List ℕ) → before.left ≡ Some bytes → (jobs : List Job) → jobs_of bytes ≡ Ok jobs → NoFaults before after → IsComplete given before after ending status)
+  pub complete : EachServed after.ends → ForSome given.named (λ tree. (settings : Settings) → settings_asked_for given before ≡ Some settings → (bytes : List ℕ) → before.left ≡ Some bytes → (jobs : List Job) → jobs_of bytes ≡ Ok jobs → NoFaults before after → IsComplete given before after ending status)
 
 -- what contracts see of the outside, from the members of the bounds
 abbrev pub outside : List EndSeen → Option (List ℕ) → ℕ → List (ℕ × Host) → List Host → Bool → ℕ → Option (List ℕ) → ℕ → Outside
@@ -202,5 +202,5 @@ outside ends left list_faults begun running asked spawner_faults report report_f
   counts = record { list = list_faults; spawner = spawner_faults; report = report_faults };
 }
 
-abbrev pub given : Option FileTree → (List ℕ → List ℕ → Type 0) → List (List ℕ) → Given
-given named peer words = record { named = named; peer = peer; words = words }
+abbrev pub pump_given : Option FileTree → (List ℕ → List ℕ → Type 0) → List (List ℕ) → PumpGiven
+pump_given named peer words = record { named = named; peer = peer; words = words }

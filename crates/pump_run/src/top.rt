@@ -3,7 +3,7 @@ ghost use Rattle.std.specs.Prelude.{◌≡◌, ◌<◌, ◌≤◌, [], length, m
 ghost use Rattle.std.specs.List.{AllByRecursion};
 ghost use Rattle.job_ends.specs.Outside.{seen_end};
 ghost use Rattle.job_ends.specs.Works.{IsFresh};
-ghost use Rattle.pump_run.specs.Run.{IsRun, outside, given};
+ghost use Rattle.pump_run.specs.Run.{IsRun, outside, pump_given};
 
 use crate::clients::{number_of, run_clients};
 use crate::ending::{FAULT, NO_MEMORY, REFUSED, USAGE, refuse, tell};
@@ -48,7 +48,7 @@ pub fn pump<T: Tree, W: Wire, O: Outs, P: Spawner, S: Source, K: Sink, R: Thread
     requires fresh { AllByRecursion IsFresh (map (seen_end T.told T.Tree.faults T.reads W.talk W.state W.Wire.faults O.kept O.Outs.faults) ends.old.items) }
     requires idle { P.running spawner.old ≡ [] }
     ensures run { let seen = seen_end T.told T.Tree.faults T.reads W.talk W.state W.Wire.faults O.kept O.Outs.faults in
-        IsRun (given T.Of.named W.peer (map (λ word. word.now) words.now))
+        IsRun (pump_given T.Of.named W.peer (map (λ word. word.now) words.now))
         (outside (map seen ends.old.items) (S.left list.old) (S.faults list.old) (P.begun spawner.old) (P.running spawner.old) (P.asked spawner.old) (P.faults spawner.old) (K.held report.old) (K.faults report.old))
         (outside (map seen ends.new.items) (S.left list.new) (S.faults list.new) (P.begun spawner.new) (P.running spawner.new) (P.asked spawner.new) (P.faults spawner.new) (K.held report.new) (K.faults report.new))
         result }
@@ -90,7 +90,7 @@ pub fn pump_watched<
     requires fresh { AllByRecursion IsFresh (map (seen_end T.told T.Tree.faults T.reads W.talk W.state W.Wire.faults O.kept O.Outs.faults) ends.old.items) }
     requires idle { P.running spawner.old ≡ [] }
     ensures run { let seen = seen_end T.told T.Tree.faults T.reads W.talk W.state W.Wire.faults O.kept O.Outs.faults in
-        IsRun (given T.Of.named W.peer (map (λ word. word.now) words.now))
+        IsRun (pump_given T.Of.named W.peer (map (λ word. word.now) words.now))
         (outside (map seen ends.old.items) (S.left list.old) (S.faults list.old) (P.begun spawner.old) (P.running spawner.old) (P.asked spawner.old) (P.faults spawner.old) (K.held report.old) (K.faults report.old))
         (outside (map seen ends.new.items) (S.left list.new) (S.faults list.new) (P.begun spawner.new) (P.running spawner.new) (P.asked spawner.new) (P.faults spawner.new) (K.held report.new) (K.faults report.new))
         result }

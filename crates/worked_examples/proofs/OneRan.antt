@@ -16,8 +16,8 @@ use Rattle.job_ends.specs.Outside.{EndSeen}
 use Rattle.job_ends.specs.Record.{Known, known}
 use Rattle.job_ends.specs.Works.{Work, EachEnd, EndHolds, EachRecord, EachServed, EachAgrees, JobAgrees, works_of, is_memory, is_out_fault, is_tree_fault, is_diag}
 use Rattle.compile_list.specs.Listed.{jobs_of}
-use Rattle.pump_run.specs.Report.{Ending, Usage, ListRefused, ListFault, SpawnFault, NoMemory, Ran, report_text, run_text}
-use Rattle.pump_run.specs.Run.{Outside, IsRun, JobsRan, StatusIs, HasEnding, Reports, OutsideRose, ServedByDaemon, IsDaemon, EachTells, ran, given}
+use Rattle.pump_run.specs.Report.{PumpEnding, Usage, ListRefused, ListFault, SpawnFault, NoMemory, Ran, report_text, run_text}
+use Rattle.pump_run.specs.Run.{Outside, IsRun, JobsRan, StatusIs, HasEnding, ReportIsPut, OutsideRose, ServedByDaemon, IsDaemon, EachTells, ran, pump_given}
 use Rattle.pump_run.proofs.Calm.{first-served}
 use Rattle.client_order.specs.declared.totals.Totals.{Totals}
 use Rattle.worked_examples.proofs.FewClients.{few_clients}
@@ -28,7 +28,7 @@ pub record OneRan (tree : FileTree) (job : Job) (status : ℕ) (before after : O
   pub totals : Totals
   pub agrees : JobAgrees tree job work
   pub status_is : StatusIs before after (Ran (work ∷ []) totals) status
-  pub told : Reports (report_text (Ran (work ∷ []) totals)) status before after
+  pub told : ReportIsPut (report_text (Ran (work ∷ []) totals)) status before after
   pub put : now.kept ≡ Some work.deeds.put
 
 -- ---- records ----
@@ -63,7 +63,7 @@ one_after works e (now ∷ other ∷ more) (holds, rest) = absurd rest
 module _ (tree : FileTree) (peer : List ℕ → List ℕ → Type 0) (words : List (List ℕ)) (before after : Outside) (status : ℕ) (e now : EndSeen) (bytes : List ℕ) (job : Job)
     (small : status ≤ 1) (served : EachServed after.ends) (fresh : e.kept ≡ Some []) (told : before.left ≡ Some bytes) (listed : jobs_of bytes ≡ Ok (job ∷ [])) (one_before : length before.ends ≡ 1) where
   of_one : (w : Work) (totals : Totals) → EachAgrees tree (job ∷ []) (w ∷ []) → w.done.client < 1
-      → EachEnd 0 (w ∷ []) (e ∷ []) (now ∷ []) → StatusIs before after (Ran (w ∷ []) totals) status → Reports (report_text (Ran (w ∷ []) totals)) status before after
+      → EachEnd 0 (w ∷ []) (e ∷ []) (now ∷ []) → StatusIs before after (Ran (w ∷ []) totals) status → ReportIsPut (report_text (Ran (w ∷ []) totals)) status before after
       → OneRan tree job status before after now
   of_one w totals agrees below each status_is report =
       let first : w.done.client ≡ 0 = omega (below, arith) in
@@ -77,8 +77,8 @@ module _ (tree : FileTree) (peer : List ℕ → List ℕ → Type 0) (words : Li
         put = holds.outs ∙ ap (λ k. added (w.deeds.put ++ []) k) fresh ∙ ap (λ (p : List (List ℕ × List ℕ)). Some p) (append-nil w.deeds.put);
       }
 
-  of_ran : (works : List Work) (totals : Totals) → JobsRan (given (Some tree) peer words) before after works totals → EachEnd 0 works (e ∷ []) (now ∷ [])
-      → StatusIs before after (Ran works totals) status → Reports (report_text (Ran works totals)) status before after → OneRan tree job status before after now
+  of_ran : (works : List Work) (totals : Totals) → JobsRan (pump_given (Some tree) peer words) before after works totals → EachEnd 0 works (e ∷ []) (now ∷ [])
+      → StatusIs before after (Ran works totals) status → ReportIsPut (report_text (Ran works totals)) status before after → OneRan tree job status before after now
   of_ran works totals j each status_is report =
       let the_known : Known = known (Some tree) j.settings.budget in
       let jobs_are : j.jobs ≡ job ∷ [] = jobs_are_those j.jobs (job ∷ []) bytes (j.listed bytes told) listed in
@@ -94,10 +94,10 @@ module _ (tree : FileTree) (peer : List ℕ → List ℕ → Type 0) (words : Li
       (omega (own.0, few, arith))
       (subst (λ (ws : List Work). EachEnd 0 ws (e ∷ []) (now ∷ [])) one.1 each)
       (subst (λ (ws : List Work). StatusIs before after (Ran ws totals) status) one.1 status_is)
-      (subst (λ (ws : List Work). Reports (report_text (Ran ws totals)) status before after) one.1 report)
+      (subst (λ (ws : List Work). ReportIsPut (report_text (Ran ws totals)) status before after) one.1 report)
 
-  of_status : (ending : Ending) → HasEnding (given (Some tree) peer words) before after ending → EachEnd 0 (ran ending) (e ∷ []) (now ∷ [])
-      → StatusIs before after ending status → Reports (report_text ending) status before after → OneRan tree job status before after now
+  of_status : (ending : PumpEnding) → HasEnding (pump_given (Some tree) peer words) before after ending → EachEnd 0 (ran ending) (e ∷ []) (now ∷ [])
+      → StatusIs before after ending status → ReportIsPut (report_text ending) status before after → OneRan tree job status before after now
   of_status Usage cause each is report = absurd (omega (arith, is, small))
   of_status (ListRefused error) cause each is report = absurd (omega (arith, is, small))
   of_status ListFault cause each is report = absurd (omega (arith, is, small))
@@ -105,14 +105,14 @@ module _ (tree : FileTree) (peer : List ℕ → List ℕ → Type 0) (words : Li
   of_status NoMemory cause each is report = absurd is
   of_status (Ran works totals) cause each is report = of_ran works totals cause each is report
 
-  of_ending : (ending : Ending) → HasEnding (given (Some tree) peer words) before after ending → EachEnd 0 (ran ending) (e ∷ []) (now ∷ [])
-      → (status ≡ 5) ⊎ StatusIs before after ending status → Reports (report_text ending) status before after → OneRan tree job status before after now
+  of_ending : (ending : PumpEnding) → HasEnding (pump_given (Some tree) peer words) before after ending → EachEnd 0 (ran ending) (e ∷ []) (now ∷ [])
+      → (status ≡ 5) ⊎ StatusIs before after ending status → ReportIsPut (report_text ending) status before after → OneRan tree job status before after now
   of_ending ending cause each (inl five) report = absurd (omega (arith, five, small))
   of_ending ending cause each (inr is) report = of_status ending cause each is report
 
   pub one_ran : (named : Option FileTree) → named ≡ Some tree → IsRun (given named peer words) before after status → before.ends ≡ e ∷ [] → after.ends ≡ now ∷ [] → OneRan tree job status before after now
   one_ran named is run were are =
-      let run' : IsRun (given (Some tree) peer words) before after status = subst (λ (n : Option FileTree). IsRun (given n peer words) before after status) is run in
+      let run' : IsRun (pump_given (Some tree) peer words) before after status = subst (λ (n : Option FileTree). IsRun (pump_given n peer words) before after status) is run in
       let each : EachEnd 0 (ran run'.ending) (e ∷ []) (now ∷ []) =
       subst (λ (ends : List EndSeen). EachEnd 0 (ran run'.ending) (e ∷ []) ends) are (subst (λ (ends : List EndSeen). EachEnd 0 (ran run'.ending) ends after.ends) were run'.ends) in
       of_ending run'.ending run'.cause each run'.status_is run'.report

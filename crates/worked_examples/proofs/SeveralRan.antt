@@ -17,8 +17,8 @@ use Rattle.job_ends.specs.Record.{Known, known}
 use Rattle.job_ends.specs.Works.{Work, EachEnd, EachRecord, EachServed, EachAgrees, JobAgrees, works_of, is_memory, is_out_fault, is_tree_fault, is_diag}
 use Rattle.compile_list.specs.Listed.{jobs_of}
 use Rattle.client_order.specs.declared.totals.Totals.{Totals}
-use Rattle.pump_run.specs.Report.{Ending, Usage, ListRefused, ListFault, SpawnFault, NoMemory, Ran}
-use Rattle.pump_run.specs.Run.{Outside, IsRun, JobsRan, StatusIs, HasEnding, OutsideRose, ServedByDaemon, IsDaemon, EachTells, ran, given, some_outcome}
+use Rattle.pump_run.specs.Report.{PumpEnding, Usage, ListRefused, ListFault, SpawnFault, NoMemory, Ran}
+use Rattle.pump_run.specs.Run.{Outside, IsRun, JobsRan, StatusIs, HasEnding, OutsideRose, ServedByDaemon, IsDaemon, EachTells, ran, pump_given, some_outcome}
 use Rattle.pump_run.proofs.Calm.{first-served, this-or-above}
 use Rattle.worked_examples.specs.Several.{IsPutOnOne, EachIsPut}
 use Rattle.worked_examples.proofs.FewClients.{few_clients}
@@ -123,7 +123,7 @@ module _ (tree : FileTree) (works : List Work) (n : ℕ) (before after : List En
 
 module _ (tree : FileTree) (peer : List ℕ → List ℕ → Type 0) (words : List (List ℕ)) (before after : Outside) (status : ℕ) (bytes : List ℕ) (jobs : List Job)
     (zero_is : status ≡ 0) (served : EachServed after.ends) (nothing : AllByRecursion KeptNothing before.ends) (told : before.left ≡ Some bytes) (listed : jobs_of bytes ≡ Ok jobs) where
-  of_works : (works : List Work) (totals : Totals) → JobsRan (given (Some tree) peer words) before after works totals → EachEnd 0 works before.ends after.ends
+  of_works : (works : List Work) (totals : Totals) → JobsRan (pump_given (Some tree) peer words) before after works totals → EachEnd 0 works before.ends after.ends
       → StatusIs before after (Ran works totals) status → EachIsPut tree (map kept_of after.ends) jobs
   of_works works totals j each status_is =
       let the_known : Known = known (Some tree) j.settings.budget in
@@ -136,7 +136,7 @@ module _ (tree : FileTree) (peer : List ℕ → List ℕ → Type 0) (words : Li
       (all_put tree works j.settings.clients before.ends after.ends (few_clients (length before.ends) words j.settings j.asked) each nothing the_known 0 j.jobs works (λ w m. m) clients
       (all_texts works status_is.0 none.0 none.1.0 none.1.1) recorded agreed)
 
-  of_ending : (ending : Ending) → HasEnding (given (Some tree) peer words) before after ending → EachEnd 0 (ran ending) before.ends after.ends
+  of_ending : (ending : PumpEnding) → HasEnding (pump_given (Some tree) peer words) before after ending → EachEnd 0 (ran ending) before.ends after.ends
       → (status ≡ 5) ⊎ StatusIs before after ending status → EachIsPut tree (map kept_of after.ends) jobs
   of_ending ending cause each (inl five) = absurd (omega (arith, five, zero_is))
   of_ending Usage cause each (inr is) = absurd (omega (arith, is, zero_is))
@@ -148,7 +148,7 @@ module _ (tree : FileTree) (peer : List ℕ → List ℕ → Type 0) (words : Li
 
   all_ran : (named : Option FileTree) → named ≡ Some tree → IsRun (given named peer words) before after status → EachIsPut tree (map kept_of after.ends) jobs
   all_ran named is run =
-      let over : IsRun (given (Some tree) peer words) before after status = subst (λ (n : Option FileTree). IsRun (given n peer words) before after status) is run in
+      let over : IsRun (pump_given (Some tree) peer words) before after status = subst (λ (n : Option FileTree). IsRun (pump_given n peer words) before after status) is run in
       of_ending over.ending over.cause over.ends over.status_is
 
 -- ---- at ends ----

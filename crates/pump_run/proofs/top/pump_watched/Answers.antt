@@ -3,7 +3,7 @@ use Rattle.job_ends.specs.Outside.{seen_end}
 use Rattle.run_words.specs.parts.Flagged.{settings_by_asked}
 use Rattle.compile_list.specs.declared.refused.ListError.{ListError}
 use Rattle.pump_run.specs.parts.Steps.{refusal_text_of}
-use Rattle.pump_run.specs.Run.{outside, given}
+use Rattle.pump_run.specs.Run.{outside, pump_given}
 use Rattle.pump_run.proofs.Counted.{nothing-asked, asked-seen, few-seen}
 use Rattle.pump_run.proofs.FirstEnds.{written-back}
 use Rattle.pump_run.proofs.Refused.{usage-run, list-refused-run, fault-run, starved-run, stayed-run}
@@ -13,7 +13,7 @@ use Rattle.pump_run.proofs.top.pump_watched.Goals as goal
 pub returns-in-Ok-None : goal.returns-in-Ok-None
 returns-in-Ok-None g c =
     let asked_words : Bor (List ℕ) → List ℕ = λ w. w.now in
-    let the_given = given g.T.Of.Frozen.named g.W.Wire.peer (map asked_words c.args.words.now) in
+    let the_given = pump_given g.T.Of.Frozen.named g.W.Wire.peer (map asked_words c.args.words.now) in
     let seen = seen_end {F = g.row.T-Of.Denot} g.T.Tree.told g.T.Tree.faults g.T.Tree.reads g.W.Wire.talk g.W.Wire.state g.W.Wire.faults g.O.Outs.kept g.O.Outs.faults in
     let before = outside (map seen c.args.ends.now.items) (g.S.Source.left c.args.list.now) (g.S.Source.faults c.args.list.now) (g.P.Spawner.begun c.args.spawner.now) (g.P.Spawner.running c.args.spawner.now) (g.P.Spawner.asked c.args.spawner.now) (g.P.Spawner.faults c.args.spawner.now) (g.K.Sink.held c.args.report.now) (g.K.Sink.faults c.args.report.now) in
     record {
@@ -24,7 +24,7 @@ returns-in-Ok-None g c =
 pub returns-in-Err : goal.returns-in-Err
 returns-in-Err g c =
     let asked_words : Bor (List ℕ) → List ℕ = λ w. w.now in
-    let the_given = given g.T.Of.Frozen.named g.W.Wire.peer (map asked_words c.args.words.now) in
+    let the_given = pump_given g.T.Of.Frozen.named g.W.Wire.peer (map asked_words c.args.words.now) in
     let seen = seen_end {F = g.row.T-Of.Denot} g.T.Tree.told g.T.Tree.faults g.T.Tree.reads g.W.Wire.talk g.W.Wire.state g.W.Wire.faults g.O.Outs.kept g.O.Outs.faults in
     let before = outside (map seen c.args.ends.now.items) (g.S.Source.left c.args.list.now) (g.S.Source.faults c.args.list.now) (g.P.Spawner.begun c.args.spawner.now) (g.P.Spawner.running c.args.spawner.now) (g.P.Spawner.asked c.args.spawner.now) (g.P.Spawner.faults c.args.spawner.now) (g.K.Sink.held c.args.report.now) (g.K.Sink.faults c.args.report.now) in
     record {
@@ -35,7 +35,7 @@ returns-in-Err g c =
 pub returns-in_default : goal.returns-in_default
 returns-in_default g c =
     let asked_words : Bor (List ℕ) → List ℕ = λ w. w.now in
-    let the_given = given g.T.Of.Frozen.named g.W.Wire.peer (map asked_words c.args.words.now) in
+    let the_given = pump_given g.T.Of.Frozen.named g.W.Wire.peer (map asked_words c.args.words.now) in
     let seen = seen_end {F = g.row.T-Of.Denot} g.T.Tree.told g.T.Tree.faults g.T.Tree.reads g.W.Wire.talk g.W.Wire.state g.W.Wire.faults g.O.Outs.kept g.O.Outs.faults in
     let before = outside (map seen c.args.ends.now.items) (g.S.Source.left c.args.list.now) (g.S.Source.faults c.args.list.now) (g.P.Spawner.begun c.args.spawner.now) (g.P.Spawner.running c.args.spawner.now) (g.P.Spawner.asked c.args.spawner.now) (g.P.Spawner.faults c.args.spawner.now) (g.K.Sink.held c.args.report.now) (g.K.Sink.faults c.args.report.now) in
     record {
@@ -46,7 +46,7 @@ returns-in_default g c =
 pub returns-in-Err-Refused : goal.returns-in-Err-Refused
 returns-in-Err-Refused g c =
     let asked_words : Bor (List ℕ) → List ℕ = λ w. w.now in
-    let the_given = given g.T.Of.Frozen.named g.W.Wire.peer (map asked_words c.args.words.now) in
+    let the_given = pump_given g.T.Of.Frozen.named g.W.Wire.peer (map asked_words c.args.words.now) in
     let seen = seen_end {F = g.row.T-Of.Denot} g.T.Tree.told g.T.Tree.faults g.T.Tree.reads g.W.Wire.talk g.W.Wire.state g.W.Wire.faults g.O.Outs.kept g.O.Outs.faults in
     let before = outside (map seen c.args.ends.now.items) (g.S.Source.left c.args.list.now) (g.S.Source.faults c.args.list.now) (g.P.Spawner.begun c.args.spawner.now) (g.P.Spawner.running c.args.spawner.now) (g.P.Spawner.asked c.args.spawner.now) (g.P.Spawner.faults c.args.spawner.now) (g.K.Sink.held c.args.report.now) (g.K.Sink.faults c.args.report.now) in
     let settings = settings_by_asked c.in-Ok-Some.asked in
@@ -59,7 +59,7 @@ returns-in-Err-Refused g c =
 pub returns-in-Err-Fault : goal.returns-in-Err-Fault
 returns-in-Err-Fault g c =
     let asked_words : Bor (List ℕ) → List ℕ = λ w. w.now in
-    let the_given = given g.T.Of.Frozen.named g.W.Wire.peer (map asked_words c.args.words.now) in
+    let the_given = pump_given g.T.Of.Frozen.named g.W.Wire.peer (map asked_words c.args.words.now) in
     let seen = seen_end {F = g.row.T-Of.Denot} g.T.Tree.told g.T.Tree.faults g.T.Tree.reads g.W.Wire.talk g.W.Wire.state g.W.Wire.faults g.O.Outs.kept g.O.Outs.faults in
     let before = outside (map seen c.args.ends.now.items) (g.S.Source.left c.args.list.now) (g.S.Source.faults c.args.list.now) (g.P.Spawner.begun c.args.spawner.now) (g.P.Spawner.running c.args.spawner.now) (g.P.Spawner.asked c.args.spawner.now) (g.P.Spawner.faults c.args.spawner.now) (g.K.Sink.held c.args.report.now) (g.K.Sink.faults c.args.report.now) in
     let settings = settings_by_asked c.in-Ok-Some.asked in
@@ -72,7 +72,7 @@ returns-in-Err-Fault g c =
 pub returns-in-Err-Memory : goal.returns-in-Err-Memory
 returns-in-Err-Memory g c =
     let asked_words : Bor (List ℕ) → List ℕ = λ w. w.now in
-    let the_given = given g.T.Of.Frozen.named g.W.Wire.peer (map asked_words c.args.words.now) in
+    let the_given = pump_given g.T.Of.Frozen.named g.W.Wire.peer (map asked_words c.args.words.now) in
     let seen = seen_end {F = g.row.T-Of.Denot} g.T.Tree.told g.T.Tree.faults g.T.Tree.reads g.W.Wire.talk g.W.Wire.state g.W.Wire.faults g.O.Outs.kept g.O.Outs.faults in
     let before = outside (map seen c.args.ends.now.items) (g.S.Source.left c.args.list.now) (g.S.Source.faults c.args.list.now) (g.P.Spawner.begun c.args.spawner.now) (g.P.Spawner.running c.args.spawner.now) (g.P.Spawner.asked c.args.spawner.now) (g.P.Spawner.faults c.args.spawner.now) (g.K.Sink.held c.args.report.now) (g.K.Sink.faults c.args.report.now) in
     record {
@@ -83,7 +83,7 @@ returns-in-Err-Memory g c =
 pub returns-in_default-run_clients : goal.returns-in_default-run_clients
 returns-in_default-run_clients g c =
     let asked_words : Bor (List ℕ) → List ℕ = λ w. w.now in
-    let the_given = given g.T.Of.Frozen.named g.W.Wire.peer (map asked_words c.args.words.now) in
+    let the_given = pump_given g.T.Of.Frozen.named g.W.Wire.peer (map asked_words c.args.words.now) in
     let seen = seen_end {F = g.row.T-Of.Denot} g.T.Tree.told g.T.Tree.faults g.T.Tree.reads g.W.Wire.talk g.W.Wire.state g.W.Wire.faults g.O.Outs.kept g.O.Outs.faults in
     let before = outside (map seen c.args.ends.now.items) (g.S.Source.left c.args.list.now) (g.S.Source.faults c.args.list.now) (g.P.Spawner.begun c.args.spawner.now) (g.P.Spawner.running c.args.spawner.now) (g.P.Spawner.asked c.args.spawner.now) (g.P.Spawner.faults c.args.spawner.now) (g.K.Sink.held c.args.report.now) (g.K.Sink.faults c.args.report.now) in
     record {
@@ -96,7 +96,7 @@ returns-in_default-run_clients g c =
 pub returns : goal.returns
 returns g c =
     let asked_words : Bor (List ℕ) → List ℕ = λ w. w.now in
-    let the_given = given g.T.Of.Frozen.named g.W.Wire.peer (map asked_words c.args.words.now) in
+    let the_given = pump_given g.T.Of.Frozen.named g.W.Wire.peer (map asked_words c.args.words.now) in
     let seen = seen_end {F = g.row.T-Of.Denot} g.T.Tree.told g.T.Tree.faults g.T.Tree.reads g.W.Wire.talk g.W.Wire.state g.W.Wire.faults g.O.Outs.kept g.O.Outs.faults in
     let before = outside (map seen c.args.ends.now.items) (g.S.Source.left c.args.list.now) (g.S.Source.faults c.args.list.now) (g.P.Spawner.begun c.args.spawner.now) (g.P.Spawner.running c.args.spawner.now) (g.P.Spawner.asked c.args.spawner.now) (g.P.Spawner.faults c.args.spawner.now) (g.K.Sink.held c.args.report.now) (g.K.Sink.faults c.args.report.now) in
     let settings = settings_by_asked c.in-Ok-Some.asked in
