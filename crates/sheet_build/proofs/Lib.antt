@@ -3,7 +3,9 @@
 --     Adding      how sheets grow
 --     Bodies      the sheet of a file that isn't too large
 --     Capped      sums that stop at a top
+--     DirectivesAlone   a sheet comes of directives alone
 pub mod PlaceLaws
 pub mod Adding
 pub mod Bodies
 pub mod Capped
+pub mod DirectivesAlone

@@ -13,8 +13,8 @@ ghost use Rattle.sheet_build.specs.parts.Stored.{sheet_of_parts};
 use crate::directives::add_piece;
 use crate::sheets::{Parts, Sheet};
 use base_types::Bytes;
-use directive_scan::Pieces;
-use pp_tokens::lex;
+use directive_scan::{Pieces, directives_stand_alone};
+use pp_tokens::lex_directives;
 use search_path::{Setup, Visit};
 use std::alloc::Global;
 use tree_model::{CanonPath, Tree, TreeError, locate, read_body};
@@ -76,7 +76,8 @@ fn parts_of_body<T: Tree>(
     ensures never_large { IsErrOf result TreeError.Large → ⊥ }
     ensures no_read { T.reads tree.new ≡ T.reads tree.old }
 {
-    let lexed = lex(alloc, body, setup.trigraphs())?;
+    directives_stand_alone();
+    let lexed = lex_directives(alloc, body, setup.trigraphs())?;
     let pieces = Pieces::of(alloc, lexed)?;
     parts_of_pieces(alloc, tree, setup, visit, &pieces)
 }
