@@ -110,7 +110,7 @@ module _ (tree : FileTree) (peer : List ℕ → List ℕ → Type 0) (words : Li
   of_ending ending cause each (inl five) report = absurd (omega (arith, five, small))
   of_ending ending cause each (inr is) report = of_status ending cause each is report
 
-  pub one_ran : (named : Option FileTree) → named ≡ Some tree → IsRun (given named peer words) before after status → before.ends ≡ e ∷ [] → after.ends ≡ now ∷ [] → OneRan tree job status before after now
+  pub one_ran : (named : Option FileTree) → named ≡ Some tree → IsRun (pump_given named peer words) before after status → before.ends ≡ e ∷ [] → after.ends ≡ now ∷ [] → OneRan tree job status before after now
   one_ran named is run were are =
       let run' : IsRun (pump_given (Some tree) peer words) before after status = subst (λ (n : Option FileTree). IsRun (pump_given n peer words) before after status) is run in
       let each : EachEnd 0 (ran run'.ending) (e ∷ []) (now ∷ []) =
@@ -164,7 +164,7 @@ diagnostic_told tree job status before after now one_is empty r =
 
 -- ends that are seen: one before, which kept nothing, and one after
 module _ {E : Type 0} (seen : E → EndSeen) (olds news : List E) (old new : E) (named : Option FileTree) (peer : List ℕ → List ℕ → Type 0) (words : List (List ℕ)) (before after : Outside) (status : ℕ)
-    (run : IsRun (given named peer words) before after status) (were : before.ends ≡ map seen olds) (are : after.ends ≡ map seen news) (was : olds ≡ old ∷ []) where
+    (run : IsRun (pump_given named peer words) before after status) (were : before.ends ≡ map seen olds) (are : after.ends ≡ map seen news) (was : olds ≡ old ∷ []) where
   first : before.ends ≡ seen old ∷ []
   first = were ∙ ap (λ (ends : List E). map seen ends) was
 

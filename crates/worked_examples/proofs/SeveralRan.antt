@@ -146,7 +146,7 @@ module _ (tree : FileTree) (peer : List ℕ → List ℕ → Type 0) (words : Li
   of_ending NoMemory cause each (inr is) = absurd is
   of_ending (Ran works totals) cause each (inr is) = of_works works totals cause each is
 
-  all_ran : (named : Option FileTree) → named ≡ Some tree → IsRun (given named peer words) before after status → EachIsPut tree (map kept_of after.ends) jobs
+  all_ran : (named : Option FileTree) → named ≡ Some tree → IsRun (pump_given named peer words) before after status → EachIsPut tree (map kept_of after.ends) jobs
   all_ran named is run =
       let over : IsRun (pump_given (Some tree) peer words) before after status = subst (λ (n : Option FileTree). IsRun (pump_given n peer words) before after status) is run in
       of_ending over.ending over.cause over.ends over.status_is
@@ -168,7 +168,7 @@ same_kepts seen outs kept (e ∷ ends) same = ap (λ (k : Option (List Put)). k 
 
 -- where the other side of the wires is the daemon
 pub texts_put : {E O : Type 0} (seen : E → EndSeen) (outs : E → O) (kept : O → Option (List Put)) (olds news : List E) (named : Option FileTree) (peer : List ℕ → List ℕ → Type 0) (words : List (List ℕ))
-    (before after : Outside) (status : ℕ) → IsRun (given named peer words) before after status → before.ends ≡ map seen olds → after.ends ≡ map seen news
+    (before after : Outside) (status : ℕ) → IsRun (pump_given named peer words) before after status → before.ends ≡ map seen olds → after.ends ≡ map seen news
     → (tree : FileTree) (bytes : List ℕ) (jobs : List Job) (left : List O) → named ≡ Some tree → ServedByDaemon peer → IsDaemon peer → ((e : E) → IsSome (seen e).talk) → ((e : E) → (seen e).kept ≡ kept (outs e))
     → AllByRecursion (λ (e : E). KeptNothing (seen e)) olds → before.left ≡ Some bytes → status ≡ 0 → jobs_of bytes ≡ Ok jobs → left ≡ map outs news → EachIsPut tree (map kept left) jobs
 texts_put seen outs kept olds news named peer words before after status run were are tree bytes jobs left named_is served daemon tells same nothing told zero_is listed left_is =
