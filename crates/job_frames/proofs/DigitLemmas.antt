@@ -1,11 +1,16 @@
 -- A number below 2^32 and its eight digits, both ways; and tokens.
-use Rattle.std.proofs.Common.{◌≡◌, ℕ, zero, suc, ◌+◌, ◌-◌, ◌*◌, ◌/◌, ◌%◌, ◌^◌, ◌<◌, ◌≤◌, List, [], ◌∷◌, ◌++◌, refl, sym, ◌∙◌, ap, arith, Option, Some, None, cond, true, false, Bool, append_assoc, inl, inr}
+use Rattle.std.proofs.Common.{◌≡◌, ℕ, zero, suc, ◌+◌, ◌-◌, ◌*◌, ◌/◌, ◌%◌, ◌^◌, ◌<◌, ◌≤◌, List, [], ◌∷◌, ◌++◌, refl, sym, ◌∙◌, ap, arith, Option, Some, None, cond, true, false, Bool, append_assoc, length, length-append, inl, inr}
 use Rattle.std.specs.Prelude.{◌==◌, nat_le, nat_lt, ◌&&◌}
 use Rattle.std.proofs.Math.Nat.{pow-suc}
 use Rattle.std.proofs.lemmas.Bool.{eq-eqb, eqb-true, leb-true, le-leb, lt-leb, lt-ltb, le-ltb}
 use Rattle.std.proofs.lemmas.Bool.Decides.{nat_tests}
 use Rattle.job_frames.specs.Fields.{Step, short, refused, taken, ◌>>=◌, letters_at, digits_at, number_at, digit_of, digit, digits, token}
 use Rattle.job_frames.proofs.FieldLemmas.{digit_small, chosen, both}
+
+pub digits_length : (k n : ℕ) → length (digits k n) ≡ k
+unfolding digits
+digits_length zero n = refl
+digits_length (suc k) n = omega (arith, length-append (digits k (n / 16)) (digit (n % 16) ∷ []), digits_length k (n / 16))
 
 -- the digits but the last, and then the last
 digits_last : (k acc : ℕ) (bytes : List ℕ) → digits_at (suc k) acc bytes ≡ (digits_at k acc bytes >>= λ m r. digits_at 1 m r)

@@ -1,12 +1,12 @@
 mod FieldLemmas
 mod DigitLemmas
 mod TokenLemmas
-mod StageLemmas
-mod RunLemmas
+mod FormatLemmas
+mod MachineLemmas
 mod ReaderLemmas
+mod StageLemmas
 mod SpellingLemmas
 mod SpelledLemmas
-mod ImageLemmas
 mod ImageLaws
 mod FirmLemmas
 mod TreeLemmas
@@ -16,6 +16,5 @@ mod ReplySpelling
 mod ReplySpelled
 mod ReplyEnds
 mod ReplyStageLemmas
-mod ReplyRunLemmas
-mod ReplyReaderLemmas
+mod EndLemmas
 pub mod DaemonLemmas

@@ -1,105 +1,138 @@
 -- What the calls of a reader say.
-use Rattle.std.proofs.Common.{◌≡◌, ℕ, ◌≤◌, List, [], ◌++◌, length, drop, refl, sym, ◌∙◌, ap, subst, arith, inl, inr, Option, Some, None}
-use Rattle.std.specs.Prelude.{is_some, false}
-use Rattle.std.specs.Option.{option_map}
+use Rattle.std.proofs.Common.{◌≡◌, ℕ, ◌<◌, ◌≤◌, List, [], ◌++◌, length, drop, refl, sym, ◌∙◌, ap, subst, inl, inr, Option, Some, None, Bool, true, false}
+use Rattle.std.specs.Prelude.{nat_lt}
 use Rattle.std.proofs.lemmas.List.{append-nil}
+use Rattle.std.proofs.lemmas.Bool.{ltb-true, ltb-false}
 use Rattle.job_frames.specs.declared.FrameError.{FrameError}
+use Rattle.job_frames.specs.declared.FrameError.TheVariants as why
 use Rattle.job_frames.specs.declared.Fed.{Fed}
 use Rattle.job_frames.specs.declared.Fed.TheVariants as fed
-use Rattle.job_frames.specs.declared.machine.Due.{Due}
-use Rattle.job_frames.specs.declared.machine.Due.TheVariants.{Version, Whole}
-use Rattle.job_frames.specs.declared.machine.Read.{Read}
+use Rattle.job_frames.specs.declared.field.Field.{Field}
 use Rattle.job_frames.specs.declared.machine.Machine.{Machine}
-use Rattle.job_frames.specs.Fields.{short, number_at, letters_at}
-use Rattle.job_frames.specs.Outcomes.{Verdict, going, done, reason, NotRefused, IsFed, whatever_follows, number_of}
-use Rattle.job_frames.specs.Request.{Got, request_from, request_at, most}
-use Rattle.tree_model.specs.Entries.{Entries, Increasing}
-use Rattle.job_frames.specs.parts.Readers.{Standing, left, request_of, Settled}
-use Rattle.job_frames.specs.parts.Stages.{reading, wanted_of, Ready, left_to_read, Keeps, HasRunTo, Begins}
+use Rattle.job_frames.specs.Fields.{short, refused, taken}
+use Rattle.job_frames.specs.Formats.{Format, gives, reading}
+use Rattle.job_frames.specs.Outcomes.{Verdict, going, done, reason, NotRefused, IsFed, number_of}
+use Rattle.job_frames.specs.parts.Dues.{wanted}
+use Rattle.job_frames.specs.parts.Machines.{Stands, left_to_read, IsWhole, HasRunTo, verdict, rested, left_verdict, Settled, KeepsReader}
+use Rattle.job_frames.proofs.FieldLemmas.{past_end, split_at}
+use Rattle.job_frames.proofs.TokenLemmas.{whole_is, empty}
 
-abbrev pub got : Read → Got
-got r = record { job = r.job; entries = r.entries }
+-- where all has come, the value is there, and behind it what follows
+pub record Whole {F A : Type 0} (format : F → Format A) (m : Machine F) : Type 0 where
+  pub value : A
+  pub format_is : format m.frame ≡ gives value
+  pub none : m.pending.items ≡ []
+  pub reads : (bytes : List ℕ) → left_to_read format m bytes ≡ taken value bytes
 
--- where all has come, whatever follows doesn't matter
-whole_done : (due : Due) (r : Read) (bytes : List ℕ) → due ≡ Whole → whatever_follows (reading due r bytes) ≡ done (got r)
-unfolding reading
-whole_done due r bytes e = ap (λ (d : Due). whatever_follows (reading d r bytes)) e
+pub whole : {F A : Type 0} (format : F → Format A) (keeps : F → Type 0) (m : Machine F) → Stands format keeps m → IsWhole (format m.frame) → Whole format m
+whole {F} {A} format keeps m stands is =
+    let given = whole_is (format m.frame) is in
+    let nothing : m.pending.items ≡ [] = empty m.pending.items (subst (λ (o : Option Field). length m.pending.items ≤ wanted o) is stands.fits) in
+    record {
+      value = given.0;
+      format_is = given.1;
+      none = nothing;
+      reads = λ bytes. ap (λ (p : List ℕ). reading (format m.frame) (p ++ bytes)) nothing ∙ ap (λ (f : Format A). reading f bytes) given.1;
+    }
 
-pub end_done : (due : Due) (pending : List ℕ) (r : Read) → due ≡ Whole → left (None, due, pending, r) [] ≡ done (got r)
-end_done due pending r e = whole_done due r (pending ++ []) e
+verdict_done : {A : Type 0} (follows : Bool) (a : A) → verdict follows (taken a []) ≡ done a
+verdict_done true a = refl
+verdict_done false a = refl
 
--- a machine that was left at a verdict is refused by nothing yet
-settled_goes : (old : Machine) → Settled old → NotRefused (left (None, old.due, old.pending.items, old.read))
-settled_goes old (inl whole) n refusal = absurd (no_reason _ n (sym (end_done old.due old.pending.items old.read whole) ∙ refusal))
+verdict_going : {A : Type 0} (follows : Bool) → verdict {A = A} follows short ≡ going
+verdict_going true = refl
+verdict_going false = refl
+
+verdict_reason : {A : Type 0} (follows : Bool) (n : ℕ) → verdict {A = A} follows (refused n) ≡ reason n
+verdict_reason true n = refl
+verdict_reason false n = refl
+
+no_reason : {A : Type 0} (a : A) (n : ℕ) → done a ≡ reason n → ⊥
+no_reason a n h = cc
+
+not_going : {A : Type 0} (n : ℕ) → ◌≡◌ {A = Verdict A} going (reason n) → ⊥
+not_going n h = cc
+
+module _ {F A : Type 0} (format : F → Format A) (keeps : F → Type 0) (follows : Bool) where
+  -- what a machine that wasn't stopped says
+  abbrev pub says : Machine F → List ℕ → Verdict A
+  says m more = verdict follows (left_to_read format m more)
+
+  -- the value of a whole frame
+  pub whole_says : (m : Machine F) (w : Whole format m) → says m [] ≡ done w.value
+  whole_says m w = ap (verdict follows) (w.reads []) ∙ verdict_done follows w.value
+
+  -- a machine that was left at a verdict is refused by nothing yet
+  pub settled_goes : (m : Machine F) → Stands format keeps m → Settled format m → NotRefused (says m)
+  settled_goes m stands (inl is) n refusal = let w = whole format keeps m stands is in no_reason w.value n (sym (whole_says m w) ∙ refusal)
+  settled_goes m stands (inr waits) n refusal = not_going {A = A} n (sym (ap (verdict follows) waits ∙ verdict_going follows) ∙ refusal)
+
+  all_of : (m : Machine F) (piece : List ℕ) → says m piece ≡ says m (piece ++ [])
+  all_of m piece = ap (says m) (sym (append-nil piece))
+
+  -- bytes behind the end, where none may follow
+  pub over : (old new : Machine F) (piece : List ℕ) (at : ℕ) → HasRunTo format keeps old piece new at fed.Done → at < length piece → (more : List ℕ) → verdict false (left_to_read format old (piece ++ more)) ≡ reason 6
+  over old new piece at ran is_left more =
+      let w = whole format keeps new ran.0.2 ran.1 in
+      ap (verdict false) (sym (ran.0.1 more) ∙ w.reads (drop at piece ++ more)) ∙ ap (λ (d : List ℕ). verdict false (taken w.value (d ++ more))) (split_at piece at is_left)
+
+same_error : (e f : FrameError) → fed.Refused e ≡ fed.Refused f → e ≡ f
+same_error e f h = cc
+
+-- a piece that was refused
+pub feed_refused : {F A : Type 0} (format : F → Format A) (keeps : F → Type 0) (follows : Bool) (old new : Machine F) (piece : List ℕ) (at : ℕ) (ran : Fed) (e : FrameError) → Stands format keeps old → Settled format old
+    → HasRunTo format keeps old piece new at ran → rested ran follows (nat_lt at (length piece)) ≡ fed.Refused e → IsFed (says format keeps follows old) piece (λ more. reason (number_of e)) (fed.Refused e)
+feed_refused format keeps follows old new piece at fed.More e stands settled h is = absurd (cc)
+feed_refused format keeps true old new piece at fed.Done e stands settled h is = absurd (cc)
+feed_refused format keeps false old new piece at fed.Done e stands settled h is = by_left (nat_lt at (length piece)) refl is
   where
-    no_reason : (g : Got) (n : ℕ) → ◌≡◌ {A = Verdict Got} (done g) (reason n) → ⊥
-    no_reason g n h = cc
-settled_goes old (inr waits) n refusal = absurd (no_reason n (sym (ap whatever_follows waits) ∙ refusal))
-  where
-    no_reason : (n : ℕ) → ◌≡◌ {A = Verdict Got} going (reason n) → ⊥
-    no_reason n h = cc
+    by_left : (b : Bool) → nat_lt at (length piece) ≡ b → rested fed.Done false b ≡ fed.Refused e → IsFed (says format keeps false old) piece (λ more. reason (number_of e)) (fed.Refused e)
+    by_left false l g = absurd (cc)
+    by_left true l g =
+        let same = ap number_of (same_error why.Order e g) in
+        let wrong = over format keeps false old new piece at h (ltb-true at (length piece) l) in
+        inl (all_of format keeps false old piece ∙ wrong [] ∙ ap reason same, λ more. sym (wrong more ∙ ap reason same))
+feed_refused format keeps follows old new piece at (fed.Refused f) e stands settled (inl memory) is =
+    let same = same_error f e is in
+    inr (settled_goes format keeps follows old stands settled, ap fed.Refused (sym same ∙ memory), λ more. ap (λ (x : FrameError). reason (number_of x)) (sym same ∙ memory))
+feed_refused {F} {A} format keeps follows old new piece at (fed.Refused f) e stands settled (inr h) is =
+    let same = ap number_of (same_error f e is) in
+    let wrong = λ (more : List ℕ). ap (verdict follows) (h more) ∙ verdict_reason {A = A} follows (number_of f) ∙ ap reason same in
+    inl (all_of format keeps follows old piece ∙ wrong [], λ more. sym (wrong more))
 
-pub feed_refused : (old new : Machine) (piece : List ℕ) (at : ℕ) (answer : Fed) (e : FrameError) → Settled old → answer ≡ fed.Refused e → HasRunTo old piece new at answer
-    → IsFed (left (None, old.due, old.pending.items, old.read)) piece (left (Some e, new.due, new.pending.items, new.read)) answer
-feed_refused old new piece at fed.More e settled is h = absurd (cc)
-feed_refused old new piece at fed.Done e settled is h = absurd (cc)
-feed_refused old new piece at (fed.Refused f) e settled is (inl h) =
-    let same : f ≡ e = cc in
-    inr (settled_goes old settled, ap fed.Refused h, λ more. ap (λ (x : FrameError). reason (number_of x)) (sym same ∙ h))
-feed_refused old new piece at (fed.Refused f) e settled is (inr h) =
-    let same : f ≡ e = cc in
-    inl (
-      ap (λ (b : List ℕ). whatever_follows (left_to_read old b)) (sym (append-nil piece)) ∙ ap whatever_follows (h []),
-      λ more. ap (λ (x : FrameError). reason (number_of x)) (sym same) ∙ sym (ap whatever_follows (h more)),
-    )
-
-pub feed_goes : (old new : Machine) (piece : List ℕ) (at : ℕ) (answer : Fed) → ((e : FrameError) → answer ≡ fed.Refused e → ⊥) → HasRunTo old piece new at answer
-    → IsFed (left (None, old.due, old.pending.items, old.read)) piece (left (None, new.due, new.pending.items, new.read)) answer
-feed_goes old new piece at fed.More none h =
-    inl (
-      ap (λ (b : List ℕ). whatever_follows (left_to_read old b)) (sym (append-nil piece)) ∙ ap whatever_follows (sym (h.0 []) ∙ h.1),
-      λ more. ap whatever_follows (h.0 more),
-    )
-feed_goes old new piece at fed.Done none h =
-    let says = λ (more : List ℕ). sym (whole_done new.due new.read (new.pending.items ++ (drop at piece ++ more)) h.1) ∙ ap whatever_follows (h.0.1 more) in
-    inl (
-      (got new.read, ap (λ (b : List ℕ). whatever_follows (left_to_read old b)) (sym (append-nil piece)) ∙ sym (says [])),
-      λ more. whole_done new.due new.read (new.pending.items ++ more) h.1 ∙ says more,
-    )
-feed_goes old new piece at (fed.Refused e) none h = absurd (none e refl)
-
-pub finish_whole : (due : Due) (pending : List ℕ) (r : Read) → due ≡ Whole → option_map (λ job. (job, r.entries)) r.job ≡ request_of (left (None, due, pending, r) [])
-finish_whole due pending r e = ap request_of (sym (end_done due pending r e))
-
-version_waits : (r : Read) → reading Version r [] ≡ short
-unfolding reading request_from number_at letters_at
-version_waits r = refl
-
-version_reads : (r : Read) (bytes : List ℕ) → r.room ≡ most → reading Version r bytes ≡ request_at bytes
-unfolding reading
-version_reads r bytes h = ap (λ room. request_from room bytes) h
-
-pub begins_keeps : (m : Machine) → Begins Version m → Keeps m × Settled m
-begins_keeps m b = (
-  record {
-    fits = subst (λ (p : List ℕ). length p ≤ wanted_of m.due) (sym b.pending) (omega arith);
-    ready = subst (λ (d : Due). Ready d m.read) (sym b.due_is) (b.words, b.entries);
-    increasing = subst (λ (es : Entries). Increasing es) (sym b.entries) refl;
-  },
-  inr (ap (λ (p : List ℕ). reading m.due m.read (p ++ [])) b.pending ∙ ap (λ (d : Due). reading d m.read []) b.due_is ∙ version_waits m.read),
+-- a piece that wasn't
+pub feed_goes : {F A : Type 0} (format : F → Format A) (keeps : F → Type 0) (follows : Bool) (old new : Machine F) (piece : List ℕ) (at : ℕ) (ran : Fed) → HasRunTo format keeps old piece new at ran
+    → ((e : FrameError) → rested ran follows (nat_lt at (length piece)) ≡ fed.Refused e → ⊥)
+    → IsFed (says format keeps follows old) piece (says format keeps follows new) (rested ran follows (nat_lt at (length piece))) × Stands format keeps new × Settled format new
+feed_goes {F} {A} format keeps follows old new piece at fed.More h none = (
+  inl (all_of format keeps follows old piece ∙ ap (verdict follows) (sym (h.0 []) ∙ h.1) ∙ verdict_going {A = A} follows, λ more. ap (verdict follows) (h.0 more)),
+  h.2,
+  inr h.1,
 )
+feed_goes {F} {A} format keeps true old new piece at fed.Done h none =
+    let w = whole format keeps new h.0.2 h.1 in
+    let told = λ (more : List ℕ). ap (verdict true) (sym (h.0.1 more) ∙ w.reads (drop at piece ++ more)) in (
+      inl ((w.value, all_of format keeps true old piece ∙ told []), λ more. ap (verdict true) (w.reads more) ∙ sym (told more)),
+      h.0.2,
+      inl h.1,
+    )
+feed_goes {F} {A} format keeps false old new piece at fed.Done h none = by_left (nat_lt at (length piece)) refl none
+  where
+    by_left : (b : Bool) → nat_lt at (length piece) ≡ b → ((e : FrameError) → rested fed.Done false b ≡ fed.Refused e → ⊥)
+        → IsFed (says format keeps false old) piece (says format keeps false new) (rested fed.Done false b) × Stands format keeps new × Settled format new
+    by_left true l g = absurd (g why.Order refl)
+    by_left false l g =
+        let w = whole format keeps new h.0.2 h.1 in
+        let gone : drop at piece ≡ [] = past_end piece at (ltb-false at (length piece) l) in
+        let reads = λ (more : List ℕ). ap (λ (d : List ℕ). left_to_read format new (d ++ more)) (sym gone) ∙ h.0.1 more in (
+          inl ((w.value, all_of format keeps false old piece ∙ ap (verdict false) (sym (reads [])) ∙ whole_says format keeps false new w), λ more. ap (verdict false) (reads more)),
+          h.0.2,
+          inl h.1,
+        )
+feed_goes {F} {A} format keeps follows old new piece at (fed.Refused e) h none = absurd (none e refl)
 
-pub begins_reads : (m : Machine) → Begins Version m → (bytes : List ℕ) → left_to_read m bytes ≡ request_at bytes
-begins_reads m b bytes =
-    ap (λ (p : List ℕ). reading m.due m.read (p ++ bytes)) b.pending ∙ ap (λ (d : Due). reading d m.read bytes) b.due_is ∙ version_reads m.read bytes b.room
-
-pub none_of : (o : Option FrameError) → false ≡ is_some o → o ≡ None
-none_of None h = refl
-none_of (Some e) h = absurd (cc)
-
--- what a reader gives where all has come
-pub finish_says : (o : Option FrameError) (m : Machine) (s : Standing) → (o, m.due, m.pending.items, m.read) ≡ s → false ≡ is_some o → m.due ≡ Whole
-    → option_map (λ job. (job, s.3.entries)) s.3.job ≡ request_of (left s [])
-finish_says o m s view none e =
-    subst (λ (x : Standing). option_map (λ job. (job, x.3.entries)) x.3.job ≡ request_of (left x [])) view
-    (finish_whole m.due m.pending.items m.read e ∙ ap (λ (x : Option FrameError). request_of (left (x, m.due, m.pending.items, m.read) [])) (sym (none_of o none)))
+-- the value that a reader gives in the end
+pub value_is : {F A : Type 0} (format : F → Format A) (keeps : F → Type 0) (follows : Bool) (o : Option FrameError) (m : Machine F) (a : A) → KeepsReader format keeps o m → o ≡ None → IsWhole (format m.frame)
+    → ((v : A) → format m.frame ≡ gives v → v ≡ a) → left_verdict follows o (format m.frame) m.pending.items [] ≡ done a
+value_is format keeps follows (Some e) m a kept none is same = absurd (cc)
+value_is format keeps follows None m a kept none is same = let w = whole format keeps m kept.0 is in whole_says format keeps follows m w ∙ ap done (same w.value w.format_is)

@@ -1,60 +1,23 @@
--- What a request was read from is its spelling.
-use Rattle.std.proofs.Common.{◌≡◌, ℕ, zero, suc, ◌+◌, ◌-◌, ◌≤◌, List, [], ◌∷◌, ◌++◌, length, drop, take, refl, sym, ◌∙◌, ap, subst, arith, Option, Some, None, cond, true, false, Bool, append_assoc, length-append}
-use Rattle.std.specs.Prelude.{◌==◌, nat_le, nat_lt, ◌&&◌, codes, Result, Ok, Err}
+-- What spells a value in the format of requests is its spelling.
+use Rattle.std.proofs.Common.{◌≡◌, ℕ, zero, suc, ◌+◌, ◌-◌, ◌≤◌, List, [], ◌∷◌, ◌++◌, length, refl, sym, ◌∙◌, ap, subst, arith, Option, Some, None, cond, true, false, Bool, append_assoc, length-append}
+use Rattle.std.specs.Prelude.{◌==◌, nat_le, ◌&&◌, codes, Result, Ok, Err}
 use Rattle.std.specs.List.{list_any, flat_map}
-use Rattle.std.proofs.lemmas.Bool.{leb-true, ltb-false, eqb-true}
-use Rattle.std.proofs.lemmas.List.{append-nil, take-append-drop}
-use Rattle.std.proofs.Common.{length-take}
+use Rattle.std.proofs.lemmas.Bool.{leb-true, eqb-true}
+use Rattle.std.proofs.lemmas.List.{append-nil}
 use Rattle.tree_model.specs.Paths.{Path, spelled}
 use Rattle.tree_model.specs.declared.entry.Entry.{Entry}
 use Rattle.tree_model.specs.declared.entry.Entry.TheVariants.{Dir, File, Link}
 use Rattle.tree_model.specs.declared.mem_tree.MirrorError.{MirrorError}
+use Rattle.tree_model.specs.Entries.{Entries, judged_path}
 use Rattle.job_words.specs.declared.job.Job.{Job}
 use Rattle.job_words.specs.Words.{job_of, JobsKeepWords}
-use Rattle.job_frames.specs.Fields.{Step, short, refused, taken, ◌>>=◌, token_at, number_at, judged, body_at, token, field, within, only, fits, bare, room_behind}
-use Rattle.tree_model.specs.Entries.{Entries, judged_path}
-use Rattle.job_frames.specs.Request.{node_bytes, entry_bytes, image_bytes}
-use Rattle.job_frames.specs.Request.{Got, Onward, most, node_then, dir_then, made_then, link_then, target_then, file_then, file_body_then, judged_then, path_then, name_then, entries_from, image_from, with_job, word_body_then, word_then, words_from, count_from, place_body_from, place_from, request_from, request_at, request_bytes, IsSpellable, MayFollow, AreWords, IsRequest}
-use Rattle.job_frames.proofs.DigitLemmas.{number_spelled}
+use Rattle.job_frames.specs.Fields.{taken, token, field, within, only, fits, bare, room_behind}
+use Rattle.job_frames.specs.Formats.{refuses}
+use Rattle.job_frames.specs.Request.{node_bytes, entry_bytes, image_bytes, Got, Onward, most, node_then, dir_then, link_then, target_then, file_then, file_body_then, judged_then, path_then, name_then, entries_from, image_from, with_job, word_body_then, word_then, words_from, count_from, place_body_from, place_from, request_from, request_at, request_bytes, IsSpellable, MayFollow, AreWords, IsRequest}
 use Rattle.job_frames.proofs.StageLemmas.{path_spelled, judged_good}
+use Rattle.job_frames.proofs.FormatLemmas.{TokenFront, BodyFront, Spells, reads_spelling, field_is}
+use Rattle.job_frames.proofs.FirmLemmas.{request_sound}
 use Rattle.job_frames.proofs.SpellingLemmas.{token_length, field_length}
-
-pub record TokenRead {A : Type 0} (letters : List ℕ) (judge : ℕ → Option ℕ) (bytes : List ℕ) (next : ℕ → List ℕ → Step A) (got : A) (rest : List ℕ) : Type 0 where
-  pub n : ℕ
-  pub r : List ℕ
-  pub is : bytes ≡ token letters n ++ r
-  pub passes : judge n ≡ None
-  pub then : next n r ≡ taken got rest
-
-pub token_read : {A : Type 0} (letters : List ℕ) (judge : ℕ → Option ℕ) (bytes : List ℕ) (next : ℕ → List ℕ → Step A) (got : A) (rest : List ℕ)
-    → (token_at letters judge bytes >>= next) ≡ taken got rest → TokenRead letters judge bytes next got rest
-token_read {A} letters judge bytes next got rest h = by_number (number_at letters bytes) refl h
-  where
-    by_judge : (n : ℕ) (r : List ℕ) (o : Option ℕ) → number_at letters bytes ≡ taken n r → judge n ≡ o → (judged o n r >>= next) ≡ taken got rest → TokenRead letters judge bytes next got rest
-    by_judge n r None e j g = record { n = n; r = r; is = (number_spelled letters bytes r n e).0; passes = j; then = g }
-    by_judge n r (Some why) e j g = absurd (cc)
-
-    by_number : (s : Step ℕ) → number_at letters bytes ≡ s → ((s >>= λ m r. judged (judge m) m r) >>= next) ≡ taken got rest → TokenRead letters judge bytes next got rest
-    by_number short e g = absurd (cc)
-    by_number (refused why) e g = absurd (cc)
-    by_number (taken n r) e g = by_judge n r (judge n) e refl g
-
-pub record BodyRead {A : Type 0} (n : ℕ) (bytes : List ℕ) (next : List ℕ → List ℕ → Step A) (got : A) (rest : List ℕ) : Type 0 where
-  pub body : List ℕ
-  pub r : List ℕ
-  pub is : bytes ≡ body ++ r
-  pub long : length body ≡ n
-  pub then : next body r ≡ taken got rest
-
-pub body_read : {A : Type 0} (n : ℕ) (bytes : List ℕ) (next : List ℕ → List ℕ → Step A) (got : A) (rest : List ℕ) → (body_at n bytes >>= next) ≡ taken got rest → BodyRead n bytes next got rest
-unfolding body_at
-body_read {A} n bytes next got rest h = by_size (nat_lt (length bytes) n) refl h
-  where
-    by_size : (t : Bool) → nat_lt (length bytes) n ≡ t → (cond t short (taken (take n bytes) (drop n bytes)) >>= next) ≡ taken got rest → BodyRead n bytes next got rest
-    by_size true e g = absurd (cc)
-    by_size false e g =
-        let enough : n ≤ length bytes = ltb-false (length bytes) n e in
-        record { body = take n bytes; r = drop n bytes; is = sym (take-append-drop n bytes); long = omega (arith, length-take n bytes, enough); then = g }
 
 record InLimits (room low high n : ℕ) : Type 0 where
   low_is : low ≤ n
@@ -93,23 +56,17 @@ only_passes wanted why n h = by_test (n == wanted) refl h
     by_test true e h = eqb-true n wanted e
     by_test false e h = absurd (cc)
 
--- a token and the body behind it are a field
-pub field_is : (letters bytes body r r' : List ℕ) (n : ℕ) → bytes ≡ token letters n ++ r → r ≡ body ++ r' → length body ≡ n → bytes ≡ field letters body ++ r'
-field_is letters bytes body r r' n e f g =
-    e ∙ ap (λ (x : List ℕ). token letters n ++ x) f ∙ ap (λ (k : ℕ). token letters k ++ (body ++ r')) (sym g) ∙ sym (append_assoc (token letters (length body)) body r')
-
-record NodeRead (next : Onward) (room : ℕ) (es : Entries) (path : Path) (bytes : List ℕ) (got : Got) (rest : List ℕ) : Type 0 where
+record NodeRead (next : Onward) (room : ℕ) (es : Entries) (path : Path) (text : List ℕ) (got : Got) : Type 0 where
   e : Entry
   r : List ℕ
-  is : bytes ≡ node_bytes e ++ r
+  is : text ≡ node_bytes e ++ r
   node : IsSpellable e
   small : length (node_bytes e) ≤ room
-  then : next (room - length (node_bytes e)) (es ++ (path, e) ∷ []) r ≡ taken got rest
+  then : Spells (next (room - length (node_bytes e)) (es ++ (path, e) ∷ [])) got r
 
-dir_read : (next : Onward) (room : ℕ) (es : Entries) (path : Path) (bytes : List ℕ) (got : Got) (rest : List ℕ) → dir_then next room es path bytes ≡ taken got rest → NodeRead next room es path bytes got rest
-unfolding dir_then made_then
-dir_read next room es path bytes got rest h =
-    let t = token_read (codes "MDIR") (λ n. bare room (only 0 5 n)) bytes (λ n r. next (room_behind room 0) (es ++ (path, Dir) ∷ []) r) got rest h in
+dir_read : (next : Onward) (room : ℕ) (es : Entries) (path : Path) (text : List ℕ) (got : Got) → Spells (dir_then next room es path) got text → NodeRead next room es path text got
+unfolding dir_then
+dir_read next room es path text got t =
     let passes = bare_passes room (only 0 5 t.n) t.passes in
     let zero_is : t.n ≡ 0 = only_passes 0 5 t.n passes.0 in
     let long = token_length (codes "MDIR") 0 refl in
@@ -119,84 +76,72 @@ dir_read next room es path bytes got rest h =
       is = t.is ∙ ap (λ (k : ℕ). token (codes "MDIR") k ++ t.r) zero_is;
       node = tt;
       small = omega (arith, long, passes.1);
-      then = ap (λ (k : ℕ). next (room - k) (es ++ (path, Dir) ∷ []) t.r) long ∙ t.then;
+      then = subst (λ (k : ℕ). Spells (next (room - k) (es ++ (path, Dir) ∷ [])) got t.r) (sym long) t.then;
     }
 
-file_read : (next : Onward) (room : ℕ) (es : Entries) (path : Path) (bytes : List ℕ) (got : Got) (rest : List ℕ) → file_then next room es path bytes ≡ taken got rest → NodeRead next room es path bytes got rest
+file_read : (next : Onward) (room : ℕ) (es : Entries) (path : Path) (text : List ℕ) (got : Got) → Spells (file_then next room es path) got text → NodeRead next room es path text got
 unfolding file_then file_body_then
-file_read next room es path bytes got rest h =
-    let t = token_read (codes "FILE") (fits room 0 16777216) bytes (λ n r. file_body_then next (room_behind room n) es path n r) got rest h in
-    let b = body_read t.n t.r (λ body r. next (room_behind room t.n) (es ++ (path, File body) ∷ []) r) got rest t.then in
+file_read next room es path text got t =
+    let b = t.then in
     let passes = fits_passes room 0 16777216 t.n t.passes in
     let long = field_length (codes "FILE") b.body refl in
     let same = b.long in
     record {
       e = File b.body;
       r = b.r;
-      is = field_is (codes "FILE") bytes b.body t.r b.r t.n t.is b.is b.long;
+      is = field_is (codes "FILE") text b.body t.r b.r t.n t.is b.is b.long;
       node = omega (arith, same, passes.high_is);
       small = omega (arith, long, same, passes.fits_is);
-      then = ap (λ (k : ℕ). next (room - k) (es ++ (path, File b.body) ∷ []) b.r) (long ∙ ap (λ (k : ℕ). 12 + k) same) ∙ b.then;
+      then = subst (λ (k : ℕ). Spells (next (room - k) (es ++ (path, File b.body) ∷ [])) got b.r) (sym (long ∙ ap (λ (k : ℕ). 12 + k) same)) b.then;
     }
 
-link_read : (next : Onward) (room : ℕ) (es : Entries) (path : Path) (bytes : List ℕ) (got : Got) (rest : List ℕ) → link_then next room es path bytes ≡ taken got rest → NodeRead next room es path bytes got rest
+link_read : (next : Onward) (room : ℕ) (es : Entries) (path : Path) (text : List ℕ) (got : Got) → Spells (link_then next room es path) got text → NodeRead next room es path text got
 unfolding link_then target_then
-link_read next room es path bytes got rest h = by_text (list_any (λ c. c == 0) b.body) refl b.then
+link_read next room es path text got t = by_text (list_any (λ c. c == 0) t.then.body) refl t.then.then
   where
-    t : TokenRead (codes "LINK") (fits room 1 4095) bytes (λ n r. target_then next (room_behind room n) es path n r) got rest
-    t = token_read (codes "LINK") (fits room 1 4095) bytes (λ n r. target_then next (room_behind room n) es path n r) got rest h
-
-    b : BodyRead t.n t.r (λ text r. cond (list_any (λ c. c == 0) text) (refused 5) (next (room_behind room t.n) (es ++ (path, Link text) ∷ []) r)) got rest
-    b = body_read t.n t.r (λ text r. cond (list_any (λ c. c == 0) text) (refused 5) (next (room_behind room t.n) (es ++ (path, Link text) ∷ []) r)) got rest t.then
-
-    by_text : (z : Bool) → list_any (λ c. c == 0) b.body ≡ z → cond z (refused 5) (next (room_behind room t.n) (es ++ (path, Link b.body) ∷ []) b.r) ≡ taken got rest → NodeRead next room es path bytes got rest
-    by_text true e g = absurd (cc)
+    by_text : (z : Bool) → list_any (λ c. c == 0) t.then.body ≡ z → Spells (cond z (refuses 5) (next (room_behind room t.n) (es ++ (path, Link t.then.body) ∷ []))) got t.then.r → NodeRead next room es path text got
+    by_text true e g = absurd g
     by_text false e g =
+        let b = t.then in
         let passes = fits_passes room 1 4095 t.n t.passes in
         let long = field_length (codes "LINK") b.body refl in
         let same = b.long in
         record {
           e = Link b.body;
           r = b.r;
-          is = field_is (codes "LINK") bytes b.body t.r b.r t.n t.is b.is b.long;
+          is = field_is (codes "LINK") text b.body t.r b.r t.n t.is b.is b.long;
           node = (omega (arith, same, passes.low_is), omega (arith, same, passes.high_is), e);
           small = omega (arith, long, same, passes.fits_is);
-          then = ap (λ (k : ℕ). next (room - k) (es ++ (path, Link b.body) ∷ []) b.r) (long ∙ ap (λ (k : ℕ). 12 + k) same) ∙ g;
+          then = subst (λ (k : ℕ). Spells (next (room - k) (es ++ (path, Link b.body) ∷ [])) got b.r) (sym (long ∙ ap (λ (k : ℕ). 12 + k) same)) g;
         }
 
-node_read : (next : Onward) (room : ℕ) (es : Entries) (path : Path) (bytes : List ℕ) (got : Got) (rest : List ℕ) → node_then next room es path bytes ≡ taken got rest → NodeRead next room es path bytes got rest
+node_read : (next : Onward) (room : ℕ) (es : Entries) (path : Path) (text : List ℕ) (got : Got) → Spells (node_then next room es path) got text → NodeRead next room es path text got
 unfolding node_then
-node_read next room es path [] got rest h = absurd (cc)
-node_read next room es path (x ∷ bytes) got rest h = by_letter (x == 77) (x == 76) h
+node_read next room es path [] got h = absurd h
+node_read next room es path (x ∷ text) got h = by_letter (x == 77) (x == 76) h
   where
-    by_letter : (a b : Bool) → cond a (dir_then next room es path (x ∷ bytes)) (cond b (link_then next room es path (x ∷ bytes)) (file_then next room es path (x ∷ bytes))) ≡ taken got rest
-        → NodeRead next room es path (x ∷ bytes) got rest
-    by_letter true b g = dir_read next room es path (x ∷ bytes) got rest g
-    by_letter false true g = link_read next room es path (x ∷ bytes) got rest g
-    by_letter false false g = file_read next room es path (x ∷ bytes) got rest g
+    by_letter : (a b : Bool) → Spells (cond a (dir_then next room es path) (cond b (link_then next room es path) (file_then next room es path))) got (x ∷ text) → NodeRead next room es path (x ∷ text) got
+    by_letter true b g = dir_read next room es path (x ∷ text) got g
+    by_letter false true g = link_read next room es path (x ∷ text) got g
+    by_letter false false g = file_read next room es path (x ∷ text) got g
 
-record EntryRead (next : Onward) (room : ℕ) (es : Entries) (bytes : List ℕ) (got : Got) (rest : List ℕ) : Type 0 where
+record EntryRead (next : Onward) (room : ℕ) (es : Entries) (text : List ℕ) (got : Got) : Type 0 where
   e : Path × Entry
   r : List ℕ
-  is : bytes ≡ entry_bytes e ++ r
+  is : text ≡ entry_bytes e ++ r
   follows : MayFollow es (e ∷ [])
   small : length (entry_bytes e) ≤ room
-  then : next (room - length (entry_bytes e)) (es ++ e ∷ []) r ≡ taken got rest
+  then : Spells (next (room - length (entry_bytes e)) (es ++ e ∷ [])) got r
 
-entry_read : (next : Onward) (room : ℕ) (es : Entries) (bytes : List ℕ) (got : Got) (rest : List ℕ) → name_then next room es bytes ≡ taken got rest → EntryRead next room es bytes got rest
+entry_read : (next : Onward) (room : ℕ) (es : Entries) (text : List ℕ) (got : Got) → Spells (name_then next room es) got text → EntryRead next room es text got
 unfolding name_then path_then
-entry_read next room es bytes got rest h = by_path (judged_path es b.body) refl b.then
+entry_read next room es text got t = by_path (judged_path es t.then.body) refl t.then.then
   where
-    t : TokenRead (codes "NAME") (fits room 2 4096) bytes (λ n r. path_then next (room_behind room n) es n r) got rest
-    t = token_read (codes "NAME") (fits room 2 4096) bytes (λ n r. path_then next (room_behind room n) es n r) got rest h
-
-    b : BodyRead t.n t.r (λ text r. judged_then next (room_behind room t.n) es (judged_path es text) r) got rest
-    b = body_read t.n t.r (λ text r. judged_then next (room_behind room t.n) es (judged_path es text) r) got rest t.then
-
-    by_path : (v : Result Path MirrorError) → judged_path es b.body ≡ v → judged_then next (room_behind room t.n) es v b.r ≡ taken got rest → EntryRead next room es bytes got rest
-    by_path (Err why) e g = absurd (cc)
+    by_path : (v : Result Path MirrorError) → judged_path es t.then.body ≡ v → Spells (judged_then next (room_behind room t.n) es v) got t.then.r → EntryRead next room es text got
+    by_path (Err why) e g = absurd g
     by_path (Ok path) e g =
-        let m = node_read next (room_behind room t.n) es path b.r got rest g in
+        let b = t.then in
+        let m = node_read next (room_behind room t.n) es path b.r got g in
         let spelling : spelled path ≡ b.body = path_spelled b.body path (judged_good es b.body path e).1 in
         let size : length (spelled path) ≡ t.n = ap length spelling ∙ b.long in
         let passes = fits_passes room 2 4096 t.n t.passes in
@@ -207,31 +152,30 @@ entry_read next room es bytes got rest h = by_path (judged_path es b.body) refl 
         record {
           e = (path, m.e);
           r = m.r;
-          is = field_is (codes "NAME") bytes b.body t.r b.r t.n t.is b.is b.long
+          is = field_is (codes "NAME") text b.body t.r b.r t.n t.is b.is b.long
               ∙ ap (λ (x : List ℕ). field (codes "NAME") x ++ b.r) (sym spelling)
               ∙ ap (λ (x : List ℕ). field (codes "NAME") (spelled path) ++ x) m.is
               ∙ sym (append_assoc (field (codes "NAME") (spelled path)) (node_bytes m.e) m.r);
           follows = ((ap (judged_path es) spelling ∙ e, omega (arith, size, passes.low_is), omega (arith, size, passes.high_is)), m.node, tt);
           small = omega (arith, name, whole, size, passes.fits_is, fits_node);
-          then = ap (λ (k : ℕ). next k (es ++ (path, m.e) ∷ []) m.r) (sym gone) ∙ m.then;
+          then = subst (λ (k : ℕ). Spells (next k (es ++ (path, m.e) ∷ [])) got m.r) gone m.then;
         }
 
-record EntriesRead (job : Option Job) (k room : ℕ) (es : Entries) (bytes : List ℕ) (got : Got) (rest : List ℕ) : Type 0 where
+record EntriesRead (job : Option Job) (k room : ℕ) (es : Entries) (text : List ℕ) (got : Got) : Type 0 where
   fs : Entries
   got_is : got ≡ record { job = job; entries = es ++ fs }
   count : length fs ≡ k
   follow : MayFollow es fs
-  is : bytes ≡ flat_map entry_bytes fs ++ rest
+  is : text ≡ flat_map entry_bytes fs
   small : length (flat_map entry_bytes fs) ≤ room
 
-entries_read : (job : Option Job) (k room : ℕ) (es : Entries) (bytes : List ℕ) (got : Got) (rest : List ℕ) → entries_from job k room es bytes ≡ taken got rest → EntriesRead job k room es bytes got rest
+entries_read : (job : Option Job) (k room : ℕ) (es : Entries) (text : List ℕ) (got : Got) → Spells (entries_from job k room es) got text → EntriesRead job k room es text got
 unfolding entries_from
-entries_read job zero room es bytes got rest h =
-    let values : ◌≡◌ {A = Got} (record { job = job; entries = es }) got = cc in
-    record { fs = []; got_is = sym values ∙ ap (λ (x : Entries). record { job = job; entries = x }) (sym (append-nil es)); count = refl; follow = tt; is = cc; small = omega arith }
-entries_read job (suc k) room es bytes got rest h =
-    let m = entry_read (entries_from job k) room es bytes got rest h in
-    let more = entries_read job k (room - length (entry_bytes m.e)) (es ++ m.e ∷ []) m.r got rest m.then in
+entries_read job zero room es text got h =
+    record { fs = []; got_is = sym h.0 ∙ ap (λ (x : Entries). record { job = job; entries = x }) (sym (append-nil es)); count = refl; follow = tt; is = h.1; small = omega arith }
+entries_read job (suc k) room es text got h =
+    let m = entry_read (entries_from job k) room es text got h in
+    let more = entries_read job k (room - length (entry_bytes m.e)) (es ++ m.e ∷ []) m.r got m.then in
     let counted = more.count in
     let whole = length-append (entry_bytes m.e) (flat_map entry_bytes more.fs) in
     let first = m.small in
@@ -241,24 +185,23 @@ entries_read job (suc k) room es bytes got rest h =
       got_is = more.got_is ∙ ap (λ (x : Entries). record { job = job; entries = x }) (append_assoc es (m.e ∷ []) more.fs);
       count = omega (arith, counted);
       follow = (m.follows.0, m.follows.1, more.follow);
-      is = m.is ∙ ap (λ (x : List ℕ). entry_bytes m.e ++ x) more.is ∙ sym (append_assoc (entry_bytes m.e) (flat_map entry_bytes more.fs) rest);
+      is = m.is ∙ ap (λ (x : List ℕ). entry_bytes m.e ++ x) more.is;
       small = omega (arith, whole, first, later);
     }
 
-pub record ImageRead (job : Option Job) (room : ℕ) (bytes : List ℕ) (got : Got) (rest : List ℕ) : Type 0 where
+pub record ImageRead (job : Option Job) (room : ℕ) (text : List ℕ) (got : Got) : Type 0 where
   pub es : Entries
   pub got_is : got ≡ record { job = job; entries = es }
   pub few : length es ≤ 100000
   pub follow : MayFollow [] es
-  pub is : bytes ≡ image_bytes es ++ rest
+  pub is : text ≡ image_bytes es
   pub small : length (image_bytes es) ≤ room
 
-pub image_spelled : (job : Option Job) (room : ℕ) (bytes : List ℕ) (got : Got) (rest : List ℕ) → image_from job room bytes ≡ taken got rest → ImageRead job room bytes got rest
+pub image_spelled : (job : Option Job) (room : ℕ) (text : List ℕ) (got : Got) → Spells (image_from job room) got text → ImageRead job room text got
 unfolding image_from image_bytes
-image_spelled job room bytes got rest h =
-    let t = token_read (codes "NFIL") (λ n. bare room (within 0 100000 n)) bytes (λ n r. entries_from job n (room_behind room 0) [] r) got rest h in
+image_spelled job room text got t =
     let passes = bare_passes room (within 0 100000 t.n) t.passes in
-    let m = entries_read job t.n (room_behind room 0) [] t.r got rest t.then in
+    let m = entries_read job t.n (room_behind room 0) [] t.r got t.then in
     let counted = m.count in
     let long = token_length (codes "NFIL") (length m.fs) refl in
     let whole = length-append (token (codes "NFIL") (length m.fs)) (flat_map entry_bytes m.fs) in
@@ -268,41 +211,39 @@ image_spelled job room bytes got rest h =
       got_is = m.got_is;
       few = subst (λ k. k ≤ 100000) (sym m.count) (within_passes 100000 t.n passes.0);
       follow = m.follow;
-      is = t.is ∙ ap (λ (k : ℕ). token (codes "NFIL") k ++ t.r) (sym counted) ∙ ap (λ (x : List ℕ). token (codes "NFIL") (length m.fs) ++ x) m.is
-          ∙ sym (append_assoc (token (codes "NFIL") (length m.fs)) (flat_map entry_bytes m.fs) rest);
+      is = t.is ∙ ap (λ (k : ℕ). token (codes "NFIL") k ++ t.r) (sym counted) ∙ ap (λ (x : List ℕ). token (codes "NFIL") (length m.fs) ++ x) m.is;
       small = omega (arith, long, whole, later, passes.1);
     }
 
--- what the words and all behind them were read from
-record WordsRead (k room : ℕ) (cwd : List ℕ) (before : List (List ℕ)) (bytes : List ℕ) (got : Got) (rest : List ℕ) : Type 0 where
+-- what the words and all behind them spell
+record WordsRead (k room : ℕ) (cwd : List ℕ) (before : List (List ℕ)) (text : List ℕ) (got : Got) : Type 0 where
   words : List (List ℕ)
   r : List ℕ
   count : length words ≡ k
   are : AreWords words
-  is : bytes ≡ flat_map (field (codes "ARGV")) words ++ r
+  is : text ≡ flat_map (field (codes "ARGV")) words ++ r
   small : length (flat_map (field (codes "ARGV")) words) ≤ room
-  then : with_job (job_of cwd (before ++ words)) (room - length (flat_map (field (codes "ARGV")) words)) r ≡ taken got rest
+  then : Spells (with_job (job_of cwd (before ++ words)) (room - length (flat_map (field (codes "ARGV")) words))) got r
 
-words_read : (k room : ℕ) (cwd : List ℕ) (before : List (List ℕ)) (bytes : List ℕ) (got : Got) (rest : List ℕ) → words_from k room cwd before bytes ≡ taken got rest → WordsRead k room cwd before bytes got rest
+words_read : (k room : ℕ) (cwd : List ℕ) (before : List (List ℕ)) (text : List ℕ) (got : Got) → Spells (words_from k room cwd before) got text → WordsRead k room cwd before text got
 unfolding words_from word_then word_body_then
-words_read zero room cwd before bytes got rest h =
+words_read zero room cwd before text got h =
     record {
       words = [];
-      r = bytes;
+      r = text;
       count = refl;
       are = tt;
       is = refl;
       small = omega arith;
-      then = ap (λ (ws : List (List ℕ)). with_job (job_of cwd ws) (room - 0) bytes) (append-nil before) ∙ ap (λ (n : ℕ). with_job (job_of cwd before) n bytes) (nothing_less room) ∙ h;
+      then = subst (λ (ws : List (List ℕ)). Spells (with_job (job_of cwd ws) (room - 0)) got text) (sym (append-nil before)) (subst (λ (n : ℕ). Spells (with_job (job_of cwd before) n) got text) (nothing_less room) h);
     }
   where
-    nothing_less : (n : ℕ) → n - 0 ≡ n
+    nothing_less : (n : ℕ) → n ≡ n - 0
     nothing_less n = omega arith
-words_read (suc k) room cwd before bytes got rest h =
-    let t = token_read (codes "ARGV") (fits room 1 4096) bytes (λ n r. word_body_then (words_from k) (room_behind room n) cwd before n r) got rest h in
-    let b = body_read t.n t.r (λ w r. words_from k (room_behind room t.n) cwd (before ++ w ∷ []) r) got rest t.then in
+words_read (suc k) room cwd before text got t =
+    let b = t.then in
     let passes = fits_passes room 1 4096 t.n t.passes in
-    let m = words_read k (room_behind room t.n) cwd (before ++ b.body ∷ []) b.r got rest b.then in
+    let m = words_read k (room_behind room t.n) cwd (before ++ b.body ∷ []) b.r got b.then in
     let counted = m.count in
     let size = b.long in
     let long = field_length (codes "ARGV") b.body refl in
@@ -314,37 +255,28 @@ words_read (suc k) room cwd before bytes got rest h =
       r = m.r;
       count = omega (arith, counted);
       are = ((omega (arith, size, passes.low_is), omega (arith, size, passes.high_is)), m.are);
-      is = field_is (codes "ARGV") bytes b.body t.r b.r t.n t.is b.is b.long
+      is = field_is (codes "ARGV") text b.body t.r b.r t.n t.is b.is b.long
           ∙ ap (λ (x : List ℕ). field (codes "ARGV") b.body ++ x) m.is ∙ sym (append_assoc (field (codes "ARGV") b.body) (flat_map (field (codes "ARGV")) m.words) m.r);
       small = omega (arith, long, whole, size, later, passes.fits_is);
-      then = ap (λ (k : ℕ). with_job (job_of cwd (before ++ b.body ∷ m.words)) k m.r) (sym gone)
-          ∙ ap (λ (ws : List (List ℕ)). with_job (job_of cwd ws) ((room - (12 + t.n)) - length (flat_map (field (codes "ARGV")) m.words)) m.r) (sym (append_assoc before (b.body ∷ []) m.words)) ∙ m.then;
+      then = subst (λ (k : ℕ). Spells (with_job (job_of cwd (before ++ b.body ∷ m.words)) k) got m.r) gone
+          (subst (λ (ws : List (List ℕ)). Spells (with_job (job_of cwd ws) ((room - (12 + t.n)) - length (flat_map (field (codes "ARGV")) m.words))) got m.r) (append_assoc before (b.body ∷ []) m.words) m.then);
     }
 
-pub record RequestRead (bytes : List ℕ) (got : Got) (rest : List ℕ) : Type 0 where
+pub record RequestRead (text : List ℕ) (got : Got) : Type 0 where
   pub job : Job
   pub got_job : got.job ≡ Some job
   pub request : IsRequest job got.entries
-  pub is : bytes ≡ request_bytes job got.entries ++ rest
-
--- five parts one after another
-joined : (bytes d c a w i vr pr ar wr rest : List ℕ) → bytes ≡ d ++ vr → vr ≡ c ++ pr → pr ≡ a ++ ar → ar ≡ w ++ wr → wr ≡ i ++ rest → bytes ≡ (d ++ (c ++ (a ++ (w ++ i)))) ++ rest
-joined bytes d c a w i vr pr ar wr rest e1 e2 e3 e4 e5 =
-    e1 ∙ ap (λ (x : List ℕ). d ++ x) (e2 ∙ ap (λ (x : List ℕ). c ++ x) (e3 ∙ ap (λ (x : List ℕ). a ++ x) (e4 ∙ ap (λ (x : List ℕ). w ++ x) e5)))
-    ∙ sym (
-    append_assoc d (c ++ (a ++ (w ++ i))) rest
-    ∙ ap (λ (x : List ℕ). d ++ x) (append_assoc c (a ++ (w ++ i)) rest ∙ ap (λ (x : List ℕ). c ++ x) (append_assoc a (w ++ i) rest ∙ ap (λ (x : List ℕ). a ++ x) (append_assoc w i rest)))
-    )
+  pub is : text ≡ request_bytes job got.entries
 
 -- all parts of a request, put together
-assembled : (bytes cwd vr pr ar wr rest : List ℕ) (words : List (List ℕ)) (job : Job) (got : Got) → JobsKeepWords → job_of cwd words ≡ Some job
-    → bytes ≡ token (codes "DIST") 0x103 ++ vr → vr ≡ field (codes "CDIR") cwd ++ pr → InLimits (room_behind most 0) 1 4096 (length cwd)
+assembled : (text cwd vr pr ar wr : List ℕ) (words : List (List ℕ)) (job : Job) (got : Got) → JobsKeepWords → job_of cwd words ≡ Some job
+    → text ≡ token (codes "DIST") 0x103 ++ vr → vr ≡ field (codes "CDIR") cwd ++ pr → InLimits (room_behind most 0) 1 4096 (length cwd)
     → pr ≡ token (codes "ARGC") (length words) ++ ar → length words ≤ 1000 → 12 ≤ room_behind (room_behind most 0) (length cwd)
     → ar ≡ flat_map (field (codes "ARGV")) words ++ wr → AreWords words → length (flat_map (field (codes "ARGV")) words) ≤ room_behind (room_behind (room_behind most 0) (length cwd)) 0
-    → ImageRead (Some job) (room_behind (room_behind (room_behind most 0) (length cwd)) 0 - length (flat_map (field (codes "ARGV")) words)) wr got rest
-    → RequestRead bytes got rest
+    → ImageRead (Some job) (room_behind (room_behind (room_behind most 0) (length cwd)) 0 - length (flat_map (field (codes "ARGV")) words)) wr got
+    → RequestRead text got
 unfolding request_bytes
-assembled bytes cwd vr pr ar wr rest words job got keeps is_job e1 e2 limits e3 few room e4 are small_words m =
+assembled text cwd vr pr ar wr words job got keeps is_job e1 e2 limits e3 few room e4 are small_words m =
     let parts = keeps cwd words job is_job in
     let entries : got.entries ≡ m.es = ap (λ (g : Got). g.entries) m.got_is in
     let version = token_length (codes "DIST") 0x103 refl in
@@ -373,8 +305,8 @@ assembled bytes cwd vr pr ar wr rest words job got keeps is_job e1 e2 limits e3 
       job = job;
       got_job = ap (λ (g : Got). g.job) m.got_is;
       request = subst (λ (es : Entries). IsRequest job es) (sym entries) request;
-      is = joined bytes (token (codes "DIST") 0x103) (field (codes "CDIR") cwd) (token (codes "ARGC") (length words)) ws image vr pr ar wr rest e1 e2 e3 e4 m.is
-          ∙ ap (λ (x : List ℕ). x ++ rest) (spelling parts.0 parts.1) ∙ ap (λ (es : Entries). request_bytes job es ++ rest) (sym entries);
+      is = e1 ∙ ap (λ (x : List ℕ). token (codes "DIST") 0x103 ++ x) (e2 ∙ ap (λ (x : List ℕ). field (codes "CDIR") cwd ++ x) (e3 ∙ ap (λ (x : List ℕ). token (codes "ARGC") (length words) ++ x) (e4 ∙ ap (λ (x : List ℕ). ws ++ x) m.is)))
+          ∙ spelling parts.0 parts.1 ∙ ap (request_bytes job) (sym entries);
     }
   where
     spelling : job.setup.cwd ≡ cwd → job.words ≡ words
@@ -382,35 +314,32 @@ assembled bytes cwd vr pr ar wr rest words job got keeps is_job e1 e2 limits e3 
     spelling c w = ap (λ (x : List ℕ). token (codes "DIST") 0x103 ++ (field (codes "CDIR") x ++ (token (codes "ARGC") (length words) ++ (flat_map (field (codes "ARGV")) words ++ image_bytes m.es)))) (sym c)
         ∙ ap (λ (ws : List (List ℕ)). token (codes "DIST") 0x103 ++ (field (codes "CDIR") job.setup.cwd ++ (token (codes "ARGC") (length ws) ++ (flat_map (field (codes "ARGV")) ws ++ image_bytes m.es)))) (sym w)
 
-pub request_spelled : JobsKeepWords → (bytes : List ℕ) (got : Got) (rest : List ℕ) → request_at bytes ≡ taken got rest → RequestRead bytes got rest
+pub request_spelled : JobsKeepWords → (text : List ℕ) (got : Got) → Spells (request_from 0x103 most) got text → RequestRead text got
 unfolding request_from place_from place_body_from count_from request_bytes
-request_spelled keeps bytes got rest h = by_job (job_of p.body w.words) refl w.then
+request_spelled keeps text got v = by_job (job_of p.body w.words) refl w.then
   where
-    v : TokenRead (codes "DIST") (λ n. bare most (only 0x103 2 n)) bytes (λ n r. place_from (room_behind most 0) r) got rest
-    v = token_read (codes "DIST") (λ n. bare most (only 0x103 2 n)) bytes (λ n r. place_from (room_behind most 0) r) got rest h
+    t : TokenFront (codes "CDIR") (fits (room_behind most 0) 1 4096) (λ n r. Spells (place_body_from (room_behind (room_behind most 0) n) n) got r) v.r
+    t = v.then
 
-    t : TokenRead (codes "CDIR") (fits (room_behind most 0) 1 4096) v.r (λ n r. place_body_from (room_behind (room_behind most 0) n) n r) got rest
-    t = token_read (codes "CDIR") (fits (room_behind most 0) 1 4096) v.r (λ n r. place_body_from (room_behind (room_behind most 0) n) n r) got rest v.then
+    p : BodyFront t.n (λ cwd r. Spells (count_from (room_behind (room_behind most 0) t.n) cwd) got r) t.r
+    p = t.then
 
-    p : BodyRead t.n t.r (λ b r. count_from (room_behind (room_behind most 0) t.n) b r) got rest
-    p = body_read t.n t.r (λ b r. count_from (room_behind (room_behind most 0) t.n) b r) got rest t.then
+    a : TokenFront (codes "ARGC") (λ n. bare (room_behind (room_behind most 0) t.n) (within 0 1000 n)) (λ n r. Spells (words_from n (room_behind (room_behind (room_behind most 0) t.n) 0) p.body []) got r) p.r
+    a = p.then
 
-    a : TokenRead (codes "ARGC") (λ n. bare (room_behind (room_behind most 0) t.n) (within 0 1000 n)) p.r (λ n r. words_from n (room_behind (room_behind (room_behind most 0) t.n) 0) p.body [] r) got rest
-    a = token_read (codes "ARGC") (λ n. bare (room_behind (room_behind most 0) t.n) (within 0 1000 n)) p.r (λ n r. words_from n (room_behind (room_behind (room_behind most 0) t.n) 0) p.body [] r) got rest p.then
+    w : WordsRead a.n (room_behind (room_behind (room_behind most 0) t.n) 0) p.body [] a.r got
+    w = words_read a.n (room_behind (room_behind (room_behind most 0) t.n) 0) p.body [] a.r got a.then
 
-    w : WordsRead a.n (room_behind (room_behind (room_behind most 0) t.n) 0) p.body [] a.r got rest
-    w = words_read a.n (room_behind (room_behind (room_behind most 0) t.n) 0) p.body [] a.r got rest a.then
-
-    by_job : (o : Option Job) → job_of p.body w.words ≡ o → with_job o (room_behind (room_behind (room_behind most 0) t.n) 0 - length (flat_map (field (codes "ARGV")) w.words)) w.r ≡ taken got rest → RequestRead bytes got rest
-    by_job None e g = absurd (cc)
+    by_job : (o : Option Job) → job_of p.body w.words ≡ o → Spells (with_job o (room_behind (room_behind (room_behind most 0) t.n) 0 - length (flat_map (field (codes "ARGV")) w.words))) got w.r → RequestRead text got
+    by_job None e g = absurd g
     by_job (Some job) e g =
         let passes = bare_passes most (only 0x103 2 v.n) v.passes in
         let version : v.n ≡ 0x103 = only_passes 0x103 2 v.n passes.0 in
         let counts = bare_passes (room_behind (room_behind most 0) t.n) (within 0 1000 a.n) a.passes in
         let limits = fits_passes (room_behind most 0) 1 4096 t.n t.passes in
         let size = p.long in
-        let m = image_spelled (Some job) (room_behind (room_behind (room_behind most 0) t.n) 0 - length (flat_map (field (codes "ARGV")) w.words)) w.r got rest g in
-        assembled bytes p.body v.r p.r a.r w.r rest w.words job got keeps e
+        let m = image_spelled (Some job) (room_behind (room_behind (room_behind most 0) t.n) 0 - length (flat_map (field (codes "ARGV")) w.words)) w.r got g in
+        assembled text p.body v.r p.r a.r w.r w.words job got keeps e
         (v.is ∙ ap (λ (k : ℕ). token (codes "DIST") k ++ v.r) version)
         (field_is (codes "CDIR") v.r p.body t.r p.r t.n t.is p.is p.long)
         (subst (InLimits (room_behind most 0) 1 4096) (sym size) limits)
@@ -419,4 +348,11 @@ request_spelled keeps bytes got rest h = by_job (job_of p.body w.words) refl w.t
         (subst (λ (k : ℕ). 12 ≤ room_behind (room_behind most 0) k) (sym size) counts.1)
         w.is w.are
         (subst (λ (k : ℕ). length (flat_map (field (codes "ARGV")) w.words) ≤ room_behind (room_behind (room_behind most 0) k) 0) (sym size) w.small)
-        (subst (λ (k : ℕ). ImageRead (Some job) (room_behind (room_behind (room_behind most 0) k) 0 - length (flat_map (field (codes "ARGV")) w.words)) w.r got rest) (sym size) m)
+        (subst (λ (k : ℕ). ImageRead (Some job) (room_behind (room_behind (room_behind most 0) k) 0 - length (flat_map (field (codes "ARGV")) w.words)) w.r got) (sym size) m)
+
+-- what a request was read from is its spelling, with what follows
+pub requests_spelled : JobsKeepWords → (bytes : List ℕ) (got : Got) (rest : List ℕ) → request_at bytes ≡ taken got rest → (job : Job) × (got.job ≡ Some job) × IsRequest job got.entries × (bytes ≡ request_bytes job got.entries ++ rest)
+requests_spelled keeps bytes got rest h =
+    let front = reads_spelling (request_from 0x103 most) got bytes rest request_sound h in
+    let m = request_spelled keeps front.text got front.spells in
+    (m.job, m.got_job, m.request, front.is ∙ ap (λ (t : List ℕ). t ++ rest) m.is)

@@ -1,59 +1,13 @@
--- What is read where a token is due, by its letters, its judge and what is read behind it.
+-- What is read where a field of a format is due, and what is read behind it.
 use Rattle.std.proofs.Common.{◌≡◌, ℕ, ◌<◌, ◌≤◌, List, [], ◌∷◌, ◌++◌, length, drop, take, refl, sym, ◌∙◌, ap, subst, arith, Option, Some, None, append_assoc, length-append}
 use Rattle.std.proofs.lemmas.List.{append-nil, take-append-drop}
 use Rattle.std.proofs.lemmas.Bool.{lt-ltb, le-ltb}
 use Rattle.std.proofs.Math.Seq.{take-append_seam, drop-append_seam}
+use Rattle.job_frames.specs.declared.field.Field.TheVariants.{Token, Body, Whole}
 use Rattle.job_frames.specs.Fields.{Step, short, refused, taken, ◌>>=◌, number_at, judged, body_at}
+use Rattle.job_frames.specs.Formats.{Format, gives, refuses, due_token, due_body, due_letter, reading}
+use Rattle.job_frames.specs.parts.Dues.{due_of, passed, behind_token, behind_body}
 use Rattle.job_frames.proofs.FieldLemmas.{number_onward, number_refused}
-
--- what is read behind a token's number, by its judge
-abbrev pub after_judge : {A : Type 0} → (ℕ → List ℕ → Step A) → ℕ → List ℕ → Option ℕ → Step A
-after_judge next n rest None = next n rest
-after_judge next n rest (Some why) = refused why
-
-abbrev pub after_number : {A : Type 0} → (ℕ → Option ℕ) → (ℕ → List ℕ → Step A) → Step ℕ → Step A
-after_number judge next short = short
-after_number judge next (refused why) = refused why
-after_number judge next (taken n rest) = after_judge next n rest (judge n)
-
-by_judge : {A : Type 0} (n : ℕ) (rest : List ℕ) (o : Option ℕ) (next onward : ℕ → List ℕ → Step A)
-    → next n rest ≡ onward n rest → (judged o n rest >>= next) ≡ after_judge onward n rest o
-by_judge n rest None next onward h = h
-by_judge n rest (Some why) next onward h = refl
-
--- a token is read as its number, its judge and what is read behind it
-pub by_number : {A : Type 0} (judge : ℕ → Option ℕ) (onward : ℕ → List ℕ → Step A) (t : Step ℕ) (next : ℕ → List ℕ → Step A)
-    → ((n : ℕ) (rest : List ℕ) → next n rest ≡ onward n rest)
-    → ((t >>= λ n rest. judged (judge n) n rest) >>= next) ≡ after_number judge onward t
-by_number judge onward short next h = refl
-by_number judge onward (refused why) next h = refl
-by_number judge onward (taken n rest) next h = by_judge n rest (judge n) next onward (h n rest)
-
--- what is read is so
-abbrev pub ReadsToken : {A : Type 0} → List ℕ → (ℕ → Option ℕ) → (ℕ → List ℕ → Step A) → (List ℕ → Step A) → Type 0
-ReadsToken letters judge next read = (bytes : List ℕ) → read bytes ≡ after_number judge next (number_at letters bytes)
-
-pub number_waits : {A : Type 0} (letters : List ℕ) (judge : ℕ → Option ℕ) (next : ℕ → List ℕ → Step A) (read : List ℕ → Step A) (p : List ℕ)
-    → ReadsToken letters judge next read → number_at letters p ≡ short → read (p ++ []) ≡ short
-number_waits letters judge next read p reads e = ap read (append-nil p) ∙ reads p ∙ ap (after_number judge next) e
-
-pub number_fails : {A : Type 0} (letters : List ℕ) (judge : ℕ → Option ℕ) (next : ℕ → List ℕ → Step A) (read : List ℕ → Step A) (p : List ℕ) (why : ℕ)
-    → ReadsToken letters judge next read → number_at letters p ≡ refused why → (more : List ℕ) → read (p ++ more) ≡ refused why
-number_fails letters judge next read p why reads e more = reads (p ++ more) ∙ ap (after_number judge next) (number_refused letters p more why e)
-
-pub number_judged : {A : Type 0} (letters : List ℕ) (judge : ℕ → Option ℕ) (next : ℕ → List ℕ → Step A) (read : List ℕ → Step A) (p rest : List ℕ) (n why : ℕ)
-    → ReadsToken letters judge next read → number_at letters p ≡ taken n rest → judge n ≡ Some why → (more : List ℕ) → read (p ++ more) ≡ refused why
-number_judged letters judge next read p rest n why reads e j more =
-    reads (p ++ more) ∙ ap (after_number judge next) (number_onward letters p rest more n e) ∙ ap (after_judge next n (rest ++ more)) j
-
-pub number_passes : {A : Type 0} (letters : List ℕ) (judge : ℕ → Option ℕ) (next : ℕ → List ℕ → Step A) (read : List ℕ → Step A) (p : List ℕ) (n : ℕ)
-    → ReadsToken letters judge next read → number_at letters p ≡ taken n [] → judge n ≡ None → (more : List ℕ) → next n more ≡ read (p ++ more)
-number_passes letters judge next read p n reads e j more =
-    sym (reads (p ++ more) ∙ ap (after_number judge next) (number_onward letters p [] more n e) ∙ ap (after_judge next n more) j)
-
--- what was read of a token is what stands there
-pub same_number : (due letters rest bytes : List ℕ) → due ≡ letters → rest ≡ bytes → number_at letters bytes ≡ number_at due rest
-same_number due letters rest bytes d r = rw (d, r) refl
 
 -- BODIES
 
@@ -73,7 +27,6 @@ body_there n p more h =
     drop-all : (p more : List ℕ) (n : ℕ) → length p ≡ n → drop n (p ++ more) ≡ more
     drop-all p more n h = subst (λ k. drop k (p ++ more) ≡ more) h (drop-append_seam p more)
 
--- a field without bytes has none pending
 pub empty : (p : List ℕ) → length p ≤ 0 → p ≡ []
 empty [] h = refl
 empty (b ∷ p) h = absurd (omega arith)
@@ -83,3 +36,57 @@ pub same_bytes : (p rest more : List ℕ) (n : ℕ) → (p ++ take n rest) ++ (d
 same_bytes p rest more n =
     append_assoc p (take n rest) (drop n rest ++ more)
     ∙ ap (λ (b : List ℕ). p ++ b) (sym (append_assoc (take n rest) (drop n rest) more) ∙ ap (λ (b : List ℕ). b ++ more) (take-append-drop n rest))
+
+-- what was read of a token is what stands there
+pub same_number : (due letters rest bytes : List ℕ) → due ≡ letters → rest ≡ bytes → number_at letters bytes ≡ number_at due rest
+same_number due letters rest bytes d r = rw (d, r) refl
+
+-- FIELDS
+
+by_judge : {A : Type 0} (o : Option ℕ) (n : ℕ) (rest : List ℕ) (next : ℕ → Format A) → (judged o n rest >>= λ m r. reading (next m) r) ≡ reading (passed o (next n)) rest
+by_judge None n rest next = refl
+by_judge (Some why) n rest next = refl
+
+by_number : {A : Type 0} (s : Step ℕ) (judge : ℕ → Option ℕ) (next : ℕ → Format A)
+    → ((s >>= λ n rest. judged (judge n) n rest) >>= λ n rest. reading (next n) rest) ≡ (s >>= λ n rest. reading (passed (judge n) (next n)) rest)
+by_number short judge next = refl
+by_number (refused why) judge next = refl
+by_number (taken n rest) judge next = by_judge (judge n) n rest next
+
+-- a token is read as its number, and what is due behind it
+token_is : {A : Type 0} (f : Format A) (letters bytes : List ℕ) → due_of f ≡ Some (Token letters) → reading f bytes ≡ (number_at letters bytes >>= λ n rest. reading (behind_token f n) rest)
+token_is (gives a) letters bytes h = absurd (cc)
+token_is (refuses n) letters bytes h = absurd (cc)
+token_is {A} (due_token due judge next) letters bytes h =
+    let same : due ≡ letters = cc in
+    by_number (number_at due bytes) judge next ∙ ap (λ (l : List ℕ). number_at l bytes >>= λ n rest. reading (passed (judge n) (next n)) rest) same
+token_is (due_body n next) letters bytes h = absurd (cc)
+token_is (due_letter next) letters bytes h = absurd (cc)
+
+pub token_fails : {A : Type 0} (f : Format A) (letters p more : List ℕ) (why : ℕ) → due_of f ≡ Some (Token letters) → number_at letters p ≡ refused why → reading f (p ++ more) ≡ refused why
+token_fails {A} f letters p more why due e = token_is f letters (p ++ more) due ∙ ap (λ (s : Step ℕ). s >>= λ n rest. reading (behind_token f n) rest) (number_refused letters p more why e)
+
+pub token_passes : {A : Type 0} (f : Format A) (letters p more : List ℕ) (n : ℕ) → due_of f ≡ Some (Token letters) → number_at letters p ≡ taken n [] → reading f (p ++ more) ≡ reading (behind_token f n) more
+token_passes {A} f letters p more n due e = token_is f letters (p ++ more) due ∙ ap (λ (s : Step ℕ). s >>= λ m rest. reading (behind_token f m) rest) (number_onward letters p [] more n e)
+
+body_is : {A : Type 0} (f : Format A) (n : ℕ) (bytes : List ℕ) → due_of f ≡ Some (Body n) → reading f bytes ≡ (body_at n bytes >>= λ b rest. reading (behind_body f b) rest)
+body_is (gives a) n bytes h = absurd (cc)
+body_is (refuses m) n bytes h = absurd (cc)
+body_is (due_token due judge next) n bytes h = absurd (cc)
+body_is {A} (due_body m next) n bytes h =
+    let same : m ≡ n = cc in
+    ap (λ (k : ℕ). body_at k bytes >>= λ b rest. reading (next b) rest) same
+body_is (due_letter next) n bytes h = absurd (cc)
+
+pub body_waits : {A : Type 0} (f : Format A) (n : ℕ) (p : List ℕ) → due_of f ≡ Some (Body n) → length p < n → reading f (p ++ []) ≡ short
+body_waits {A} f n p due h = body_is f n (p ++ []) due ∙ ap (λ (s : Step (List ℕ)). s >>= λ b rest. reading (behind_body f b) rest) (body_short n p h)
+
+pub body_passes : {A : Type 0} (f : Format A) (n : ℕ) (p more : List ℕ) → due_of f ≡ Some (Body n) → length p ≡ n → reading f (p ++ more) ≡ reading (behind_body f p) more
+body_passes {A} f n p more due h = body_is f n (p ++ more) due ∙ ap (λ (s : Step (List ℕ)). s >>= λ b rest. reading (behind_body f b) rest) (body_there n p more h)
+
+pub whole_is : {A : Type 0} (f : Format A) → due_of f ≡ Some Whole → (a : A) × (f ≡ gives a)
+whole_is (gives a) h = (a, refl)
+whole_is (refuses m) h = absurd (cc)
+whole_is (due_token due judge next) h = absurd (cc)
+whole_is (due_body m next) h = absurd (cc)
+whole_is (due_letter next) h = absurd (cc)

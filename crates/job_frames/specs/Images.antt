@@ -5,12 +5,13 @@ use Rattle.tree_model.specs.Entries.{Entries}
 use Rattle.job_frames.specs.declared.FrameError.{FrameError}
 use Rattle.job_frames.specs.declared.FrameError.TheVariants.{Memory}
 use Rattle.job_frames.specs.Fields.{Step}
+use Rattle.job_frames.specs.Formats.{reading}
 use Rattle.job_frames.specs.Outcomes.{Verdict, reason, ended, nothing_follows, number_of, value_of}
 use Rattle.job_frames.specs.Request.{Got, most, image_bytes, image_from, MayFollow}
 
 -- an image at the front of a text
 abbrev pub image_at : List ℕ → Step Got
-image_at bytes = image_from None most bytes
+image_at bytes = reading (image_from None most) bytes
 
 -- what an image may be: entries that may stand one behind another, and a spelling within the room
 pub record IsImage (es : Entries) : Type 0 where

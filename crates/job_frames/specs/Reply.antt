@@ -1,8 +1,9 @@
--- Replies: their one spelling, and the reading, from its last field to its first.
-use Rattle.std.specs.Prelude.{ℕ, ◌≤◌, ◌&&◌, ◌||◌, List, [], ◌∷◌, ◌++◌, length, if◌then◌else◌, nat_lt, nat_le, ◌==◌, Option, Some, None, codes}
+-- Replies: their one spelling, and their format, from its last field to its first.
+use Rattle.std.specs.Prelude.{ℕ, ◌≤◌, ◌&&◌, ◌||◌, List, ◌++◌, length, if◌then◌else◌, nat_lt, nat_le, ◌==◌, Option, Some, None, codes}
 use Rattle.job_frames.specs.declared.answer.Answer.{Answer}
 use Rattle.job_frames.specs.declared.answer.Answer.TheVariants.{Text, Diag, Refused}
-use Rattle.job_frames.specs.Fields.{Step, short, taken, ◌>>=◌, version_reason, limit_reason, order_reason, token_at, body_at, token, field, within, only}
+use Rattle.job_frames.specs.Fields.{Step, version_reason, limit_reason, order_reason, token, field, within, only}
+use Rattle.job_frames.specs.Formats.{Format, gives, due_token, due_body, due_letter, reading}
 
 -- the one spelling of an answer
 unfoldable pub reply_bytes : Answer → List ℕ
@@ -29,34 +30,38 @@ allowed limit low high n =
 abbrev pub status_judge : ℕ → Option ℕ
 status_judge n = if (n == 0) || (n == 0x100) then None else Some limit_reason
 
-unfoldable pub text_body_from : ℕ → List ℕ → Step Answer
-text_body_from n bytes = body_at n bytes >>= λ text rest. taken (Text text) rest
+unfoldable pub text_body_from : ℕ → Format Answer
+text_body_from n = due_body n (λ text. gives (Text text))
 
-unfoldable pub text_from : List ℕ → Step Answer
-text_from bytes = token_at (codes "DOTI") (allowed 67108864 0 67108864) bytes >>= text_body_from
+unfoldable pub text_from : Format Answer
+text_from = due_token (codes "DOTI") (allowed 67108864 0 67108864) text_body_from
 
-unfoldable pub no_diagnostic_from : List ℕ → Step Answer
-no_diagnostic_from bytes = token_at (codes "SERR") (allowed 65536 0 0) bytes >>= λ n rest. text_from rest
+unfoldable pub no_diagnostic_from : Format Answer
+no_diagnostic_from = due_token (codes "SERR") (allowed 65536 0 0) (λ n. text_from)
 
-unfoldable pub no_text_from : List ℕ → List ℕ → Step Answer
-no_text_from words bytes = token_at (codes "DOTI") (allowed 67108864 0 0) bytes >>= λ n rest. taken (Diag words) rest
+unfoldable pub no_text_from : List ℕ → Format Answer
+no_text_from words = due_token (codes "DOTI") (allowed 67108864 0 0) (λ n. gives (Diag words))
 
-unfoldable pub diagnostic_body_from : ℕ → List ℕ → Step Answer
-diagnostic_body_from n bytes = body_at n bytes >>= no_text_from
+unfoldable pub diagnostic_body_from : ℕ → Format Answer
+diagnostic_body_from n = due_body n no_text_from
 
-unfoldable pub diagnostic_from : List ℕ → Step Answer
-diagnostic_from bytes = token_at (codes "SERR") (allowed 65536 1 65536) bytes >>= diagnostic_body_from
+unfoldable pub diagnostic_from : Format Answer
+diagnostic_from = due_token (codes "SERR") (allowed 65536 1 65536) diagnostic_body_from
 
-unfoldable pub status_from : List ℕ → Step Answer
-status_from bytes = token_at (codes "STAT") status_judge bytes >>= λ n rest. if n == 0 then no_diagnostic_from rest else diagnostic_from rest
+unfoldable pub status_from : Format Answer
+status_from = due_token (codes "STAT") status_judge (λ n. if n == 0 then no_diagnostic_from else diagnostic_from)
 
-unfoldable pub done_from : List ℕ → Step Answer
-done_from bytes = token_at (codes "DONE") (only 0x103 version_reason) bytes >>= λ n rest. status_from rest
+unfoldable pub done_from : ℕ → Format Answer
+done_from version = due_token (codes "DONE") (only version version_reason) (λ n. status_from)
 
-unfoldable pub refusal_from : List ℕ → Step Answer
-refusal_from bytes = token_at (codes "RFSE") (within 1 9) bytes >>= λ n rest. taken (Refused n) rest
+-- a refusal by a reason up to the greatest one
+unfoldable pub refusal_from : ℕ → Format Answer
+refusal_from greatest = due_token (codes "RFSE") (within 1 greatest) (λ n. gives (Refused n))
 
--- a reply at the front of a text; its first letter tells which token is due
-unfoldable pub reply_at : List ℕ → Step Answer
-reply_at [] = short
-reply_at (b ∷ bytes) = if b == 82 then refusal_from (b ∷ bytes) else done_from (b ∷ bytes)
+-- a reply of this version; its first letter tells which token is due
+unfoldable pub reply_from : ℕ → ℕ → Format Answer
+reply_from version greatest = due_letter (λ c. if c == 82 then refusal_from greatest else done_from version)
+
+-- a reply at the front of a text
+abbrev pub reply_at : List ℕ → Step Answer
+reply_at bytes = reading (reply_from 0x103 9) bytes

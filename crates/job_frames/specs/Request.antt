@@ -1,4 +1,4 @@
--- Requests: their one spelling, and the reading, from its last field to its first.
+-- Requests: their one spelling, and their format, from its last field to its first.
 use Rattle.std.specs.Prelude.{◌≡◌, ℕ, zero, suc, ◌≤◌, false, List, [], ◌∷◌, ◌++◌, length, if◌then◌else◌, ◌==◌, Option, Some, None, codes, Result, Ok, Err, IsTrue}
 use Rattle.std.specs.List.{list_any, flat_map, AllByRecursion}
 use Rattle.tree_model.specs.Paths.{Text, Path, spelled}
@@ -9,7 +9,8 @@ use Rattle.tree_model.specs.declared.mem_tree.MirrorError.{MirrorError}
 use Rattle.tree_model.specs.declared.mem_tree.MirrorError.TheVariants as mirror
 use Rattle.job_words.specs.declared.job.Job.{Job}
 use Rattle.job_words.specs.Words.{job_of, IsWord}
-use Rattle.job_frames.specs.Fields.{Step, short, refused, taken, ◌>>=◌, version_reason, limit_reason, order_reason, parent_reason, words_reason, token_at, body_at, token, field, within, only, fits, bare, room_behind}
+use Rattle.job_frames.specs.Fields.{Step, version_reason, limit_reason, order_reason, parent_reason, words_reason, token, field, within, only, fits, bare, room_behind}
+use Rattle.job_frames.specs.Formats.{Format, gives, refuses, due_token, due_body, due_letter, reading}
 
 -- the spelling of a node, of an entry, and of all entries
 abbrev pub node_bytes : Entry → Text
@@ -38,101 +39,91 @@ pub record Got : Type 0 where
   pub job : Option Job
   pub entries : Entries
 
--- what is read behind an entry, in the room left, with the entries so far
+-- what is due behind an entry, in the room left, with the entries so far
 abbrev pub Onward : Type 0
-Onward = ℕ → Entries → Text → Step Got
+Onward = ℕ → Entries → Format Got
 
--- behind a path, where there is one
-abbrev pub at_path : Option Path → (Path → Step Got) → Step Got
-at_path None next = refused parent_reason
-at_path (Some path) next = next path
-
-unfoldable pub made_then : Onward → ℕ → Entries → Path → Text → Step Got
-made_then next room es path bytes = next room (es ++ (path, Dir) ∷ []) bytes
-
-unfoldable pub dir_then : Onward → ℕ → Entries → Path → Text → Step Got
-dir_then next room es path bytes = token_at (codes "MDIR") (λ n. bare room (only 0 limit_reason n)) bytes >>= λ n rest. made_then next (room_behind room 0) es path rest
+unfoldable pub dir_then : Onward → ℕ → Entries → Path → Format Got
+dir_then next room es path = due_token (codes "MDIR") (λ n. bare room (only 0 limit_reason n)) (λ n. next (room_behind room 0) (es ++ (path, Dir) ∷ []))
 
 -- a link's text has no byte 0
-unfoldable pub target_then : Onward → ℕ → Entries → Path → ℕ → Text → Step Got
-target_then next room es path n bytes =
-    body_at n bytes >>= λ text rest. if list_any (λ c. c == 0) text then refused limit_reason else next room (es ++ (path, Link text) ∷ []) rest
+unfoldable pub target_then : Onward → ℕ → Entries → Path → ℕ → Format Got
+target_then next room es path n = due_body n (λ text. if list_any (λ c. c == 0) text then refuses limit_reason else next room (es ++ (path, Link text) ∷ []))
 
-unfoldable pub link_then : Onward → ℕ → Entries → Path → Text → Step Got
-link_then next room es path bytes = token_at (codes "LINK") (fits room 1 4095) bytes >>= λ n rest. target_then next (room_behind room n) es path n rest
+unfoldable pub link_then : Onward → ℕ → Entries → Path → Format Got
+link_then next room es path = due_token (codes "LINK") (fits room 1 4095) (λ n. target_then next (room_behind room n) es path n)
 
-unfoldable pub file_body_then : Onward → ℕ → Entries → Path → ℕ → Text → Step Got
-file_body_then next room es path n bytes = body_at n bytes >>= λ body rest. next room (es ++ (path, File body) ∷ []) rest
+unfoldable pub file_body_then : Onward → ℕ → Entries → Path → ℕ → Format Got
+file_body_then next room es path n = due_body n (λ body. next room (es ++ (path, File body) ∷ []))
 
-unfoldable pub file_then : Onward → ℕ → Entries → Path → Text → Step Got
-file_then next room es path bytes = token_at (codes "FILE") (fits room 0 16777216) bytes >>= λ n rest. file_body_then next (room_behind room n) es path n rest
+unfoldable pub file_then : Onward → ℕ → Entries → Path → Format Got
+file_then next room es path = due_token (codes "FILE") (fits room 0 16777216) (λ n. file_body_then next (room_behind room n) es path n)
 
 -- the first letter of a node's token tells which one is due
-unfoldable pub node_then : Onward → ℕ → Entries → Path → Text → Step Got
-node_then next room es path [] = short
-node_then next room es path (b ∷ bytes) =
-    if b == 77 then dir_then next room es path (b ∷ bytes)
-    else (if b == 76 then link_then next room es path (b ∷ bytes) else file_then next room es path (b ∷ bytes))
+unfoldable pub node_then : Onward → ℕ → Entries → Path → Format Got
+node_then next room es path =
+    due_letter (λ c. if c == 77 then dir_then next room es path else (if c == 76 then link_then next room es path else file_then next room es path))
 
 -- the reason of a path that may not stand where it stands
 abbrev pub path_reason : MirrorError → ℕ
 path_reason mirror.Order = order_reason
 path_reason mirror.Parent = parent_reason
 
-abbrev pub judged_then : Onward → ℕ → Entries → Result Path MirrorError → Text → Step Got
-judged_then next room es (Err why) bytes = refused (path_reason why)
-judged_then next room es (Ok path) bytes = node_then next room es path bytes
+abbrev pub judged_then : Onward → ℕ → Entries → Result Path MirrorError → Format Got
+judged_then next room es (Err why) = refuses (path_reason why)
+judged_then next room es (Ok path) = node_then next room es path
 
-unfoldable pub path_then : Onward → ℕ → Entries → ℕ → Text → Step Got
-path_then next room es n bytes = body_at n bytes >>= λ text rest. judged_then next room es (judged_path es text) rest
+unfoldable pub path_then : Onward → ℕ → Entries → ℕ → Format Got
+path_then next room es n = due_body n (λ text. judged_then next room es (judged_path es text))
 
-unfoldable pub name_then : Onward → ℕ → Entries → Text → Step Got
-name_then next room es bytes = token_at (codes "NAME") (fits room 2 4096) bytes >>= λ n rest. path_then next (room_behind room n) es n rest
+unfoldable pub name_then : Onward → ℕ → Entries → Format Got
+name_then next room es = due_token (codes "NAME") (fits room 2 4096) (λ n. path_then next (room_behind room n) es n)
 
 -- this many entries, behind those so far
 unfoldable pub entries_from : Option Job → ℕ → Onward
-entries_from job zero room es bytes = taken (record { job = job; entries = es }) bytes
-entries_from job (suc k) room es bytes = name_then (entries_from job k) room es bytes
+entries_from job zero room es = gives (record { job = job; entries = es })
+entries_from job (suc k) room es = name_then (entries_from job k) room es
 
 -- the entries behind a job
-unfoldable pub image_from : Option Job → ℕ → Text → Step Got
-image_from job room bytes = token_at (codes "NFIL") (λ n. bare room (within 0 100000 n)) bytes >>= λ n rest. entries_from job n (room_behind room 0) [] rest
+unfoldable pub image_from : Option Job → ℕ → Format Got
+image_from job room = due_token (codes "NFIL") (λ n. bare room (within 0 100000 n)) (λ n. entries_from job n (room_behind room 0) [])
 
 -- the words are judged behind the last of them
-abbrev pub with_job : Option Job → ℕ → Text → Step Got
-with_job None room bytes = refused words_reason
-with_job (Some job) room bytes = image_from (Some job) room bytes
+abbrev pub with_job : Option Job → ℕ → Format Got
+with_job None room = refuses words_reason
+with_job (Some job) room = image_from (Some job) room
 
--- what is read behind a word, in the room left, with the words so far
+-- what is due behind a word, in the room left, with the words so far
 abbrev pub WordsOnward : Type 0
-WordsOnward = ℕ → Text → List Text → Text → Step Got
+WordsOnward = ℕ → Text → List Text → Format Got
 
-unfoldable pub word_body_then : WordsOnward → ℕ → Text → List Text → ℕ → Text → Step Got
-word_body_then next room cwd words n bytes = body_at n bytes >>= λ word rest. next room cwd (words ++ word ∷ []) rest
+unfoldable pub word_body_then : WordsOnward → ℕ → Text → List Text → ℕ → Format Got
+word_body_then next room cwd words n = due_body n (λ word. next room cwd (words ++ word ∷ []))
 
-unfoldable pub word_then : WordsOnward → ℕ → Text → List Text → Text → Step Got
-word_then next room cwd words bytes = token_at (codes "ARGV") (fits room 1 4096) bytes >>= λ n rest. word_body_then next (room_behind room n) cwd words n rest
+unfoldable pub word_then : WordsOnward → ℕ → Text → List Text → Format Got
+word_then next room cwd words = due_token (codes "ARGV") (fits room 1 4096) (λ n. word_body_then next (room_behind room n) cwd words n)
 
 -- this many words, behind those so far
 unfoldable pub words_from : ℕ → WordsOnward
-words_from zero room cwd words bytes = with_job (job_of cwd words) room bytes
-words_from (suc k) room cwd words bytes = word_then (words_from k) room cwd words bytes
+words_from zero room cwd words = with_job (job_of cwd words) room
+words_from (suc k) room cwd words = word_then (words_from k) room cwd words
 
-unfoldable pub count_from : ℕ → Text → Text → Step Got
-count_from room cwd bytes = token_at (codes "ARGC") (λ n. bare room (within 0 1000 n)) bytes >>= λ n rest. words_from n (room_behind room 0) cwd [] rest
+unfoldable pub count_from : ℕ → Text → Format Got
+count_from room cwd = due_token (codes "ARGC") (λ n. bare room (within 0 1000 n)) (λ n. words_from n (room_behind room 0) cwd [])
 
-unfoldable pub place_body_from : ℕ → ℕ → Text → Step Got
-place_body_from room n bytes = body_at n bytes >>= λ cwd rest. count_from room cwd rest
+unfoldable pub place_body_from : ℕ → ℕ → Format Got
+place_body_from room n = due_body n (λ cwd. count_from room cwd)
 
-unfoldable pub place_from : ℕ → Text → Step Got
-place_from room bytes = token_at (codes "CDIR") (fits room 1 4096) bytes >>= λ n rest. place_body_from (room_behind room n) n rest
+unfoldable pub place_from : ℕ → Format Got
+place_from room = due_token (codes "CDIR") (fits room 1 4096) (λ n. place_body_from (room_behind room n) n)
+
+-- a request of this version
+unfoldable pub request_from : ℕ → ℕ → Format Got
+request_from version room = due_token (codes "DIST") (λ n. bare room (only version version_reason n)) (λ n. place_from (room_behind room 0))
 
 -- a request at the front of a text
-unfoldable pub request_from : ℕ → Text → Step Got
-request_from room bytes = token_at (codes "DIST") (λ n. bare room (only 0x103 version_reason n)) bytes >>= λ n rest. place_from (room_behind room 0) rest
-
 abbrev pub request_at : Text → Step Got
-request_at bytes = request_from most bytes
+request_at bytes = reading (request_from 0x103 most) bytes
 
 -- WHAT HAS A SPELLING
 

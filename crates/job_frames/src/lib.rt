@@ -5,16 +5,18 @@
 #![tactic(auto)]
 
 mod answer;
+mod field;
 mod fields;
+mod frame_reader;
 mod image;
 mod judges;
 mod laws;
 mod machine;
-mod moves;
 mod reader;
-mod reply_judges;
-mod reply_machine;
+mod reply_frame;
 mod reply_reader;
+mod request_due;
+mod request_frame;
 mod writers;
 
 pub use answer::Answer;

@@ -5,9 +5,12 @@ ghost use Rattle.job_frames.specs.Request.{request_at};
 ghost use Rattle.job_frames.specs.Outcomes.{IsFed, IsEnded, number_of, reason, whatever_follows, value_of};
 ghost use Rattle.job_frames.specs.declared.Fed.TheVariants.{Refused};
 ghost use Rattle.job_frames.specs.parts.Readers.{request_of, left};
+ghost use Rattle.job_frames.specs.declared.FrameError.{FrameError};
 
-use crate::machine::{Due, Machine, begin, run};
-use crate::{Fed, FrameError};
+use crate::Fed;
+use crate::frame_reader::{FrameReader, begin, end, feed, is_whole};
+use crate::request_due::Token;
+use crate::request_frame::{RequestFrame, begin_frame};
 use base_types::List;
 use job_words::Job;
 use std::alloc::Global;
@@ -17,8 +20,7 @@ use tree_model::{CanonPath, Entry};
 /// Reads a request that comes in any pieces.
 #[derive(Drop)]
 pub struct RequestReader {
-    machine: Machine,
-    stopped: Option<FrameError>,
+    reader: FrameReader<RequestFrame>,
 }
 
 impl Model for RequestReader {
@@ -26,11 +28,11 @@ impl Model for RequestReader {
 
     ghost Value = { Standing };
 
-    ghost use Rattle.job_frames.specs.parts.Readers.{KeepsReader};
+    ghost use Rattle.job_frames.specs.parts.Readers.{KeepsRequest};
 
-    ghost view = { λ r. (r.stopped, r.machine.due, r.machine.pending.items, r.machine.read) };
+    ghost view = { λ r. (r.reader.stopped, r.reader.machine.frame.due, r.reader.machine.pending.items, r.reader.machine.frame.read) };
 
-    ghost invariant = { λ r. KeepsReader r.stopped r.machine };
+    ghost invariant = { λ r. KeepsRequest r.reader };
 }
 
 impl RequestReader {
@@ -39,8 +41,7 @@ impl RequestReader {
         ensures { (bytes : List ℕ) → left result bytes ≡ whatever_follows (request_at bytes) }
     {
         RequestReader {
-            machine: begin(alloc, Due::Version),
-            stopped: None,
+            reader: begin(alloc, begin_frame(alloc, Token::Version)),
         }
     }
 
@@ -49,55 +50,28 @@ impl RequestReader {
         ensures fed { IsFed (left self.old) piece.now (left self.new) result }
         ensures stays { (e : FrameError) → result ≡ Refused e → (more : List ℕ) → left self.new more ≡ reason (number_of e) }
     {
-        if let Some(e) = self.stopped {
-            return Fed::Refused(e);
-        }
-        let ran = run(&mut self.machine, piece);
-        if let Fed::Refused(e) = ran.fed {
-            self.stopped = Some(e);
-        }
-        ran.fed
+        feed(&mut self.reader, true, piece)
     }
 
     /// Tells that no byte follows: where nothing was wrong, but the request isn't whole, the verdict is `Cut`.
     pub fn end(&mut self) -> Fed
         ensures { IsEnded (left self.old) (left self.new) result }
     {
-        if let Some(why) = self.stopped {
-            return Fed::Refused(why);
-        }
-        match self.machine.due {
-            Due::Whole => Fed::Done,
-            _ => {
-                self.stopped = Some(FrameError::Cut);
-                Fed::Refused(FrameError::Cut)
-            }
-        }
-    }
-
-    // All has come, and nothing was wrong.
-    fn is_whole(&self) -> bool
-        ensures whole { result ≡ true → option_map (λ job. (job, self.now.3.entries)) self.now.3.job ≡ request_of (left self.now []) }
-        ensures other { result ≡ false → None ≡ request_of (left self.now []) }
-    {
-        if self.stopped.is_some() {
-            return false;
-        }
-        match self.machine.due {
-            Due::Whole => true,
-            _ => false,
-        }
+        end(&mut self.reader, true)
     }
 
     /// The job and the entries, exactly where the verdict was `Done`. Bytes behind the request don't matter.
     pub fn finish(self) -> Option<(Job, List<(CanonPath, Entry)>)>
         ensures { result ≡ request_of (left self []) }
     {
-        let is_whole = self.is_whole();
-        let (job, entries) = self.machine.into_parts();
+        let is_whole = is_whole(&self.reader);
+        let (job, entries) = self.reader.into_frame().into_parts();
+        if !is_whole {
+            return None;
+        }
         match job {
-            Some(job) if is_whole => Some((job, entries)),
-            _ => None,
+            Some(job) => Some((job, entries)),
+            None => None,
         }
     }
 }

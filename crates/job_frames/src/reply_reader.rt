@@ -4,8 +4,9 @@ ghost use Rattle.job_frames.specs.Reply.{reply_at};
 ghost use Rattle.job_frames.specs.Outcomes.{IsFed, IsEnded, nothing_follows, value_of};
 ghost use Rattle.job_frames.specs.parts.ReplyReaders.{reply_left};
 
-use crate::reply_machine::{ReplyDue, ReplyMachine, begin, run};
-use crate::{Answer, Fed, FrameError};
+use crate::frame_reader::{FrameReader, begin, end, feed, is_whole};
+use crate::reply_frame::{ReplyFrame, begin_reply};
+use crate::{Answer, Fed};
 use std::alloc::Global;
 use std::marker::Model;
 
@@ -14,8 +15,7 @@ use std::marker::Model;
 /// bytes come.
 #[derive(Drop)]
 pub struct ReplyReader {
-    machine: ReplyMachine,
-    stopped: Option<FrameError>,
+    reader: FrameReader<ReplyFrame>,
 }
 
 impl Model for ReplyReader {
@@ -23,11 +23,11 @@ impl Model for ReplyReader {
 
     ghost Value = { ReplyStanding };
 
-    ghost use Rattle.job_frames.specs.parts.ReplyReaders.{KeepsReply};
+    ghost use Rattle.job_frames.specs.parts.ReplyReaders.{KeepsReply, reply_stands};
 
-    ghost view = { λ r. (r.stopped, r.machine.due, r.machine.pending.items, r.machine.answer) };
+    ghost view = { λ r. reply_stands r.reader };
 
-    ghost invariant = { λ r. KeepsReply r.stopped r.machine };
+    ghost invariant = { λ r. KeepsReply r.reader };
 }
 
 impl ReplyReader {
@@ -36,8 +36,7 @@ impl ReplyReader {
         ensures { (bytes : List ℕ) → reply_left result bytes ≡ nothing_follows (reply_at bytes) }
     {
         ReplyReader {
-            machine: begin(alloc),
-            stopped: None,
+            reader: begin(alloc, begin_reply()),
         }
     }
 
@@ -47,49 +46,22 @@ impl ReplyReader {
     pub fn feed(&mut self, piece: &[u8]) -> Fed
         ensures { IsFed (reply_left self.old) piece.now (reply_left self.new) result }
     {
-        if let Some(e) = self.stopped {
-            return Fed::Refused(e);
-        }
-        let fed = run(&mut self.machine, piece);
-        if let Fed::Refused(e) = fed {
-            self.stopped = Some(e);
-        }
-        fed
+        feed(&mut self.reader, false, piece)
     }
 
     /// Tells that no byte follows: where nothing was wrong, but the reply isn't whole, the verdict is `Cut`.
     pub fn end(&mut self) -> Fed
         ensures { IsEnded (reply_left self.old) (reply_left self.new) result }
     {
-        if let Some(why) = self.stopped {
-            return Fed::Refused(why);
-        }
-        match self.machine.due {
-            ReplyDue::Whole => Fed::Done,
-            _ => {
-                self.stopped = Some(FrameError::Cut);
-                Fed::Refused(FrameError::Cut)
-            }
-        }
+        end(&mut self.reader, false)
     }
 
     /// The answer, exactly where the verdict was `Done`. It takes no memory.
     pub fn finish(self) -> Option<Answer>
         ensures { result ≡ value_of (reply_left self []) }
     {
-        let ReplyReader { machine, stopped } = self;
-        let ReplyMachine {
-            alloc: _,
-            pending: _pending,
-            due,
-            answer,
-        } = machine;
-        if stopped.is_some() {
-            return None;
-        }
-        match due {
-            ReplyDue::Whole => answer,
-            _ => None,
-        }
+        let is_whole = is_whole(&self.reader);
+        let answer = self.reader.into_frame().into_answer();
+        if is_whole { answer } else { None }
     }
 }

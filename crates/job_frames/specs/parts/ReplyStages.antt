@@ -1,111 +1,112 @@
--- Where a reader of replies stands: which field is due, and what is read from there on.
-use Rattle.std.specs.Prelude.{◌≡◌, ◌⊎◌, ℕ, ◌≤◌, ◌<◌, List, [], ◌++◌, length, drop, Option, Some, None, codes, Bool, true, false, ◌==◌, Result, Ok, Err}
-use Rattle.std.specs.declared.alloc.AllocError.{AllocError}
+-- Where a reader of replies stands: which field is due, and the format from there on.
+use Rattle.std.specs.Prelude.{◌≤◌, ℕ, List, Option, Some, None, codes, ◌==◌, if◌then◌else◌, Result}
+use Rattle.job_frames.specs.declared.FrameError.{FrameError}
 use Rattle.job_frames.specs.declared.answer.Answer.{Answer}
+use Rattle.job_frames.specs.declared.field.Field.{Field}
+use Rattle.job_frames.specs.declared.field.Field.TheVariants as field
+use Rattle.job_frames.specs.declared.reply_frame.ReplyToken.{ReplyToken}
+use Rattle.job_frames.specs.declared.reply_frame.ReplyToken.TheVariants.{Refusal, Version, Status, NoWords, Words, NoText, Text}
+use Rattle.job_frames.specs.declared.reply_frame.ReplyBody.{ReplyBody}
+use Rattle.job_frames.specs.declared.reply_frame.ReplyBody.TheVariants as body
+use Rattle.job_frames.specs.declared.reply_frame.ReplyDue.{ReplyDue}
+use Rattle.job_frames.specs.declared.reply_frame.ReplyDue.TheVariants as due
+use Rattle.job_frames.specs.declared.reply_frame.ReplyFrame.{ReplyFrame}
 use Rattle.job_frames.specs.declared.answer.Answer.TheVariants as said
-use Rattle.job_frames.specs.declared.reply_machine.ReplyDue.{ReplyDue}
-use Rattle.job_frames.specs.declared.reply_machine.ReplyDue.TheVariants.{Start, Refusal, Reason, Version, Status, NoWords, Words, WordsBody, NoText, TextToken, TextBody, Whole}
-use Rattle.job_frames.specs.declared.reply_machine.ReplyMachine.{ReplyMachine}
-use Rattle.job_frames.specs.declared.moves.Move.{Move}
-use Rattle.job_frames.specs.declared.moves.Move.TheVariants.{Rest, Go}
-use Rattle.job_frames.specs.declared.Fed.{Fed}
-use Rattle.job_frames.specs.declared.Fed.TheVariants as fed
-use Rattle.job_frames.specs.declared.FrameError.TheVariants as why
-use Rattle.job_frames.specs.Fields.{Step, short, refused, taken, ◌>>=◌, token_at, order_reason, version_reason, within, only}
-use Rattle.job_frames.specs.Outcomes.{reason, nothing_follows, number_of}
-use Rattle.job_frames.specs.parts.Filling.{Topped}
-use Rattle.job_frames.specs.Reply.{allowed, status_judge, text_body_from, text_from, no_diagnostic_from, diagnostic_body_from, diagnostic_from, status_from, done_from, refusal_from, reply_at}
+use Rattle.job_frames.specs.Fields.{order_reason, version_reason, within, only}
+use Rattle.job_frames.specs.Formats.{Format, gives, refuses, due_token}
+use Rattle.job_frames.specs.Reply.{allowed, status_judge, text_body_from, text_from, no_diagnostic_from, diagnostic_body_from, diagnostic_from, status_from, done_from, refusal_from, reply_from}
+use Rattle.job_frames.specs.parts.Dues.{Went}
 
 -- the answer that was read, where there is one
-abbrev pub given : Option Answer → List ℕ → Step Answer
-given None bytes = refused order_reason
-given (Some a) bytes = taken a bytes
+abbrev pub given : Option Answer → Format Answer
+given None = refuses order_reason
+given (Some a) = gives a
 
--- what is read where this field is due
-unfoldable pub reading : ReplyDue → Option Answer → List ℕ → Step Answer
-reading Start o bytes = reply_at bytes
-reading Refusal o bytes = refusal_from bytes
-reading (Reason n) o bytes = taken (said.Refused n) bytes
-reading Version o bytes = done_from bytes
-reading Status o bytes = status_from bytes
-reading NoWords o bytes = no_diagnostic_from bytes
-reading Words o bytes = diagnostic_from bytes
-reading (WordsBody n) o bytes = diagnostic_body_from n bytes
-reading NoText o bytes = token_at (codes "DOTI") (allowed 67108864 0 0) bytes >>= λ n rest. given o rest
-reading TextToken o bytes = text_from bytes
-reading (TextBody n) o bytes = text_body_from n bytes
-reading Whole o bytes = given o bytes
+-- the format where a token is due, by the version and the greatest reason, with the answer so far
+unfoldable pub token_format : ReplyToken → ℕ → ℕ → Option Answer → Format Answer
+token_format Refusal v g o = refusal_from g
+token_format Version v g o = done_from v
+token_format Status v g o = status_from
+token_format NoWords v g o = no_diagnostic_from
+token_format Words v g o = diagnostic_from
+token_format NoText v g o = due_token (codes "DOTI") (allowed 67108864 0 0) (λ n. given o)
+token_format Text v g o = text_from
 
--- the fields that are tokens
-abbrev pub is_token : ReplyDue → Bool
-is_token Refusal = true
-is_token Version = true
-is_token Status = true
-is_token NoWords = true
-is_token Words = true
-is_token NoText = true
-is_token TextToken = true
-is_token _ = false
+unfoldable pub body_format : ReplyBody → ℕ → Format Answer
+body_format body.Words n = diagnostic_body_from n
+body_format body.Text n = text_body_from n
 
--- the letters that are due, what the number may be, and which field is due behind it
-unfoldable pub letters_of : ReplyDue → List ℕ
+abbrev pub format_of : ReplyDue → ℕ → ℕ → Option Answer → Format Answer
+format_of due.Start v g o = reply_from v g
+format_of (due.Token t) v g o = token_format t v g o
+format_of (due.Body b n) v g o = body_format b n
+format_of due.Whole v g o = given o
+
+-- the letters of a token, and what its number may be
+unfoldable pub letters_of : ReplyToken → List ℕ
 letters_of Refusal = codes "RFSE"
 letters_of Version = codes "DONE"
 letters_of Status = codes "STAT"
 letters_of NoWords = codes "SERR"
 letters_of Words = codes "SERR"
 letters_of NoText = codes "DOTI"
-letters_of TextToken = codes "DOTI"
-letters_of _ = []
+letters_of Text = codes "DOTI"
 
-unfoldable pub judge_of : ReplyDue → ℕ → Option ℕ
-judge_of Refusal n = within 1 9 n
-judge_of Version n = only 0x103 version_reason n
-judge_of Status n = status_judge n
-judge_of NoWords n = allowed 65536 0 0 n
-judge_of Words n = allowed 65536 1 65536 n
-judge_of NoText n = allowed 67108864 0 0 n
-judge_of TextToken n = allowed 67108864 0 67108864 n
-judge_of _ n = Some 6
+unfoldable pub judge_of : ReplyToken → ℕ → ℕ → ℕ → Option ℕ
+judge_of Refusal v g n = within 1 g n
+judge_of Version v g n = only v version_reason n
+judge_of Status v g n = status_judge n
+judge_of NoWords v g n = allowed 65536 0 0 n
+judge_of Words v g n = allowed 65536 1 65536 n
+judge_of NoText v g n = allowed 67108864 0 0 n
+judge_of Text v g n = allowed 67108864 0 67108864 n
 
--- the field behind a status
-abbrev pub status_due : Bool → ReplyDue
-status_due true = NoWords
-status_due false = Words
+-- the token of a reply, by its first letter
+abbrev pub first_of : ℕ → ReplyToken
+first_of c = if c == 82 then Refusal else Version
 
-unfoldable pub next_of : ReplyDue → ℕ → ReplyDue
-next_of Refusal n = Reason n
-next_of Version n = Status
-next_of Status n = status_due (n == 0)
-next_of NoWords n = TextToken
-next_of Words n = WordsBody n
-next_of NoText n = Whole
-next_of TextToken n = TextBody n
-next_of due n = due
+-- the field that is due
+abbrev pub field_of : ReplyDue → Field
+field_of due.Start = field.Letter
+field_of (due.Token t) = field.Token (letters_of t)
+field_of (due.Body b n) = field.Body n
+field_of due.Whole = field.Whole
 
--- how many bytes the field that is due has
-unfoldable pub wanted_of : ReplyDue → ℕ
-wanted_of Start = 1
-wanted_of (Reason n) = 0
-wanted_of (WordsBody n) = n
-wanted_of (TextBody n) = n
-wanted_of Whole = 0
-wanted_of _ = 12
+-- the field behind a token
+unfoldable pub next_of : ReplyToken → ℕ → ReplyDue
+next_of Refusal n = due.Whole
+next_of Version n = due.Token Status
+next_of Status n = due.Token (if n == 0 then NoWords else Words)
+next_of NoWords n = due.Token Text
+next_of Words n = due.Body body.Words n
+next_of NoText n = due.Whole
+next_of Text n = due.Body body.Text n
+
+-- the answer behind a token
+unfoldable pub answer_of : ReplyToken → ℕ → Option Answer → Option Answer
+answer_of Refusal n o = Some (said.Refused n)
+answer_of _ n o = o
+
+-- a reason is a byte
+abbrev pub answer_fits : ReplyToken → ℕ → Type 0
+answer_fits Refusal n = n ≤ 255
+answer_fits _ n = Unit {0}
 
 -- how many fields may be due yet
-unfoldable pub rank : ReplyDue → ℕ
-rank Start = 7
-rank Version = 6
-rank Status = 5
-rank NoWords = 4
-rank Words = 4
-rank (WordsBody n) = 3
-rank TextToken = 3
-rank NoText = 2
-rank (TextBody n) = 2
-rank Refusal = 2
-rank (Reason n) = 1
-rank Whole = 0
+unfoldable pub token_rank : ReplyToken → ℕ
+token_rank Refusal = 1
+token_rank Version = 6
+token_rank Status = 5
+token_rank NoWords = 4
+token_rank Words = 4
+token_rank NoText = 1
+token_rank Text = 3
+
+abbrev pub rank : ReplyDue → ℕ
+rank due.Start = 7
+rank (due.Token t) = token_rank t
+rank (due.Body b n) = 2
+rank due.Whole = 0
 
 -- an answer was read
 abbrev pub Present : Option Answer → Type 0
@@ -114,58 +115,14 @@ Present (Some a) = Unit {0}
 
 -- how the answer is where this field is due
 abbrev pub Ready : ReplyDue → Option Answer → Type 0
-Ready (Reason n) o = n ≤ 9
-Ready NoText o = Present o
-Ready Whole o = Present o
+Ready (due.Token NoText) o = Present o
+Ready due.Whole o = Present o
 Ready _ o = Unit {0}
 
--- what a machine reads behind all that came, and what it keeps
-abbrev pub left_to_read : ReplyMachine → List ℕ → Step Answer
-left_to_read m more = reading m.due m.answer (m.pending.items ++ more)
+pub record Keeps (f : ReplyFrame) : Type 0 where
+  pub small : f.greatest ≤ 255
+  pub ready : Ready f.due f.answer
 
-pub record Keeps (m : ReplyMachine) : Type 0 where
-  pub fits : length m.pending.items ≤ wanted_of m.due
-  pub ready : Ready m.due m.answer
-
--- one move: the verdict on what came, or the field that is due has come and the next is due
-abbrev pub Moves : ReplyMachine → ReplyMachine → Move → Type 0
-Moves old new (Rest fed.More) = (new ≡ old) × (length old.pending.items < wanted_of old.due) × (left_to_read old [] ≡ short)
-Moves old new (Rest fed.Done) = (new ≡ old) × (old.due ≡ Whole)
-Moves old new (Rest (fed.Refused e)) = (more : List ℕ) → left_to_read old more ≡ refused (number_of e)
-Moves old new Go = ((more : List ℕ) → left_to_read new more ≡ left_to_read old more) × (rank new.due < rank old.due) × Keeps new
-
--- bytes were moved to the field that is due
-pub record Filled (old : ReplyMachine) (rest : List ℕ) (new : ReplyMachine) (n : ℕ) : Type 0 where
-  pub topped : Topped old.pending.items (wanted_of old.due) rest new.pending.items n
-  pub due : new.due ≡ old.due
-  pub answer : new.answer ≡ old.answer
-
-abbrev pub IsFilled : ReplyMachine → List ℕ → ReplyMachine → Result ℕ AllocError → Type 0
-IsFilled old rest new (Ok n) = Filled old rest new n
-IsFilled old rest new (Err e) = Unit {0}
-
--- a machine stands behind a piece as far as this place: what it reads is what it read
-abbrev pub Passed : ReplyMachine → List ℕ → ℕ → ReplyMachine → Type 0
-Passed old piece at new = (at ≤ length piece) × ((more : List ℕ) → left_to_read new (drop at piece ++ more) ≡ left_to_read old (piece ++ more)) × Keeps new
-
--- the verdict where a machine came to rest with bytes left or not: a byte behind a whole reply is wrong
-abbrev pub rested : Bool → Fed → Fed
-rested true fed.Done = fed.Refused why.Order
-rested false fed.Done = fed.Done
-rested _ fed.More = fed.More
-rested _ (fed.Refused e) = fed.Refused e
-
--- a machine reads on behind a piece
-abbrev pub Onward : ReplyMachine → List ℕ → ReplyMachine → Type 0
-Onward old piece new = ((more : List ℕ) → left_to_read new more ≡ left_to_read old (piece ++ more)) × Keeps new
-
--- the verdict on a piece behind all that came
-abbrev pub HasRun : ReplyMachine → List ℕ → ReplyMachine → Fed → Type 0
-HasRun old piece new fed.More = Onward old piece new × (left_to_read new [] ≡ short)
-HasRun old piece new fed.Done = Onward old piece new × (new.due ≡ Whole)
-HasRun old piece new (fed.Refused e) = (e ≡ why.Memory) ⊎ ((more : List ℕ) → nothing_follows (left_to_read old (piece ++ more)) ≡ reason (number_of e))
-
--- a machine to which nothing has come
-pub record Begins (m : ReplyMachine) : Type 0 where
-  pub due_is : m.due ≡ Start
-  pub pending : m.pending.items ≡ []
+-- the frame went on to where this is due
+abbrev pub Goes : Format Answer → ℕ → ReplyFrame → Result (Unit {0}) FrameError → Type 0
+Goes next bound new result = Went (λ (f : ReplyFrame). format_of f.due f.version f.greatest f.answer) (λ (f : ReplyFrame). rank f.due) Keeps next bound new result

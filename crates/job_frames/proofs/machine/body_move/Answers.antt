@@ -1,15 +1,32 @@
-use Rattle.std.proofs.Common.{◌≡◌, ◌<◌, ℕ, List, ◌++◌, sym, ◌∙◌, ap, subst, Vec, Global}
-use Rattle.tree_model.specs.declared.entry.Entry.TheVariants as node
-use Rattle.job_frames.specs.declared.machine.Due.{Due}
-use Rattle.job_frames.specs.parts.Stages.{reading, rank, names_due, Ready, IsPushed}
-use Rattle.job_frames.proofs.StageLemmas.{pushed_moves, body_reads, node_falls}
+use Rattle.std.proofs.Common.{◌≡◌, ◌<◌, ℕ, List, [], length, refl, sym, ◌∙◌, ap, arith, Vec, Global}
+use Rattle.std.proofs.lemmas.Bool.{ltb-true, ltb-false}
+use Rattle.job_frames.specs.declared.field.Field.TheVariants.{Body}
+use Rattle.job_frames.specs.Formats.{reading}
+use Rattle.job_frames.specs.parts.Dues.{behind_body}
+use Rattle.job_frames.specs.parts.Machines.{left_to_read}
+use Rattle.job_frames.proofs.TokenLemmas.{body_waits, body_passes}
+use Rattle.job_frames.proofs.MachineLemmas.{lacks_some, refuses_all, goes}
 use Rattle.job_frames.proofs.machine.body_move.Goals as goal
 
-pub returns : goal.returns
-returns c =
+pub returns-then-lacks : goal.returns-then-lacks
+returns-then-lacks g c =
     let m = c.args.m.now in
-    let took : c.of.result ≡ m.pending.items = c.of.ensures ∙ ap (λ (v : Vec ℕ Global). v.items) c.replace-body.ensures.value in
-    pushed_moves m c.push_entry.new.m c.args.k (node.File m.pending.items) c.push_entry.result (subst (λ (b : List ℕ). IsPushed m.read (node.File b) c.args.k c.push_entry.new.m c.push_entry.result) took c.push_entry.ensures) c.requires.keeps
-    (subst (λ (d : Due). Ready d m.read) c.requires.due c.requires.keeps.ready)
-    (subst (λ (d : Due). rank (names_due c.args.k) < rank d) (sym c.requires.due) (node_falls c.args.k c.args.n).2)
-    (λ more. ap (λ (d : Due). reading d m.read (m.pending.items ++ more)) c.requires.due ∙ body_reads m.read c.args.k c.args.n m.pending.items more c.requires.whole)
+    let few : length m.pending.items < c.args.n = omega (arith, ltb-true _ _ (sym c.if-lacks.ensures), c.len.ensures) in
+    (refl, few, body_waits (g.F.Frame.format m.frame) c.args.n m.pending.items c.requires.due few)
+
+pub returns-in-Err : goal.returns-in-Err
+returns-in-Err g c =
+    let m = c.args.m.now in
+    let whole : length m.pending.items ≡ c.args.n = omega (arith, ltb-false _ _ (sym c.if-lacks.ensures), c.len.ensures, lacks_some g.F.Frame.format g.F.Frame.Keeps m (Body c.args.n) c.requires.due c.requires.stands) in
+    let took : c.replace-body.result.items ≡ m.pending.items = ap (λ (v : Vec ℕ Global). v.items) c.replace-body.ensures.value in
+    refuses_all c.in-Err.e (behind_body (g.F.Frame.format m.frame) c.replace-body.result.items) (left_to_read g.F.Frame.format m) c.in-Err.ensures
+    (λ more. body_passes (g.F.Frame.format m.frame) c.args.n m.pending.items more c.requires.due whole ∙ ap (λ (b : List ℕ). reading (behind_body (g.F.Frame.format m.frame) b) more) (sym took))
+
+pub returns-in-Ok : goal.returns-in-Ok
+returns-in-Ok g c =
+    let m = c.args.m.now in
+    let whole : length m.pending.items ≡ c.args.n = omega (arith, ltb-false _ _ (sym c.if-lacks.ensures), c.len.ensures, lacks_some g.F.Frame.format g.F.Frame.Keeps m (Body c.args.n) c.requires.due c.requires.stands) in
+    let took : c.replace-body.result.items ≡ m.pending.items = ap (λ (v : Vec ℕ Global). v.items) c.replace-body.ensures.value in
+    let gone : c.replace-body.new.dest.items ≡ [] = ap (λ (v : Vec ℕ Global). v.items) c.replace-body.ensures.after ∙ c.new.ensures.items in
+    goes g.F.Frame.format g.F.Frame.rank g.F.Frame.Keeps (Body c.args.n) m _ (behind_body (g.F.Frame.format m.frame) c.replace-body.result.items) gone c.in-Ok.ensures
+    (λ more. body_passes (g.F.Frame.format m.frame) c.args.n m.pending.items more c.requires.due whole ∙ ap (λ (b : List ℕ). reading (behind_body (g.F.Frame.format m.frame) b) more) (sym took))

@@ -1,62 +1,32 @@
-use Rattle.std.proofs.Common.{◌≡◌, ◌≤◌, ◌<◌, ◌+◌, ◌-◌, ℕ, List, [], ◌++◌, length, drop, sym, ◌∙◌, ap, subst, arith, refl, inr, true}
-use Rattle.job_frames.specs.declared.machine.Due.{Due}
+use Rattle.std.proofs.Common.{◌≡◌, ℕ, List, [], drop, refl, ◌∙◌, ap, inr}
 use Rattle.job_frames.specs.Fields.{number_at, taken}
-use Rattle.job_frames.specs.parts.Stages.{wanted_of, reading, letters_of, rank, is_token, Ready}
-use Rattle.job_frames.proofs.FieldLemmas.{past_end}
-use Rattle.job_frames.proofs.TokenLemmas.{same_number}
-use Rattle.job_frames.proofs.StageLemmas.{token_waits, token_fails, token_judged, token_passes, letters_length, token_wanted, ready_next, rank_falls, behind}
+use Rattle.job_frames.specs.declared.field.Field.TheVariants.{Token}
+use Rattle.job_frames.specs.parts.Dues.{behind_token}
+use Rattle.job_frames.specs.parts.Machines.{left_to_read}
+use Rattle.job_frames.proofs.TokenLemmas.{same_number, token_fails, token_passes}
+use Rattle.job_frames.proofs.MachineLemmas.{no_rest, refuses_all, goes}
 use Rattle.job_frames.proofs.machine.token_move.Goals as goal
 
--- the digits end the field
-no_rest : (due : Due) (p : List ℕ) → is_token due ≡ true → length p ≤ wanted_of due → drop 12 p ≡ []
-no_rest due p t h = past_end p 12 (subst (λ k. length p ≤ k) (token_wanted due t) h)
-
-pub token_number-requires : goal.token_number-requires
-token_number-requires c = ap length c.letters_due.ensures ∙ letters_length c.args.m.now.due c.requires.token
-
-pub returns-in-More : goal.returns-in-More
-returns-in-More c =
-    let m = c.args.m.now in (
-      refl,
-      subst (λ k. length m.pending.items < k) (sym (token_wanted m.due c.requires.token)) (subst (λ (b : List ℕ). length b < 12) c.as_slice.ensures.value (c.in-More.ensures.short tt)),
-      token_waits m.due m.read m.pending.items c.requires.token c.requires.keeps.ready
-          (same_number _ _ _ _ c.letters_due.ensures c.as_slice.ensures.value ∙ c.in-More.ensures.tells),
-    )
-
 pub returns-in-Refused : goal.returns-in-Refused
-returns-in-Refused c =
+returns-in-Refused g c =
     let m = c.args.m.now in
-    inr (token_fails m.due m.read m.pending.items _ c.requires.token c.requires.keeps.ready
-    (same_number _ _ _ _ c.letters_due.ensures c.as_slice.ensures.value ∙ c.in-Refused.ensures.tells))
+    inr (λ more. token_fails (g.F.Frame.format m.frame) c.args.letters m.pending.items more _ c.requires.due (same_number _ _ _ _ refl c.as_slice.ensures.value ∙ c.in-Refused.ensures.tells))
 
-pub returns-in-Some : goal.returns-in-Some
-returns-in-Some c =
-    let m = c.args.m.now in
-    inr (token_judged m.due m.read m.pending.items (drop 12 c.as_slice.result.now) c.in-Taken.n _ c.requires.token c.requires.keeps.ready
-    (same_number _ _ _ _ c.letters_due.ensures c.as_slice.ensures.value ∙ c.in-Taken.ensures.tells) (sym c.in-Some.ensures.answer))
-
-pub returns-in-None : goal.returns-in-None
-returns-in-None c =
+pub returns-in-Err : goal.returns-in-Err
+returns-in-Err g c =
     let m = c.args.m.now in
     let n = c.in-Taken.n in
-    let value = c.as_slice.ensures.value in
-    let read : number_at (letters_of m.due) m.pending.items ≡ taken n [] =
-    same_number _ _ _ _ c.letters_due.ensures value ∙ c.in-Taken.ensures.tells ∙ ap (λ (r : List ℕ). taken n (drop 12 r)) value
-    ∙ ap (taken n) (no_rest m.due m.pending.items c.requires.token c.requires.keeps.fits) in
-    let passes = sym c.in-None.ensures.answer in
-    let items : c.clear.new.self.items ≡ [] = c.clear.ensures.items in
-    let after = c.after_token-m.ensures in
-    let body = c.body_length.ensures in (
-      λ more.
-          ap (λ (p : List ℕ). reading c.after_token-m.result (record m.read { room = m.read.room - (12 + c.body_length.result) }) (p ++ more)) items
-          ∙ ap (λ (b : ℕ). reading c.after_token-m.result (record m.read { room = m.read.room - (12 + b) }) more) body
-          ∙ ap (λ (d : Due). reading d (behind m.due n m.read) more) after
-          ∙ token_passes m.due m.read m.pending.items n c.requires.token c.requires.keeps.ready read passes more,
-      subst (λ (d : Due). rank d < rank m.due) (sym after) (rank_falls m.due m.read.room n c.requires.token passes),
-      record {
-        fits = subst (λ (p : List ℕ). length p ≤ wanted_of c.after_token-m.result) (sym items) (omega arith);
-        ready = subst (λ (d : Due). Ready d (record m.read { room = m.read.room - (12 + c.body_length.result) })) (sym after)
-            (ready_next m.due m.read n (m.read.room - (12 + c.body_length.result)) c.requires.token c.requires.keeps.ready);
-        increasing = c.requires.keeps.increasing;
-      },
-    )
+    let read : number_at c.args.letters m.pending.items ≡ taken n [] =
+    same_number _ _ _ _ refl c.as_slice.ensures.value ∙ c.in-Taken.ensures.tells ∙ ap (λ (r : List ℕ). taken n (drop 12 r)) c.as_slice.ensures.value
+    ∙ ap (taken n) (no_rest c.args.letters m.pending.items _ c.requires.due c.requires.stands.fits) in
+    refuses_all c.in-Err.e (behind_token (g.F.Frame.format m.frame) n) (left_to_read g.F.Frame.format m) c.in-Err.ensures (λ more. token_passes (g.F.Frame.format m.frame) c.args.letters m.pending.items more n c.requires.due read)
+
+pub returns-in-Ok : goal.returns-in-Ok
+returns-in-Ok g c =
+    let m = c.args.m.now in
+    let n = c.in-Taken.n in
+    let read : number_at c.args.letters m.pending.items ≡ taken n [] =
+    same_number _ _ _ _ refl c.as_slice.ensures.value ∙ c.in-Taken.ensures.tells ∙ ap (λ (r : List ℕ). taken n (drop 12 r)) c.as_slice.ensures.value
+    ∙ ap (taken n) (no_rest c.args.letters m.pending.items _ c.requires.due c.requires.stands.fits) in
+    goes g.F.Frame.format g.F.Frame.rank g.F.Frame.Keeps (Token c.args.letters) m _ (behind_token (g.F.Frame.format m.frame) n) c.clear.ensures.items c.in-Ok.ensures
+    (λ more. token_passes (g.F.Frame.format m.frame) c.args.letters m.pending.items more n c.requires.due read)
