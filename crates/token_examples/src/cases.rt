@@ -3,7 +3,7 @@ use crate::results::{add_counts, add_header, add_nesting, add_pieces, add_tokens
 use crate::table::Table;
 use bstr::ByteVec;
 use command_line::BODY_LIMIT;
-use pp_tokens::{Lexed, is_plain, is_simple_name, lex, single_token};
+use pp_tokens::{Lexed, is_plain, is_simple_name, lex, lex_directives, single_token};
 use std::alloc::Global;
 use std::io::{self, ErrorKind};
 use std::str;
@@ -78,6 +78,7 @@ fn do_body(
         "plain" => table.add_result(is_plain(&body)),
         "simple" => table.add_result(is_simple_name(&body)),
         "single" => table.add_result(single_token(&body)),
+        "directives" => add_tokens(alloc, table, &lex_directives(alloc, &body, trigraphs)?)?,
         _ => add_lexed(alloc, table, word, lex(alloc, &body, trigraphs)?)?,
     }
     Ok(())
