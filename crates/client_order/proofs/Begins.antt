@@ -12,6 +12,7 @@ use Rattle.io_edges.specs.declared.wire.LinkState.{LinkState}
 use Rattle.io_edges.specs.declared.wire.LinkState.TheVariants.{Closed}
 use Rattle.io_edges.specs.Talk.{EachAnswered}
 use Rattle.std.specs.Option.{ForSome}
+use Rattle.base_types.specs.Limits.{job_limit}
 use Rattle.tree_model.specs.Trees.{FileTree, IsTree}
 use Rattle.host_slots.specs.Slots.{Leased, HasSlots}
 use Rattle.closure_memo.specs.declared.step.MemoCall.{MemoCall}
@@ -91,7 +92,7 @@ some-limit [] host slots lt = absurd (omega (arith, lt))
 some-limit (h ∷ hosts) zero slots lt = (All-head HasSlots h hosts slots).0
 some-limit (h ∷ hosts) (suc host) slots lt = some-limit hosts host (All-tail HasSlots h hosts slots) (omega (arith, lt))
 
-pub world-begins : (jobs budget : ℕ) (hosts : List Host) (s : Leased) (clients : List Client) → jobs ≤ 20000 → 1 ≤ length hosts → All HasSlots hosts
+pub world-begins : (jobs budget : ℕ) (hosts : List Host) (s : Leased) (clients : List Client) → jobs ≤ job_limit → 1 ≤ length hosts → All HasSlots hosts
     → s.limits ≡ map (λ (h : Host). h.limit) hosts → s.leased ≡ replicate (length hosts) 0 → AreNew 0 jobs budget clients → WorldHolds jobs (length hosts) 0 s clients
 world-begins jobs budget hosts s clients few some slots limits free are = record {
   few = few;

@@ -3,6 +3,7 @@ use Rattle.std.specs.Prelude.{◌≡◌, ◌⊎◌, ◌≤◌, ◌<◌, ℕ, ◌
 use Rattle.std.specs.List.{filter, flat_map, filter_map, sum_by, count_by, AllByRecursion}
 use Rattle.std.specs.Option.{ForSome}
 use Rattle.base_types.specs.Members.{EachOnce}
+use Rattle.base_types.specs.Limits.{memo_limit}
 use Rattle.tree_model.specs.Trees.{FileTree}
 use Rattle.tree_model.specs.Entries.{Entries}
 use Rattle.search_path.specs.declared.asking.Visit.{Visit}
@@ -75,7 +76,7 @@ counted memos = record {
 -- and together where several did.
 pub record Tallies (threads : Bool) (works : List Work) (totals : Totals) : Type 0 where
   pub memos : List MemoSeen
-  pub limits : map (λ (m : MemoSeen). m.limit) memos ≡ 4000000 ∷ []
+  pub limits : map (λ (m : MemoSeen). m.limit) memos ≡ memo_limit ∷ []
   pub legal : AllByRecursion IsLegalMemo memos
   pub totals_are : totals ≡ counted memos
   pub looks : count_works is_look works ≡ count_steps is_look memos

@@ -1,6 +1,7 @@
 // A run of clients on one thread.
 ghost use Rattle.std.specs.Prelude.{◌≡◌, ◌≤◌, ◌<◌, false, length, map, IfOk, OnErr};
 ghost use Rattle.std.specs.List.{All, AllByRecursion};
+ghost use Rattle.base_types.specs.Limits.{client_limit, job_limit, host_limit};
 ghost use Rattle.io_edges.specs.Talk.{EachAnswered};
 ghost use Rattle.job_words.specs.Words.{IsJob};
 ghost use Rattle.host_slots.specs.Slots.{HasSlots};
@@ -33,11 +34,11 @@ pub fn run_order<T: Tree, W: Wire, O: Outs>(
     budget: u32,
     order: &[u32],
 ) -> Result<(Vec<Done>, Totals), AllocError>
-    requires some { (1 ≤ length ends.old) × (length ends.old ≤ 64) }
+    requires some { (1 ≤ length ends.old) × (length ends.old ≤ client_limit) }
     requires fresh { AllByRecursion IsFresh (map (seen_end T.told T.Tree.faults T.reads W.talk W.state W.Wire.faults O.kept O.Outs.faults) ends.old) }
-    requires hosts { (1 ≤ length hosts.now) × (length hosts.now ≤ 64) }
+    requires hosts { (1 ≤ length hosts.now) × (length hosts.now ≤ host_limit) }
     requires slots { All HasSlots hosts.now }
-    requires jobs { length jobs.now ≤ 20000 }
+    requires jobs { length jobs.now ≤ job_limit }
     requires order { All (λ client. client < length ends.old) order.now }
     ensures ran { let seen = seen_end T.told T.Tree.faults T.reads W.talk W.state W.Wire.faults O.kept O.Outs.faults in
         IfOk result (λ r. ClientsRan (known T.Of.named budget) jobs.now hosts.now (length ends.old) false (map seen ends.old) (map seen ends.new) r.0.items r.1) }
@@ -58,11 +59,11 @@ pub fn run_order_watched<T: Tree, W: Wire, O: Outs, P: Progress>(
     order: &[u32],
     progress: &mut P,
 ) -> Result<(Vec<Done>, Totals), AllocError>
-    requires some { (1 ≤ length ends.old) × (length ends.old ≤ 64) }
+    requires some { (1 ≤ length ends.old) × (length ends.old ≤ client_limit) }
     requires fresh { AllByRecursion IsFresh (map (seen_end T.told T.Tree.faults T.reads W.talk W.state W.Wire.faults O.kept O.Outs.faults) ends.old) }
-    requires hosts { (1 ≤ length hosts.now) × (length hosts.now ≤ 64) }
+    requires hosts { (1 ≤ length hosts.now) × (length hosts.now ≤ host_limit) }
     requires slots { All HasSlots hosts.now }
-    requires jobs { length jobs.now ≤ 20000 }
+    requires jobs { length jobs.now ≤ job_limit }
     requires order { All (λ client. client < length ends.old) order.now }
     ensures ran { let seen = seen_end T.told T.Tree.faults T.reads W.talk W.state W.Wire.faults O.kept O.Outs.faults in
         IfOk result (λ r. ClientsRan (known T.Of.named budget) jobs.now hosts.now (length ends.old) false (map seen ends.old) (map seen ends.new) r.0.items r.1) }

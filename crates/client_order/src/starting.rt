@@ -2,6 +2,7 @@
 ghost use Rattle.std.specs.Prelude.{◌≡◌, ◌+◌, ◌<◌, ◌≤◌, [], None, length, map, replicate, IfOk};
 ghost use Rattle.std.specs.List.{All};
 ghost use Rattle.std.specs.Vec.{vec_capacity};
+ghost use Rattle.base_types.specs.Limits.{client_limit, job_limit, host_limit};
 ghost use Rattle.host_slots.specs.Slots.{HasSlots};
 ghost use Rattle.client_order.specs.parts.World.{AreNumberedFrom, WorldHolds};
 ghost use Rattle.client_order.specs.parts.Merged.{AreNew, AllRest, IsEmptyMemo};
@@ -32,9 +33,9 @@ pub fn begin_run<F: Frozen>(
     hosts: &[Host],
     budget: u32,
 ) -> Result<Begun<F>, AllocError>
-    requires clients { clients ≤ 64 }
-    requires jobs { jobs ≤ 20000 }
-    requires hosts { (1 ≤ length hosts.now) × (length hosts.now ≤ 64) }
+    requires clients { clients ≤ client_limit }
+    requires jobs { jobs ≤ job_limit }
+    requires hosts { (1 ≤ length hosts.now) × (length hosts.now ≤ host_limit) }
     requires slots { All HasSlots hosts.now }
     ensures clients { IfOk result (λ begun. AreNew 0 jobs budget begun.clients.items) }
     ensures each { IfOk result (λ begun. length begun.clients.items ≡ clients) }

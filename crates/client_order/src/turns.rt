@@ -1,6 +1,7 @@
 // Clients that take turns on one thread.
 ghost use Rattle.std.specs.Prelude.{◌≡◌, ◌≤◌, ◌<◌, ◌-◌, length, map, IsTrue, IsFalse};
 ghost use Rattle.std.specs.List.{All};
+ghost use Rattle.base_types.specs.Limits.{job_limit};
 ghost use Rattle.io_edges.specs.Talk.{EachAnswered};
 ghost use Rattle.job_ends.specs.Outside.{seen_end};
 ghost use Rattle.job_ends.specs.Record.{known};
@@ -44,7 +45,7 @@ pub fn turn<T: Tree, W: Wire, O: Outs, P: Progress>(
     requires drawn { shared.old.drawn ≤ length jobs.now }
     requires room { HasRoom client.old }
     requires all { HasAllDrawn (length jobs.now) shared.old.drawn client.old.phase }
-    requires few { length jobs.now ≤ 20000 }
+    requires few { length jobs.now ≤ job_limit }
     requires some { 1 ≤ length hosts.now }
     requires one_each { length shared.old.slots.limits ≡ length hosts.now }
     requires lease { LeaseIsIn client.old.phase shared.old.slots }
@@ -179,7 +180,7 @@ fn answer_give<F: Frozen>(shared: &mut Shared<F>, client: &mut Client, lease: Le
 
 // The next job number, where one is left.
 fn draw(drawn: &mut u32, jobs: usize) -> Option<u32>
-    requires few { jobs ≤ 20000 }
+    requires few { jobs ≤ job_limit }
     requires within { drawn.old ≤ jobs }
     ensures { IsDrawn drawn.old jobs result drawn.new }
 {

@@ -1,5 +1,6 @@
 -- What the answer to a need does to the client that waits for it, and to what clients share.
 use Rattle.std.specs.Prelude.{◌≡◌, ◌⊎◌, ℕ, ◌+◌, ◌-◌, ◌*◌, ◌<◌, ◌≤◌, List, length, Option, Some, slice_index}
+use Rattle.base_types.specs.Limits.{job_limit}
 use Rattle.tree_model.specs.Trees.{FileTree}
 use Rattle.job_words.specs.declared.job.Job.{Job}
 use Rattle.io_edges.specs.declared.wire.Host.{Host}
@@ -17,7 +18,7 @@ use Rattle.client_order.specs.parts.World.{ClientDid, HasAllDrawn, DrawsMore, on
 
 -- a client waits for the answer to its need: what clients share fits it, and a lease that it gives back is of a slot that is leased
 pub record CanAnswer (wanted : Need) (drawn : ℕ) (s : Leased) (c : Client) : Type 0 where
-  pub few : c.jobs ≤ 20000
+  pub few : c.jobs ≤ job_limit
   pub waits : NeedOf c.jobs (length s.limits) c.phase wanted
   pub least : c.least ≤ drawn
   pub drawn_few : drawn ≤ c.jobs

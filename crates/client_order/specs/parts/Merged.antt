@@ -2,6 +2,7 @@
 use Rattle.std.specs.Prelude.{◌≡◌, ℕ, zero, suc, ◌<◌, ◌≤◌, ◌==◌, List, [], ◌∷◌, ◌++◌, length, Option, Some, slice_set}
 use Rattle.std.specs.List.{All, filter, flat_map, count_by}
 use Rattle.std.specs.Option.{option_to_list}
+use Rattle.base_types.specs.Limits.{memo_limit}
 use Rattle.closure_memo.specs.declared.step.MemoCall.{MemoCall}
 use Rattle.closure_memo.specs.History.{is_look, is_hit, is_new, is_already, is_full}
 use Rattle.job_ends.specs.declared.record.Done.{Done}
@@ -61,7 +62,7 @@ AllRest clients = All (λ (c : Client). c.phase ≡ Rests) clients
 
 -- a memo in which nothing was looked for
 abbrev pub IsEmptyMemo : SheetsMemo → Type 0
-IsEmptyMemo memo = (memo.limit ≡ 4000000) × ((memo.keys ≡ []) × (memo.steps ≡ []))
+IsEmptyMemo memo = (memo.limit ≡ memo_limit) × ((memo.keys ≡ []) × (memo.steps ≡ []))
 
 -- ---- totals ----
 

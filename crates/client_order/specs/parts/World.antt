@@ -1,6 +1,7 @@
 -- Clients and what they share, between two turns: the next job number, the memo, and the slots. And how a turn moves them.
 use Rattle.std.specs.Prelude.{◌≡◌, ◌⊎◌, ℕ, suc, ◌+◌, ◌-◌, ◌*◌, ◌<◌, ◌≤◌, List, [], ◌∷◌, length, map, Option, None, Some, cond, nat_eq, nat_lt, slice_index, slice_get}
 use Rattle.std.specs.List.{sum_by, All}
+use Rattle.base_types.specs.Limits.{job_limit}
 use Rattle.job_words.specs.declared.job.Job.{Job}
 use Rattle.io_edges.specs.declared.wire.Host.{Host}
 use Rattle.job_ends.specs.Outside.{EndSeen}
@@ -98,7 +99,7 @@ EachDrawnOnce drawn clients = (n : ℕ) → sum_by (times_drawn n) clients ≡ c
 
 -- the world between two turns: each client fits, and the slots leased are those that the clients hold
 pub record WorldHolds (jobs hosts drawn : ℕ) (s : Leased) (clients : List Client) : Type 0 where
-  pub few : jobs ≤ 20000
+  pub few : jobs ≤ job_limit
   pub drawn_few : drawn ≤ jobs
   pub each : All (ClientFits jobs hosts drawn) clients
   pub once : EachDrawnOnce drawn clients
