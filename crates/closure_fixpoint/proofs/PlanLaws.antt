@@ -2,6 +2,7 @@
 use Rattle.std.proofs.Common.{◌≡◌, ◌≤◌, ℕ, ◌∷◌, [], List, length, Option, Some, None, Bool, true, false, inl, refl, sym, subst, ◌∙◌, Result, Ok, Err}
 use Rattle.std.proofs.lemmas.List.{take_all}
 use Rattle.base_types.specs.Members.{Member}
+use Rattle.base_types.specs.Limits.{visit_limit}
 use Rattle.directive_scan.specs.declared.HeaderName.{HeaderName}
 use Rattle.symbolic_expand.specs.Laws.{MoreKeepHeaders, MoreKeepLongRuns, MoreKeepPresumedRuns, MoreKeepManyRuns}
 use Rattle.search_path.specs.Asks.{source_ask}
@@ -71,7 +72,7 @@ pub wants_refused : (job : JobData) (budget : ℕ) (heard : Heard) (found : List
 wants_refused job budget heard found Done r refusal wants is = subst (λ (x : Result (Option Want) Refusal). WantsOr job budget heard found Done x) is wants
 
 -- nothing is left to ask, and no refusal is met
-pub all_done : (job : JobData) (budget : ℕ) (heard : Heard) (found : List Visit) (o : Option Want) → IsReady job heard found → heard.large ≡ None → length found ≤ 50000 → length found ≤ length heard.sheets
+pub all_done : (job : JobData) (budget : ℕ) (heard : Heard) (found : List Visit) (o : Option Want) → IsReady job heard found → heard.large ≡ None → length found ≤ visit_limit → length found ≤ length heard.sheets
     → WantsOfEach heard.searches found (first_asks job) o → o ≡ None → IsMissing heard.searches (source_ask job.source) false → DoneWithSheets job budget heard found heard.sheets
     → IsEnough job heard found × IsAccepted job budget heard found
 all_done job budget heard found o ready small few all wants none there done = (

@@ -2,6 +2,7 @@
 use Rattle.std.proofs.Common.{◌≡◌, ◌⊎◌, ◌≤◌, ◌<◌, ℕ, ◌∷◌, ◌++◌, [], List, length, Option, Some, None, Bool, true, false, inl, inr, refl, sym, ap, subst, ◌∙◌, map, cond, arith, not}
 use Rattle.std.specs.List.{list_any, flat_map, filter_map}
 use Rattle.base_types.specs.Members.{Member, Within, EachOnce}
+use Rattle.base_types.specs.Limits.{visit_limit}
 use Rattle.directive_scan.specs.declared.HeaderName.{HeaderName}
 use Rattle.directive_scan.specs.HeaderNames.{header_named}
 use Rattle.macro_defs.specs.MacroDefinition.{MacroDefinition}
@@ -233,7 +234,7 @@ module _ (keep : MoreKeepHeaders HeaderName) (long : MoreKeepLongRuns) (presumed
       accepted.told met.visit (answers.sheet met.visit) met.c told
       (presumed (sets answers job found) (sets_told job heard) (known_name (answers.sheet met.visit) met.visit) met.c.tokens (part_told answers is_large job heard true_of found enough.sheets) met.holds)
   not_met answers is_large true_of enough accepted Visits (some, once, within, more) =
-      let fits : length some ≤ length found = few some found once within in let limit : length found ≤ 50000 = accepted.few in absurd (omega (arith, fits, limit, more))
+      let fits : length some ≤ length found = few some found once within in let limit : length found ≤ visit_limit = accepted.few in absurd (omega (arith, fits, limit, more))
   not_met answers is_large true_of enough accepted Large met = met
   not_met answers is_large true_of enough accepted Request met = met
   not_met answers is_large true_of enough accepted NoSource met =
@@ -301,7 +302,7 @@ module _ (keep : MoreKeepHeaders HeaderName) (long : MoreKeepLongRuns) (presumed
         (told_part answers is_large job heard true_of other (told_within keeps answers is_large true_of other closed)) holds);
   }
 
-  pub visits_refused : FoundKeeps job heard found → 50000 < length found → RefusedMeans job budget heard Visits
+  pub visits_refused : FoundKeeps job heard found → visit_limit < length found → RefusedMeans job budget heard Visits
   visits_refused keeps more answers is_large true_of other closed = (found, keeps.once, keeps.sure answers is_large true_of other closed, more)
 
   pub source_refused : Member (source_ask job.source, None) heard.searches → RefusedMeans job budget heard NoSource

@@ -1,6 +1,7 @@
 -- What an analysis sends, and why it is refused.
 use Rattle.std.specs.Prelude.{◌≡◌, ◌⊎◌, ◌<◌, ℕ, List, [], length, None, Some}
 use Rattle.base_types.specs.Members.{Member}
+use Rattle.base_types.specs.Limits.{entry_limit}
 use Rattle.tree_model.specs.Paths.{Path, IsAtOrAbove}
 use Rattle.tree_model.specs.Entries.{Entries, Increasing}
 use Rattle.tree_model.specs.Trees.{FileTree, entry_at, IsTooLarge}
@@ -52,7 +53,7 @@ Holds refusal.Presumed tree job budget = IsMetAtClosure refusal.Presumed tree jo
 Holds refusal.Visits tree job budget = IsMetAtClosure refusal.Visits tree job budget
 Holds refusal.Large tree job budget = (path : Path) × IsNodeOf tree job path × IsTooLarge tree path
 Holds refusal.Request tree job budget =
-    (entries : Entries) × AreEntriesOf tree job entries × ((100000 < length entries) ⊎ (most < length (request_bytes job entries)))
+    (entries : Entries) × AreEntriesOf tree job entries × ((entry_limit < length entries) ⊎ (most < length (request_bytes job entries)))
 Holds refusal.NoSource tree job budget = search tree job.setup (source_ask job.source) ≡ None
 
 abbrev pub NothingHolds : FileTree → Job → ℕ → Type 0

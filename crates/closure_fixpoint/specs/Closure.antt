@@ -2,6 +2,7 @@
 use Rattle.std.specs.Prelude.{◌≡◌, ◌<◌, ℕ, Bool, true, false, List, [], ◌∷◌, ◌++◌, length, map, Option, Some, None, cond, if◌then◌else◌, bytes_eq}
 use Rattle.std.specs.List.{list_any, flat_map, filter_map}
 use Rattle.base_types.specs.Members.{Member, Within, EachOnce}
+use Rattle.base_types.specs.Limits.{visit_limit}
 use Rattle.directive_scan.specs.declared.HeaderName.{HeaderName}
 use Rattle.directive_scan.specs.HeaderNames.{header_named}
 use Rattle.macro_defs.specs.MacroDefinition.{MacroDefinition}
@@ -182,7 +183,7 @@ abbrev pub IsMet : Refusal → AnalysisAnswers → JobData → ℕ → List Visi
 IsMet Budget answers job budget visits = HasMany answers job budget visits
 IsMet Long answers job budget visits = HasLong answers job visits
 IsMet Presumed answers job budget visits = HasPresumed answers job visits
-IsMet Visits answers job budget visits = HasMoreThan 50000 visits
+IsMet Visits answers job budget visits = HasMoreThan visit_limit visits
 IsMet Large answers job budget visits = ⊥
 IsMet Request answers job budget visits = ⊥
 IsMet NoSource answers job budget visits = answers.find (source_ask job.source) ≡ None

@@ -2,6 +2,7 @@
 use Rattle.std.specs.Prelude.{◌≡◌, ◌⊎◌, ◌<◌, ℕ, ◌+◌, All, IsTrue, Bool, true, false, not, ◌&&◌, ◌||◌, ◌≤◌, List, [], ◌∷◌, ◌++◌, length, cond, nat_lt, Option, None, Some}
 use Rattle.std.specs.List.{list_all, flat_map}
 use Rattle.base_types.specs.Members.{Member}
+use Rattle.base_types.specs.Limits.{entry_limit}
 use Rattle.tree_model.specs.Paths.{Text, Path, spelled}
 use Rattle.tree_model.specs.Entries.{Entries, Increasing, IsLinkText, below, has_parent, makes_tree}
 use Rattle.tree_model.specs.Trees.{FileTree, entry_at, body_limit}
@@ -86,7 +87,7 @@ HasLarge entries = (path : Path) × (body : Text) × Member (path, File body) en
 
 -- entries are too many, or their request has too many bytes
 abbrev pub is_over : JobData → Entries → Bool
-is_over job entries = nat_lt 100000 (length entries) || nat_lt most (length (request_bytes job entries))
+is_over job entries = nat_lt entry_limit (length entries) || nat_lt most (length (request_bytes job entries))
 
 -- what is gathered of nodes: their entries, or `Large` where a file among these is too large, else `Request` where they are
 -- over the limits

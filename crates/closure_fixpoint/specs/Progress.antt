@@ -2,6 +2,7 @@
 use Rattle.std.specs.Prelude.{◌≡◌, ◌↔◌, ◌≤◌, ℕ, Bool, true, false, List, [], ◌∷◌, ◌++◌, length, map, Option, Some, None, not}
 use Rattle.std.specs.List.{flat_map}
 use Rattle.base_types.specs.Members.{Member, Within, EachOnce}
+use Rattle.base_types.specs.Limits.{visit_limit}
 use Rattle.directive_scan.specs.declared.HeaderName.{HeaderName}
 use Rattle.directive_scan.specs.HeaderNames.{header_named}
 use Rattle.macro_defs.specs.Defining.{Named}
@@ -104,7 +105,7 @@ pub record IsEnough (job : JobData) (heard : Heard) (found : List Visit) : Type 
 
 -- no refusal is met under what was told
 pub record IsAccepted (job : JobData) (budget : ℕ) (heard : Heard) (found : List Visit) : Type 0 where
-  pub few : length found ≤ 50000
+  pub few : length found ≤ visit_limit
   pub small : heard.large ≡ None
   pub source : (hit : Hit) × WasFound heard (source_ask job.source) hit
   pub within_budget : (visit : Visit) (sheet : SheetData) (c : ComputedAsk) → IsTold heard visit sheet c → HasManyRuns budget (sets_told job heard) (known_name sheet visit) c.tokens → ⊥

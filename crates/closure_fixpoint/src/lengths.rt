@@ -1,17 +1,13 @@
 // How many bytes a request has.
 ghost use Rattle.std.specs.Prelude.{◌≡◌, ◌≤◌, length, All};
+ghost use Rattle.base_types.specs.Limits.{entry_limit, job_words_limit, word_limit};
 ghost use Rattle.job_frames.specs.Request.{entry_bytes, node_bytes, image_bytes, words_bytes, request_bytes, IsSpellable, HasSpelling};
 ghost use Rattle.closure_fixpoint.specs.Gathering.{is_over};
 
 use base_types::Bytes;
+use base_types::limits::{ENTRY_LIMIT, REQUEST_LIMIT};
 use job_words::{Job, jobs_are_short};
 use tree_model::{CanonPath, Entry};
-
-// The greatest number of entries of a request.
-const ENTRY_LIMIT: usize = 100_000;
-
-// The greatest length of a request.
-const REQUEST_LIMIT: usize = 268_435_456;
 
 // The length of a token. A body stands behind it.
 const TOKEN: usize = 12;
@@ -29,7 +25,7 @@ pub fn is_too_long(job: &Job, entries: &[(CanonPath, Entry)]) -> bool
 
 // The length of a request.
 fn request_length(job: &Job, entries: &[(CanonPath, Entry)]) -> usize
-    requires few { length entries.now ≤ 100000 }
+    requires few { length entries.now ≤ entry_limit }
     requires fit { All HasSpelling entries.now }
     ensures { result ≡ length (request_bytes job.now entries.now) }
 {
@@ -41,8 +37,8 @@ fn request_length(job: &Job, entries: &[(CanonPath, Entry)]) -> usize
 
 // The length of words.
 fn words_length(words: &[Bytes]) -> usize
-    requires few { length words.now ≤ 1000 }
-    requires fit { All (λ word. length word ≤ 4096) words.now }
+    requires few { length words.now ≤ job_words_limit }
+    requires fit { All (λ word. length word ≤ word_limit) words.now }
     ensures value { result ≡ length (words_bytes words.now) }
     ensures small { result ≤ 5000000 }
 {
@@ -55,7 +51,7 @@ fn words_length(words: &[Bytes]) -> usize
 
 // The length of entries.
 fn entries_length(entries: &[(CanonPath, Entry)]) -> usize
-    requires few { length entries.now ≤ 100000 }
+    requires few { length entries.now ≤ entry_limit }
     requires fit { All HasSpelling entries.now }
     ensures value { result ≡ length (image_bytes entries.now) }
     ensures small { result ≤ 2000000000000 }

@@ -1,5 +1,6 @@
 // What an analysis does next.
 ghost use Rattle.std.specs.Prelude.{◌<◌, ◌≤◌, [], length, IfOk, OnOk, IsTrue, IsFalse};
+ghost use Rattle.base_types.specs.Limits.{visit_limit};
 ghost use Rattle.search_path.specs.Asks.{source_ask};
 ghost use Rattle.closure_fixpoint.specs.Naming.{Follows};
 ghost use Rattle.closure_fixpoint.specs.Progress.{WasSearched};
@@ -13,6 +14,7 @@ use crate::targets::{of_rest, of_sheets};
 use crate::visits::Visits;
 use crate::wanting::{Want, of_first};
 use base_types::Bytes;
+use base_types::limits::VISIT_LIMIT;
 use directive_scan::HeaderName;
 use job_words::Job;
 use search_path::{Ask, Form, Visit};
@@ -48,10 +50,10 @@ fn source_is_missing(alloc: Global, job: &Job, searches: &Searches) -> Result<bo
 
 // Whether there are too many visits.
 fn has_too_many(found: &Visits) -> bool
-    ensures many { IsTrue result → 50000 < length found.now }
-    ensures few { IsFalse result → length found.now ≤ 50000 }
+    ensures many { IsTrue result → visit_limit < length found.now }
+    ensures few { IsFalse result → length found.now ≤ visit_limit }
 {
-    found.len() > 50_000
+    found.len() > VISIT_LIMIT
 }
 
 // What is next. Too many visits are looked at first, so that the sheets of those beyond aren't asked for.

@@ -2,6 +2,7 @@ use Rattle.std.proofs.Common.{◌<◌, ◌≤◌, ◌+◌, List, ℕ, length, re
 use Rattle.std.specs.Prelude.{codes}
 use Rattle.std.specs.List.{flat_map}
 use Rattle.std.proofs.lemmas.List.{take_all}
+use Rattle.base_types.specs.Limits.{word_limit}
 use Rattle.job_frames.specs.Fields.{field}
 use Rattle.closure_fixpoint.proofs.LengthLaws.{flat-next, field-length, words-length}
 use Rattle.closure_fixpoint.proofs.lengths.words_length.Goals as goal
@@ -11,7 +12,7 @@ loop-word-preserved c =
     let below : c.loop-word.word-index < length c.args.words.now = omega arith in
     let more = flat-next (field (codes "ARGV")) c.args.words.now c.loop-word.word-index c.word-item.result below c.word-item.is in
     let one = field-length (codes "ARGV") c.word-item.result refl in
-    let short : length c.word-item.result ≤ 4096 = subst (λ (w : List ℕ). length w ≤ 4096) (sym c.word-item.is) (c.requires.fit c.loop-word.word-index c.word-item.result below) in
+    let short : length c.word-item.result ≤ word_limit = subst (λ (w : List ℕ). length w ≤ word_limit) (sym c.word-item.is) (c.requires.fit c.loop-word.word-index c.word-item.result below) in
     record {
       sum = omega (arith, more, one, c.loop-word.invariant.sum, c.len.ensures);
       small = omega (arith, short, c.loop-word.invariant.small, c.len.ensures);
