@@ -2,6 +2,7 @@
 use Rattle.std.proofs.Common.{◌≡◌, ℕ, ◌+◌, ◌<◌, List, [], ◌∷◌, ◌++◌, length, Bool, true, false, if◌then◌else◌, Result, Ok, Err, refl, ap, arith, length-append}
 use Rattle.std.specs.Prelude.{nat_le}
 use Rattle.std.proofs.lemmas.Bool.{leb-true}
+use Rattle.base_types.specs.Limits.{list_limit}
 use Rattle.tree_model.specs.Paths.{Text}
 use Rattle.job_words.specs.declared.job.Job.{Job}
 use Rattle.compile_list.specs.declared.refused.ListError.{ListError}
@@ -27,18 +28,18 @@ unfolding jobs_from
 lines-ended number jobs = refl
 
 -- a list within the limit
-pub within : (bytes : Text) → nat_le (length bytes) 16777216 ≡ true → jobs_of bytes ≡ jobs_from 1 [] (list_lines bytes)
+pub within : (bytes : Text) → nat_le (length bytes) list_limit ≡ true → jobs_of bytes ≡ jobs_from 1 [] (list_lines bytes)
 unfolding jobs_of
 within bytes short = ap (λ b. if b then jobs_from 1 [] (list_lines bytes) else Err too_long) short
 
 -- a list of more bytes than are read
-pub long-lists : (bytes more : Text) → 16777216 < length bytes → jobs_of (bytes ++ more) ≡ Err too_long
+pub long-lists : (bytes more : Text) → list_limit < length bytes → jobs_of (bytes ++ more) ≡ Err too_long
 unfolding jobs_of
-long-lists bytes more long = by_test (nat_le (length (bytes ++ more)) 16777216) refl
+long-lists bytes more long = by_test (nat_le (length (bytes ++ more)) list_limit) refl
   where
-    by_test : (b : Bool) → nat_le (length (bytes ++ more)) 16777216 ≡ b → (if b then jobs_from 1 [] (list_lines (bytes ++ more)) else Err too_long) ≡ Err too_long
+    by_test : (b : Bool) → nat_le (length (bytes ++ more)) list_limit ≡ b → (if b then jobs_from 1 [] (list_lines (bytes ++ more)) else Err too_long) ≡ Err too_long
     by_test true e =
-        let within = leb-true (length (bytes ++ more)) 16777216 e in
+        let within = leb-true (length (bytes ++ more)) list_limit e in
         let all = length-append bytes more in
         absurd (omega (arith, within, all, long))
     by_test false e = refl

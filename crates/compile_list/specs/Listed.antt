@@ -2,6 +2,8 @@
 use Rattle.std.specs.Prelude.{ℕ, List, [], ◌∷◌, ◌++◌, length, map, Bool, true, false, ◌||◌, ◌+◌, ◌==◌, if◌then◌else◌, nat_le, nat_lt, bytes_eq, Option, None, Some, Result, Ok, Err}
 use Rattle.std.specs.List.{list_any, filter, filter_map, slice_split}
 use Rattle.std.specs.Option.{option_map, is_none}
+use Rattle.base_types.specs.Ascii as ascii
+use Rattle.base_types.specs.Limits.{job_limit, list_limit}
 use Rattle.bstr.specs.Text.{lines_of, without_terminator}
 use Rattle.tree_model.specs.Paths.{Text}
 use Rattle.job_words.specs.declared.job.Job.{Job}
@@ -19,7 +21,7 @@ list_lines bytes = map without_terminator (lines_of bytes)
 
 -- a space or a tab
 abbrev pub is_blank : ℕ → Bool
-is_blank b = (b == 32) || (b == 9)
+is_blank b = (b == ascii.space) || (b == ascii.tab)
 
 -- a byte of a word, or None for a blank, which stands between words
 abbrev pub unit_of : ℕ → Option ℕ
@@ -32,8 +34,8 @@ with_unit unit behind = option_map (λ units. unit ∷ units) behind
 -- the units of a line: a `\` and the byte behind it are that byte as a byte of a word; none where a `\` ends the line
 unfoldable pub units : Text → Option (List (Option ℕ))
 units [] = Some []
-units (b ∷ []) = if b == 92 then None else Some (unit_of b ∷ [])
-units (b ∷ c ∷ line) = elim (b == 92) [ true ↦ with_unit (Some c) (units line) | false ↦ with_unit (unit_of b) (units (c ∷ line)) ]
+units (b ∷ []) = if b == ascii.backslash then None else Some (unit_of b ∷ [])
+units (b ∷ c ∷ line) = elim (b == ascii.backslash) [ true ↦ with_unit (Some c) (units line) | false ↦ with_unit (unit_of b) (units (c ∷ line)) ]
 
 -- the bytes of a part between blanks
 abbrev pub part_bytes : List (Option ℕ) → Text
@@ -51,7 +53,7 @@ line_words line = option_map unit_words (units line)
 
 abbrev pub is_comment_line : Text → Bool
 is_comment_line [] = false
-is_comment_line (b ∷ line) = b == 35
+is_comment_line (b ∷ line) = b == ascii.hash
 
 -- an earlier job has the output's name
 abbrev pub is_taken : Text → List Job → Bool
@@ -66,7 +68,7 @@ with_read jobs (Ok job) = if is_taken job.output jobs then Err Output else Ok (j
 abbrev pub with_line_job : List Job → Option (List Text) → Result (List Job) ListWhy
 with_line_job jobs None = Err Escape
 with_line_job jobs (Some []) = Ok jobs
-with_line_job jobs (Some (cwd ∷ words)) = if nat_le 20000 (length jobs) then Err Limit else with_read jobs (job_reading cwd words)
+with_line_job jobs (Some (cwd ∷ words)) = if nat_le job_limit (length jobs) then Err Limit else with_read jobs (job_reading cwd words)
 
 -- the jobs of the lines in front of a line, and its own, if it gives one; or why it is refused
 abbrev pub with_line : List Job → Text → Result (List Job) ListWhy
@@ -90,4 +92,4 @@ too_long = record { line = 0; why = Limit }
 
 -- The jobs of a list, whose lines are counted from 1; or the first line that is refused, and why.
 unfoldable pub jobs_of : Text → Result (List Job) ListError
-jobs_of bytes = if nat_le (length bytes) 16777216 then jobs_from 1 [] (list_lines bytes) else Err too_long
+jobs_of bytes = if nat_le (length bytes) list_limit then jobs_from 1 [] (list_lines bytes) else Err too_long

@@ -2,9 +2,10 @@
 ghost use Rattle.std.specs.Prelude.{◌≡◌, ◌<◌, length, IfOk, true, false};
 ghost use Rattle.std.specs.Io.KnownBytes.{Consumes, IsAtEnd};
 ghost use Rattle.base_types.specs.Causes.{HasCause};
+ghost use Rattle.base_types.specs.Limits.{list_limit};
 
-use crate::lists::LIST_LIMIT;
 use base_types::Bytes;
+use base_types::limits::LIST_LIMIT;
 use io_edges::{ReadFault, Source};
 use std::alloc::Global;
 
@@ -29,7 +30,7 @@ pub struct ListBytes {
 pub fn read_all<S: Source>(alloc: Global, source: &mut S) -> Result<ListBytes, ListStop>
     ensures taken { IfOk result (λ list. Consumes (S.left source.old) (S.left source.new) list.bytes) }
     ensures end { IfOk result (λ list. list.ended ≡ true → IsAtEnd (S.left source.new)) }
-    ensures long { IfOk result (λ list. list.ended ≡ false → 16777216 < length list.bytes) }
+    ensures long { IfOk result (λ list. list.ended ≡ false → list_limit < length list.bytes) }
     ensures cause { HasCause ListStop.Fault (S.faults source.old) (S.faults source.new) result }
 {
     let mut bytes = Bytes::new(alloc);

@@ -1,19 +1,18 @@
 // The jobs of the lines so far.
 ghost use Rattle.std.specs.Prelude.{◌≡◌, ◌<◌, ◌≤◌, ◌⊎◌, ℕ, [], length, IfOk, IfErr, OnOk, Ok, Err};
 ghost use Rattle.std.specs.List.{AllByRecursion};
+ghost use Rattle.base_types.specs.Limits.{job_limit};
 ghost use Rattle.job_words.specs.Words.{IsJob};
 ghost use Rattle.compile_list.specs.Listed.{is_comment_line, with_line, with_read};
 ghost use Rattle.compile_list.specs.parts.Steps.{HasOutputs};
 
 use crate::line::words_of_line;
 use crate::refused::ListWhy;
+use base_types::limits::JOB_LIMIT;
 use base_types::{Bytes, List};
 use job_words::{Job, WordError, first_words_decide, read_words};
 use std::alloc::Global;
 use std::collections::HashSet;
-
-// The greatest number of jobs.
-const JOB_LIMIT: usize = 20_000;
 
 // Jobs, and the names of their outputs.
 #[derive(Drop)]
@@ -37,11 +36,11 @@ impl ReadJobs {
     pub fn add_line(&mut self, alloc: Global, line: &[u8]) -> Result<(), ListWhy>
         requires outputs { HasOutputs self.old.outputs self.old.jobs }
         requires each { AllByRecursion IsJob self.old.jobs }
-        requires few { length self.old.jobs ≤ 20000 }
+        requires few { length self.old.jobs ≤ job_limit }
         ensures jobs { OnOk result (with_line self.old.jobs line.now ≡ Ok self.new.jobs) }
         ensures outputs { OnOk result (HasOutputs self.new.outputs self.new.jobs) }
         ensures each { OnOk result (AllByRecursion IsJob self.new.jobs) }
-        ensures few { OnOk result (length self.new.jobs ≤ 20000) }
+        ensures few { OnOk result (length self.new.jobs ≤ job_limit) }
         ensures why { IfErr result (λ why. (why ≡ ListWhy.Memory) ⊎ (with_line self.old.jobs line.now ≡ Err why)) }
     {
         if begins_comment(line) {
@@ -66,11 +65,11 @@ impl ReadJobs {
     fn add_job(&mut self, alloc: Global, job: Job) -> Result<(), ListWhy>
         requires outputs { HasOutputs self.old.outputs self.old.jobs }
         requires each { AllByRecursion IsJob self.old.jobs }
-        requires few { length self.old.jobs < 20000 }
+        requires few { length self.old.jobs < job_limit }
         ensures jobs { OnOk result (with_read self.old.jobs (Ok job) ≡ Ok self.new.jobs) }
         ensures outputs { OnOk result (HasOutputs self.new.outputs self.new.jobs) }
         ensures each { OnOk result (AllByRecursion IsJob self.new.jobs) }
-        ensures few { OnOk result (length self.new.jobs ≤ 20000) }
+        ensures few { OnOk result (length self.new.jobs ≤ job_limit) }
         ensures why { IfErr result (λ why. (why ≡ ListWhy.Memory) ⊎ (with_read self.old.jobs (Ok job) ≡ Err why)) }
     {
         job.is_reading();

@@ -5,11 +5,12 @@ ghost use Rattle.compile_list.specs.Listed.{is_blank, line_words, units, unit_of
 ghost use Rattle.compile_list.specs.parts.Steps.{kept, word_in};
 
 use crate::refused::ListWhy;
+use base_types::limits::JOB_WORDS_LIMIT;
 use base_types::{Bytes, List};
 use std::alloc::{AllocError, Global};
 
 // How many words of a line are kept: a working directory, and one compile word more than a job has.
-const KEPT: usize = 1_002;
+const KEPT: usize = JOB_WORDS_LIMIT + 2;
 
 // The words of a line that were read, and the bytes of the one that isn't ended.
 #[derive(Drop)]

@@ -2,9 +2,10 @@
 ghost use Rattle.compile_list.specs.parts.Steps.{ListGives};
 
 use crate::bytes::{ListStop, read_all};
-use crate::lists::{LIST_LIMIT, long_lists_are_refused, read_list};
+use crate::lists::{long_lists_are_refused, read_list};
 use crate::refused::{ListError, ListWhy};
 use base_types::List;
+use base_types::limits::LIST_LIMIT;
 use io_edges::Source;
 use job_words::Job;
 use std::alloc::Global;

@@ -4,6 +4,7 @@ use Rattle.std.specs.HashSet.{HashSet, contains_by}
 use Rattle.std.specs.List.{filter, AllByRecursion}
 use Rattle.std.specs.Option.{ForSome}
 use Rattle.base_types.specs.Causes.{Rose}
+use Rattle.base_types.specs.Limits.{job_limit}
 use Rattle.tree_model.specs.Paths.{Text}
 use Rattle.job_words.specs.declared.job.Job.{Job}
 use Rattle.job_words.specs.Words.{IsJob}
@@ -16,7 +17,7 @@ use Rattle.compile_list.specs.Listed.{jobs_of, is_taken, unit_words}
 -- the count of its faults rose, or there was no memory.
 abbrev pub ListGives : Option (List ℕ) → Option (List ℕ) → ℕ → ℕ → Result (List Job) NoJobs → Type 0
 ListGives before now from to (Ok jobs) =
-    AllByRecursion IsJob jobs × ((length jobs ≤ 20000) × (ForSome before (λ bytes. jobs_of bytes ≡ Ok jobs) × ForSome now (λ rest. rest ≡ [])))
+    AllByRecursion IsJob jobs × ((length jobs ≤ job_limit) × (ForSome before (λ bytes. jobs_of bytes ≡ Ok jobs) × ForSome now (λ rest. rest ≡ [])))
 ListGives before now from to (Err (no_jobs.Refused error)) = ForSome before (λ bytes. jobs_of bytes ≡ Err error)
 ListGives before now from to (Err no_jobs.Fault) = Rose from to
 ListGives before now from to (Err no_jobs.Memory) = Unit {0}

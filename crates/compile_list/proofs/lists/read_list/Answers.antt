@@ -1,5 +1,6 @@
 use Rattle.std.proofs.Common.{◌≡◌, ◌+◌, suc, length, inl, inr, sym, ap, ◌∙◌, arith}
 use Rattle.std.proofs.lemmas.Bool.{le-leb}
+use Rattle.base_types.specs.Limits.{list_limit}
 use Rattle.compile_list.specs.Listed.{jobs_from}
 use Rattle.compile_list.proofs.JobLines.{line-read, line-refused, lines-ended, within}
 use Rattle.compile_list.proofs.lists.read_list.Goals as goal
@@ -7,7 +8,7 @@ use Rattle.compile_list.proofs.lists.read_list.Goals as goal
 pub returns-in-Err-clause-why : goal.returns-in-Err-clause-why
 returns-in-Err-clause-why c = elim c.in-Err.ensures.why [
   | inl memory ↦ inl memory
-  | inr refused ↦ inr (within c.args.bytes.now (le-leb (length c.args.bytes.now) 16777216 c.if-bytes-gt-LIST_LIMIT.false)
+  | inr refused ↦ inr (within c.args.bytes.now (le-leb (length c.args.bytes.now) list_limit c.if-bytes-gt-LIST_LIMIT.false)
       ∙ (sym c.loop-line.invariant.whole
       ∙ (ap (jobs_from (c.loop-line.number + 1) c.loop-line.read.jobs) c.in-Some.ensures.steps
       ∙ line-refused (c.loop-line.number + 1) c.loop-line.read.jobs c.in-Some.line.now c.next.new.self c.in-Err.why refused)))
@@ -27,6 +28,6 @@ loop-line-preserved c =
 
 pub returns-clause-jobs : goal.returns-clause-jobs
 returns-clause-jobs c =
-    within c.args.bytes.now (le-leb (length c.args.bytes.now) 16777216 c.if-bytes-gt-LIST_LIMIT.false)
+    within c.args.bytes.now (le-leb (length c.args.bytes.now) list_limit c.if-bytes-gt-LIST_LIMIT.false)
     ∙ (sym c.loop-line.invariant.whole
     ∙ (ap (jobs_from (c.loop-line.number + 1) c.loop-line.read.jobs) c.in-None.ensures.steps.0 ∙ lines-ended (c.loop-line.number + 1) c.loop-line.read.jobs))
