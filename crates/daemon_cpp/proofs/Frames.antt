@@ -1,12 +1,13 @@
 -- What is left to read of the files around the one that is read, step by step.
 use Rattle.std.proofs.Common.{◌≡◌, ◌<◌, ◌≤◌, ◌+◌, ◌-◌, ℕ, zero, suc, List, [], ◌∷◌, ◌++◌, length, refl, sym, ◌∙◌, ap, arith}
+use Rattle.base_types.specs.Limits.{include_depth_limit}
 use Rattle.cpp_output.specs.Layout.{enter}
 use Rattle.tree_model.specs.Paths.{Text, Path}
 use Rattle.tree_model.specs.Shown.{presumed_name}
 use Rattle.search_path.specs.Search.{Hit}
 use Rattle.daemon_cpp.specs.declared.outcome.Outcome.TheVariants as outcome
 use Rattle.daemon_cpp.specs.Diagnostics.{Diagnostic, TooNested}
-use Rattle.daemon_cpp.specs.Prep.{World, State, PrepStep, Go, Stop as Stopped, and_then, complain, open_file, enter_file, back_in, depth_limit}
+use Rattle.daemon_cpp.specs.Prep.{World, State, PrepStep, Go, Stop as Stopped, and_then, complain, open_file, enter_file, back_in}
 use Rattle.daemon_cpp.specs.parts.Reading.{Frame, run_flat, reading, entering_at, frames_resumed}
 use Rattle.daemon_cpp.specs.parts.Showing.{StopsWith}
 use Rattle.daemon_cpp.specs.parts.Files.{After, told_of, ended_told, told_behind, run_rest}
@@ -60,13 +61,13 @@ behind-frame world behind frames frame step =
 pub enters : (world : World) (level at : ℕ) (hit : Hit) (state : State) → level < 200 → entering_at world level at hit state ≡ and_then (λ after. back_in state.here at after) (open_file world (entering_at world (suc level)) (enter (presumed_name hit.0.place) ∷ []) hit state)
 unfolding enter_file
 enters world level at hit state below =
-    let deeper : depth_limit - level ≡ suc (depth_limit - suc level) = omega arith in
+    let deeper : include_depth_limit - level ≡ suc (include_depth_limit - suc level) = omega arith in
     ap (λ (n : ℕ). enter_file world n at hit state) deeper
 
 pub too-nested : (world : World) (level at : ℕ) (hit : Hit) (state : State) → 200 ≤ level → entering_at world level at hit state ≡ complain at TooNested state
 unfolding enter_file
 too-nested world level at hit state past =
-    let none : depth_limit - level ≡ zero = omega arith in
+    let none : include_depth_limit - level ≡ zero = omega arith in
     ap (λ (n : ℕ). enter_file world n at hit state) none
 
 -- the end of a file that no other is around

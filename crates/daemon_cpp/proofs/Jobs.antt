@@ -2,6 +2,7 @@
 use Rattle.std.proofs.Common.{◌≡◌, ◌<◌, ◌≤◌, List, [], length, Option, None, Some, Result, Ok, Err, refl, sym, ◌∙◌, ap}
 use Rattle.std.specs.Prelude.{IfOk, IfSome}
 use Rattle.std.specs.Option.{ForSome}
+use Rattle.base_types.specs.Limits.{include_depth_limit}
 use Rattle.cpp_output.specs.Layout.{text_limit}
 use Rattle.cpp_output.specs.Laid.{begun}
 use Rattle.tree_model.specs.Paths.{Text, spelled}
@@ -16,13 +17,13 @@ use Rattle.job_words.specs.declared.MacroWord.{MacroWord}
 use Rattle.daemon_cpp.specs.declared.outcome.Outcome.TheVariants as outcome
 use Rattle.daemon_cpp.specs.declared.cpp.Reader.{Reader}
 use Rattle.daemon_cpp.specs.Diagnostics.{NoSource, TextLimit, diagnostic_text}
-use Rattle.daemon_cpp.specs.Prep.{World, PrepStep, world_of, and_then, first_state, run_forced, enter_file, depth_limit, open_source, run_job, prep, outcome_over}
+use Rattle.daemon_cpp.specs.Prep.{World, PrepStep, world_of, and_then, first_state, run_forced, enter_file, open_source, run_job, prep, outcome_over}
 use Rattle.daemon_cpp.specs.parts.Files.{IsShown, ComesTo, told_of, source_behind, source_told}
 use Rattle.daemon_cpp.proofs.Limits.{within, past}
 
 -- all files of a job, behind a step
 abbrev whole : World → List Text → Hit → PrepStep → PrepStep
-whole world names source step = and_then (λ state. open_source world source state) (and_then (λ state. run_forced world (enter_file world depth_limit) names state) step)
+whole world names source step = and_then (λ state. open_source world source state) (and_then (λ state. run_forced world (enter_file world include_depth_limit) names state) step)
 
 -- a source behind its first marker, and one whose first marker doesn't fit
 pub begins-told : (world : World) (macros : List MacroWord) (source : Hit) (names : List Text) (reader : Reader) → length (begun (presumed_name source.0.place)).text ≤ text_limit →

@@ -2,6 +2,7 @@
 use Rattle.std.proofs.Common.{Vec, Global, length-append, ◌≡◌, ◌<◌, ◌≤◌, ◌+◌, ℕ, suc, Bool, true, false, List, [], ◌∷◌, ◌++◌, length, map, get_or, drop, Option, None, Some, Result, Ok, Err, refl, sym, ◌∙◌, ap, subst, arith}
 use Rattle.std.proofs.lemmas.List.{drop_more, drop_all, length-drop, length-map, map-append}
 use Rattle.std.proofs.lemmas.List.Sums.{sum_by_push}
+use Rattle.base_types.specs.Limits.{include_depth_limit}
 use Rattle.directive_scan.specs.declared.Piece.{Piece}
 use Rattle.directive_scan.specs.Groups.{Role, role_of, single, opening}
 use Rattle.cpp_output.specs.Layout.{enter}
@@ -19,7 +20,7 @@ use Rattle.daemon_cpp.specs.declared.cpp.OpenFile.{OpenFile}
 use Rattle.daemon_cpp.specs.declared.cpp.Left.{Left}
 use Rattle.daemon_cpp.specs.declared.cpp.Reader.{Reader}
 use Rattle.daemon_cpp.specs.Diagnostics.{TooNested, diagnostic_text}
-use Rattle.daemon_cpp.specs.Prep.{World, Here, Entering, State, PrepStep, Go, Stop as Stopped, and_then, with_value, piece_step, piece_test, found_file, complain, open_file, enter_file, back_in, depth_limit, run_forced, open_source, here_at}
+use Rattle.daemon_cpp.specs.Prep.{World, Here, Entering, State, PrepStep, Go, Stop as Stopped, and_then, with_value, piece_step, piece_test, found_file, complain, open_file, enter_file, back_in, run_forced, open_source, here_at}
 use Rattle.daemon_cpp.specs.parts.Reading.{Frame, run_flat, staged, stage_of, reading, seeking, entering_at}
 use Rattle.daemon_cpp.specs.parts.Showing.{Shows, StopsWith, Refuses, Leads, Moves, Seeks, Includes, Opens}
 use Rattle.daemon_cpp.specs.parts.Files.{After, here_of, pieces_left, frame_of, frames_of, told_of, told_behind, run_rest, RestLeadsTo, StepsTo, EntersTo, ComesTo, opened_file, GoesInto, Brings, IsEnd, Turns, AllRead, work_ahead, source_behind, behind_piece, MoveLeadsTo, NamedTo, InsideTo}
@@ -306,23 +307,23 @@ named_step world name entering state = found_file world entering 0 false name st
 
 -- the files of a name and of the names behind it
 named-first : (world : World) (source : Hit) (name : Text) (names : List Text) (state : State) →
-    told_of (source_behind world source (name ∷ names) state) ≡ told_of (and_then (λ after. source_behind world source names after) (named_step world name (enter_file world depth_limit) state))
+    told_of (source_behind world source (name ∷ names) state) ≡ told_of (and_then (λ after. source_behind world source names after) (named_step world name (enter_file world include_depth_limit) state))
 unfolding run_forced
 named-first world source name names state =
-    ap told_of (then-then (λ after. run_forced world (enter_file world depth_limit) names after) (λ after. open_source world source after) (named_step world name (enter_file world depth_limit) state))
+    ap told_of (then-then (λ after. run_forced world (enter_file world include_depth_limit) names after) (λ after. open_source world source after) (named_step world name (enter_file world include_depth_limit) state))
 
 pub named-brings : (world : World) (source : Hit) (name : Text) (names : List Text) (reader : Reader) (new : Kept) (r : Result (Option Hit) Stop) → AllRead reader →
     Includes reader.kept new reader.source (here_of reader.file) 0 (λ entering state. named_step world name entering state) r →
     Brings (ComesTo (source_behind world source (name ∷ names)) reader) (record reader { kept = new }) (λ found whole. NamedTo world source names (record reader { kept = new }) found whole) r
 named-brings world source name names reader new (Ok None) read includes = λ whole comes.
-    let one = includes (enter_file world depth_limit) comes.state comes.shows in
+    let one = includes (enter_file world include_depth_limit) comes.state comes.shows in
     record {
       state = one.0;
       shows = one.1.1;
       same = sym (ap (λ (step : PrepStep). told_of (and_then (λ after. source_behind world source names after) step)) one.1.0) ∙ sym (named-first world source name names comes.state) ∙ comes.same;
     }
 named-brings world source name names reader new (Ok (Some hit)) read includes = λ whole comes.
-    let one = includes (enter_file world depth_limit) comes.state comes.shows in
+    let one = includes (enter_file world include_depth_limit) comes.state comes.shows in
     let behind : After = source_behind world source names in
     record {
       state = one.0;
@@ -341,8 +342,8 @@ named-brings world source name names reader new (Ok (Some hit)) read includes = 
     then-nothing world (Go state) = none-left world [] state
     then-nothing world (Stopped d state) = refl
 named-brings world source name names reader new (Err (stop.Ended words)) read includes = λ whole comes.
-    stopped-at-once words new.opened (and_then (λ after. source_behind world source names after) (named_step world name (enter_file world depth_limit) comes.state))
-    (stops-on (λ after. source_behind world source names after) words new.opened (named_step world name (enter_file world depth_limit) comes.state) (includes (enter_file world depth_limit) comes.state comes.shows))
+    stopped-at-once words new.opened (and_then (λ after. source_behind world source names after) (named_step world name (enter_file world include_depth_limit) comes.state))
+    (stops-on (λ after. source_behind world source names after) words new.opened (named_step world name (enter_file world include_depth_limit) comes.state) (includes (enter_file world include_depth_limit) comes.state comes.shows))
     ∙ sym (named-first world source name names comes.state) ∙ comes.same
 named-brings world source name names reader new (Err stop.Fault) read includes = tt
 named-brings world source name names reader new (Err stop.Memory) read includes = tt
@@ -360,7 +361,7 @@ next-name world source forced i item name reader whole below at same comes =
 
 -- ---- the source ----
 
-source-next : (world : World) (source : Hit) (state : State) → told_of (source_behind world source [] state) ≡ told_of (open_file world (enter_file world depth_limit) [] source state)
+source-next : (world : World) (source : Hit) (state : State) → told_of (source_behind world source [] state) ≡ told_of (open_file world (enter_file world include_depth_limit) [] source state)
 unfolding run_forced
 source-next world source state = refl
 
@@ -368,7 +369,7 @@ pub source-brings : (world : World) (source : Hit) (reader : Reader) (new : Kept
     Opens reader.kept new reader.source world source (λ entering state. open_file world entering [] source state) r →
     Brings (ComesTo (source_behind world source []) reader) (record reader { kept = new }) (λ pieces whole. RestLeadsTo world (λ state. Go state) (record reader { kept = new; file = opened_file source pieces }) whole) r
 source-brings world source reader new (Ok pieces) read opens = λ whole comes.
-    let one = opens (enter_file world depth_limit) (here_of reader.file) comes.state comes.shows in
+    let one = opens (enter_file world include_depth_limit) (here_of reader.file) comes.state comes.shows in
     record {
       state = one.0;
       shows = one.1.1;
@@ -381,7 +382,7 @@ source-brings world source reader new (Ok pieces) read opens = λ whole comes.
           ∙ comes.same;
     }
 source-brings world source reader new (Err (stop.Ended words)) read opens = λ whole comes.
-    stopped-at-once words new.opened (open_file world (enter_file world depth_limit) [] source comes.state) (opens (enter_file world depth_limit) (here_of reader.file) comes.state comes.shows)
+    stopped-at-once words new.opened (open_file world (enter_file world include_depth_limit) [] source comes.state) (opens (enter_file world include_depth_limit) (here_of reader.file) comes.state comes.shows)
     ∙ sym (source-next world source comes.state) ∙ comes.same
 source-brings world source reader new (Err stop.Fault) read opens = tt
 source-brings world source reader new (Err stop.Memory) read opens = tt

@@ -2,6 +2,8 @@
 use Rattle.std.specs.Prelude.{ℕ, List, [], ◌∷◌, ◌++◌, take, Bool, true, false, if◌then◌else◌, codes}
 use Rattle.std.specs.List.{flat_map}
 use Rattle.std.specs.Fmt.{decimal}
+use Rattle.base_types.specs.Limits.{diagnostic_limit}
+use Rattle.base_types.specs.Ascii as ascii
 use Rattle.pp_tokens.specs.declared.Token.{Token}
 use Rattle.tree_model.specs.Paths.{Text}
 use Rattle.tree_model.specs.Shown.{shown}
@@ -54,7 +56,7 @@ branch_spelling Endif = codes "endif"
 
 -- a token of an error directive, with a space in front where white space stands before it
 abbrev pub error_token : Token → Text
-error_token t = (if t.space then 32 ∷ [] else []) ++ shown t.text
+error_token t = (if t.space then ascii.space ∷ [] else []) ++ shown t.text
 
 -- the name of a header as it is asked for, in angles or else in quotes (6.4.7)
 abbrev pub header_shown : Bool → Text → Text
@@ -98,4 +100,4 @@ words_of TextLimit = codes "text limit"
 
 -- the text of a diagnostic, cut to 65,536 bytes
 unfoldable pub diagnostic_text : Diagnostic → Text
-diagnostic_text d = take 65536 (shown d.place ++ (codes ":" ++ (decimal d.at ++ (codes ": error: " ++ words_of d.complaint))))
+diagnostic_text d = take diagnostic_limit (shown d.place ++ (codes ":" ++ (decimal d.at ++ (codes ": error: " ++ words_of d.complaint))))

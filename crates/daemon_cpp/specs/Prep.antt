@@ -2,6 +2,7 @@
 -- entering an included file does as a parameter, and on the depth of includes left.
 use Rattle.std.specs.Prelude.{◌≤◌, ℕ, zero, suc, ◌+◌, ◌-◌, ◌==◌, Bool, true, false, not, ◌&&◌, ◌||◌, List, [], ◌∷◌, ◌++◌, length, map, Option, None, Some, Result, Ok, Err, cond, if◌then◌else◌, nat_le, nat_lt, is_some, unwrap_or, ℤ, pos, ◌+ℤ◌, ◌-ℤ◌, codes, bytes_eq}
 use Rattle.std.specs.List.{list_any, list_all, flat_map}
+use Rattle.base_types.specs.Limits.{include_depth_limit, work_limit, diagnostic_limit}
 use Rattle.pp_tokens.specs.declared.Kind.TheVariants as kind
 use Rattle.pp_tokens.specs.declared.Token.{Token}
 use Rattle.pp_tokens.specs.Marks.{is_identifier, is_word, is_open, is_close}
@@ -575,10 +576,6 @@ enter_file world (suc depth) at hit state =
     and_then (λ after. back_in state.here at after)
     (open_file world (enter_file world depth) (enter (presumed_name hit.0.place) ∷ []) hit state)
 
--- how many levels of includes there may be
-abbrev pub depth_limit : ℕ
-depth_limit = 200
-
 -- ---- a job ----
 
 -- what preprocessing a job gives: its outcome, the searches that succeeded, and the places of the files opened, up to
@@ -598,10 +595,6 @@ outcome_of_text source text =
 abbrev pub prepared : PrepStep → Prepared
 prepared (Go state) = record { outcome = outcome_of_text state.source (finished state.output); touched = state.touched; opened = state.opened }
 prepared (Stop diagnostic state) = record { outcome = outcome.Diag (diagnostic_text diagnostic); touched = state.touched; opened = state.opened }
-
--- the work that a job may take, in units
-abbrev pub work_limit : ℕ
-work_limit = 20000000
 
 -- the state before the source is opened: the output has its marker, and the macros are those of the words
 abbrev pub first_state : List MacroWord → Hit → State
@@ -624,7 +617,7 @@ run_forced world entering (name ∷ names) state =
 
 -- the source, in front of all else
 abbrev pub open_source : World → Hit → State → PrepStep
-open_source world hit state = open_file world (enter_file world depth_limit) [] hit state
+open_source world hit state = open_file world (enter_file world include_depth_limit) [] hit state
 
 -- a job whose source's search gave this
 abbrev pub run_job : World → JobData → Option Hit → Prepared
@@ -635,7 +628,7 @@ run_job world job None = record {
 }
 run_job world job (Some hit) =
     prepared (and_then (λ state. open_source world hit state)
-    (and_then (λ state. run_forced world (enter_file world depth_limit) job.forced state) (limited (first_state job.macros hit))))
+    (and_then (λ state. run_forced world (enter_file world include_depth_limit) job.forced state) (limited (first_state job.macros hit))))
 
 unfoldable pub prep : World → JobData → Prepared
 prep world job = run_job world job (world.find (source_ask job.source))
@@ -647,4 +640,4 @@ outcome_over tree job = (prep (world_of tree job.setup) job).outcome
 -- a text of at most 67,108,864 bytes, or a diagnostic of 1 to 65,536
 abbrev pub OutcomeFits : Outcome → Type 0
 OutcomeFits (outcome.Text text) = length text ≤ text_limit
-OutcomeFits (outcome.Diag words) = (1 ≤ length words) × (length words ≤ 65536)
+OutcomeFits (outcome.Diag words) = (1 ≤ length words) × (length words ≤ diagnostic_limit)

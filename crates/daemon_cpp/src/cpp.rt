@@ -8,6 +8,7 @@
 ghost use Rattle.std.specs.Prelude.{◌≡◌, ◌<◌, ◌≤◌, ◌+◌, ◌++◌, suc, pos, List, [], ◌∷◌, length, drop, get_or, IfOk, IfSome, OnOk, IsErrOf};
 ghost use Rattle.std.specs.Option.{ForSome};
 ghost use Rattle.base_types.specs.Causes.{HasCause};
+ghost use Rattle.base_types.specs.Limits.{work_limit};
 ghost use Rattle.cpp_output.specs.Layout.{text_limit};
 ghost use Rattle.cpp_output.specs.Laid.{begun, finished};
 ghost use Rattle.tree_model.specs.Paths.{Text, spelled};
@@ -40,6 +41,7 @@ use crate::section::{pass, seek};
 use crate::stop::{Stop, refused};
 use crate::tree::{absolute_text, find_file};
 use crate::{CppError, Outcome};
+use base_types::limits::{INCLUDE_DEPTH_LIMIT, WORK_LIMIT};
 use base_types::{Bytes, List};
 use cpp_output::{LayError, Layout};
 use directive_scan::{BranchName, Nesting, Pieces};
@@ -50,12 +52,6 @@ use search_path::{Setup, Visit, source_ask};
 use std::alloc::{AllocError, Global};
 use std::mem::replace;
 use tree_model::{CanonPath, Located, Tree, shown};
-
-// How many levels of includes there may be.
-const DEPTH_LIMIT: usize = 200;
-
-// The work that a job may take, in units.
-const WORK_LIMIT: u64 = 20_000_000;
 
 /// Preprocesses a job over a tree: translation phases 1 to 4 (ISO C 5.1.1.2) of the files that its words name, of its
 /// source, found by the working directory and the source's name, and of the files that these include (6.10.2). Time is
@@ -340,7 +336,7 @@ impl Reader {
         ensures source { result.source ≡ source }
         ensures layout { result.kept.layout ≡ layout }
         ensures macros { result.kept.macros ≡ macros }
-        ensures work { result.kept.work.left ≡ 20000000 }
+        ensures work { result.kept.work.left ≡ work_limit }
         ensures once { result.kept.once ≡ [] }
         ensures opened { result.kept.opened ≡ [] }
         ensures file { result.file ≡ file }
@@ -635,7 +631,7 @@ impl Reader {
         ensures advances { OnOk result (work_ahead self.new < suc (work_ahead self.old)) }
         ensures cause { HasCause Stop.Fault (T.faults tree.old) (T.faults tree.new) result }
     {
-        if self.around.as_slice().len() >= DEPTH_LIMIT {
+        if self.around.as_slice().len() >= INCLUDE_DEPTH_LIMIT {
             return Err(refused(alloc, &self.file.visit.place, at, Problem::TooNested));
         }
         match open_file(

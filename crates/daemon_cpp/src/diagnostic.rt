@@ -2,18 +2,17 @@
 ghost use Rattle.std.specs.Prelude.{◌≡◌, ◌≤◌, ◌++◌, ◌∷◌, [], length, codes, IfOk, OnOk};
 ghost use Rattle.std.specs.List.{flat_map};
 ghost use Rattle.std.specs.Fmt.{decimal};
+ghost use Rattle.base_types.specs.Limits.{diagnostic_limit};
 ghost use Rattle.daemon_cpp.specs.Diagnostics.{NotFound, ErrorLine, BadPaste, quoted, branch_spelling, error_token, diagnostic_text, words_of};
 ghost use Rattle.daemon_cpp.specs.parts.Problems.{complaint_of};
 
 use base_types::Bytes;
+use base_types::limits::DIAGNOSTIC_LIMIT;
 use directive_scan::BranchName;
 use pp_tokens::Token;
 use std::alloc::{AllocError, Global};
 use std::marker::Model;
 use tree_model::shown;
-
-// The longest diagnostic, in bytes.
-const LENGTH_LIMIT: usize = 65_536;
 
 // What is wrong.
 #[derive(Clone, Copy, Drop)]
@@ -59,12 +58,13 @@ pub struct Diagnostic {
 
 impl Model for Diagnostic {
     ghost use Rattle.std.specs.Prelude.{ℕ, List, ◌≤◌, length};
+    ghost use Rattle.base_types.specs.Limits.{diagnostic_limit};
 
     ghost Value = { List ℕ };
 
     ghost view = { λ d. d.text.items };
 
-    ghost invariant = { λ d. (1 ≤ length d.text.items) × (length d.text.items ≤ 65536) };
+    ghost invariant = { λ d. (1 ≤ length d.text.items) × (length d.text.items ≤ diagnostic_limit) };
 }
 
 impl Diagnostic {
@@ -81,13 +81,13 @@ impl Diagnostic {
         let mut text = shown(alloc, place)?;
         add_line(alloc, &mut text, line)?;
         add_words(alloc, &mut text, problem)?;
-        text.truncate(LENGTH_LIMIT);
+        text.truncate(DIAGNOSTIC_LIMIT);
         Ok(Diagnostic { text })
     }
 
     pub fn into_bytes(self) -> Bytes
         ensures value { result ≡ self }
-        ensures fits { (1 ≤ length result) × (length result ≤ 65536) }
+        ensures fits { (1 ≤ length result) × (length result ≤ diagnostic_limit) }
     {
         Bytes::of(self.text)
     }

@@ -1,6 +1,7 @@
 // The files that a job lexed. A header without a guard that is known at its include is opened again and again, and so is one
 // that is read for a part at a time: its lines are lexed once.
 ghost use Rattle.std.specs.Prelude.{◌≡◌, ◌≤◌, ◌+◌, suc, length, IfOk, IfSome};
+ghost use Rattle.base_types.specs.Limits.{body_limit};
 ghost use Rattle.pp_tokens.specs.Lines.{lexed};
 ghost use Rattle.daemon_cpp.specs.parts.Reading.{token_count};
 ghost use Rattle.daemon_cpp.specs.parts.FileTexts.{IsTextOf, HasFewPieces};
@@ -28,7 +29,7 @@ pub struct FileText {
 impl FileText {
     // That of a body.
     fn of_body(alloc: Global, body: &[u8], trigraphs: bool) -> Result<FileText, AllocError>
-        requires { length body.now ≤ 16777216 }
+        requires { length body.now ≤ body_limit }
         ensures text { IfOk result (IsTextOf (lexed trigraphs body.now)) }
     {
         let lexed = lex(alloc, body, trigraphs)?;
@@ -123,7 +124,7 @@ impl LexedFiles {
         body: Bytes,
         trigraphs: bool,
     ) -> Result<FileText, AllocError>
-        requires { length body ≤ 16777216 }
+        requires { length body ≤ body_limit }
         ensures text { IfOk result (IsTextOf (lexed trigraphs body)) }
         ensures few { IfOk result HasFewPieces }
     {

@@ -1,6 +1,7 @@
 // Line directives (ISO C 6.10.4).
 ghost use Rattle.std.specs.Prelude.{◌≡◌, ◌≤◌, ◌+◌, ◌-◌, ◌*◌, ◌&&◌, true, false, Some, None, length, take, drop, min, nat_lt, nat_le, if◌then◌else◌, IfOk, IfSome, IsErrOf, IsTrue};
 ghost use Rattle.std.specs.List.{list_all};
+ghost use Rattle.base_types.specs.Ascii as ascii;
 ghost use Rattle.pp_tokens.specs.declared.Kind.TheVariants.{Number};
 ghost use Rattle.directive_scan.specs.HeaderNames as header_names;
 ghost use Rattle.cond_eval.specs.Constants.{digit_value, is_digit_in, value_behind};
@@ -180,7 +181,7 @@ fn value_of(text: &[u8]) -> Option<u32>
 
 fn is_digit(byte: u8) -> bool
     ensures is { result ≡ is_digit_in 10 byte }
-    ensures within { IsTrue result → (48 ≤ byte) × (byte ≤ 57) }
+    ensures within { IsTrue result → (ascii.zero_digit ≤ byte) × (byte ≤ ascii.nine_digit) }
 {
     b'0' <= byte && byte <= b'9'
 }
@@ -188,8 +189,8 @@ fn is_digit(byte: u8) -> bool
 // A value with one more digit.
 fn with_digit(value: u32, digit: u8) -> u32
     requires small { value ≤ 2147483648 }
-    requires from { 48 ≤ digit }
-    requires to { digit ≤ 57 }
+    requires from { ascii.zero_digit ≤ digit }
+    requires to { digit ≤ ascii.nine_digit }
     ensures { result ≡ min (value * 10 + digit_value digit) 2147483648 }
 {
     let more = u64::from(value) * 10 + u64::from(digit - b'0');

@@ -2,6 +2,7 @@
 ghost use Rattle.std.specs.Prelude.{◌≡◌, ◌≤◌, ◌+◌, ◌++◌, ◌∷◌, [], suc, length, IfOk, OnOk, IsErrOf};
 ghost use Rattle.std.specs.Option.{ForSome};
 ghost use Rattle.base_types.specs.Causes.{HasCause};
+ghost use Rattle.base_types.specs.Limits.{body_limit};
 ghost use Rattle.directive_scan.specs.Groups.{outline, role_of};
 ghost use Rattle.pp_tokens.specs.Lines.{lexed, LexedFile};
 ghost use Rattle.daemon_cpp.specs.Prep.{World, Here, world_of, and_then, say, run_outline, run_file, open_file};
@@ -64,7 +65,7 @@ fn open_body(
     included: bool,
     body: Bytes,
 ) -> Result<Pieces, Stop>
-    requires { length body ≤ 16777216 }
+    requires { length body ≤ body_limit }
     ensures begins { (world : World) (file : Here) → file.place ≡ found.now.0.place → BeginsFile kept.old kept.new source.now file world
         (λ entering state. run_body world entering (front_events included found.now.0.place) (lexed setup.now.trigraphs body) state) result }
     ensures shortens { IfOk result (λ pieces. length pieces + 1 + (kept.new.work.left + kept.new.work.left) ≤ kept.old.work.left + kept.old.work.left) }

@@ -2,6 +2,7 @@
 ghost use Rattle.std.specs.Prelude.{◌≡◌, ◌≢◌, ◌≤◌, length, IfOk, IfErr, IfSome};
 ghost use Rattle.std.specs.Option.{ForSome};
 ghost use Rattle.base_types.specs.Causes.{HasCause};
+ghost use Rattle.base_types.specs.Limits.{body_limit};
 ghost use Rattle.tree_model.specs.Bodies.{body_at_path, body_within};
 ghost use Rattle.search_path.specs.Search.{NeedsFrom};
 ghost use Rattle.search_path.specs.SetupOf as setups;
@@ -67,7 +68,7 @@ pub fn read_body<T: Tree>(
 ) -> Result<Option<Bytes>, Stop>
     ensures same { T.told tree.new ≡ T.told tree.old }
     ensures body { ForSome (T.told tree.old) (λ told. IfOk result (λ body. body ≡ body_within (body_at_path told path.now))) }
-    ensures within { IfOk result (λ body. IfSome body (λ bytes. length bytes ≤ 16777216)) }
+    ensures within { IfOk result (λ body. IfSome body (λ bytes. length bytes ≤ body_limit)) }
     ensures silent { IfErr result TellsNothing }
     ensures cause { HasCause Stop.Fault (T.faults tree.old) (T.faults tree.new) result }
 {

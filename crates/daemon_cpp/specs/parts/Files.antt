@@ -1,6 +1,7 @@
 -- The files that are read, as the code keeps them: what is left to read of each, and what this leads to. No public contract
 -- rests on it.
 use Rattle.std.specs.Prelude.{◌≡◌, ◌≤◌, ◌+◌, ◌++◌, ℕ, pos, List, [], ◌∷◌, map, length, drop, sum_by, Option, Some, None, Result, Ok, Err}
+use Rattle.base_types.specs.Limits.{include_depth_limit}
 use Rattle.directive_scan.specs.declared.Piece.{Piece}
 use Rattle.tree_model.specs.Paths.{Text, Path}
 use Rattle.tree_model.specs.Shown.{presumed_name}
@@ -16,7 +17,7 @@ use Rattle.daemon_cpp.specs.declared.cpp.Told.{Told}
 use Rattle.daemon_cpp.specs.declared.cpp.OpenFile.{OpenFile}
 use Rattle.daemon_cpp.specs.declared.cpp.Left.{Left}
 use Rattle.daemon_cpp.specs.declared.cpp.Reader.{Reader}
-use Rattle.daemon_cpp.specs.Prep.{World, Here, State, PrepStep, Go, and_then, limited, first_state, enter_file, depth_limit, run_forced, open_source, prepared, line_set}
+use Rattle.daemon_cpp.specs.Prep.{World, Here, State, PrepStep, Go, and_then, limited, first_state, enter_file, run_forced, open_source, prepared, line_set}
 use Rattle.daemon_cpp.specs.parts.Reading.{Frame, run_flat, reading, entering_at, frames_resumed}
 use Rattle.daemon_cpp.specs.parts.Showing.{Shows, StopsWith}
 
@@ -133,13 +134,13 @@ work_ahead reader =
 -- what comes behind some of the files of the job's words: the others, and then the source
 abbrev pub source_behind : World → Hit → List Text → After
 source_behind world source names state =
-    and_then (λ after. open_source world source after) (run_forced world (enter_file world depth_limit) names state)
+    and_then (λ after. open_source world source after) (run_forced world (enter_file world include_depth_limit) names state)
 
 -- what is told of a job whose source was found, which has these macros and includes these files in front
 abbrev pub source_told : World → List MacroWord → Hit → List Text → Told
 source_told world macros source names =
     told_of (and_then (λ state. open_source world source state)
-    (and_then (λ state. run_forced world (enter_file world depth_limit) names state) (limited (first_state macros source))))
+    (and_then (λ state. run_forced world (enter_file world include_depth_limit) names state) (limited (first_state macros source))))
 
 -- behind a piece of the file that is read, with this kept
 abbrev pub behind_piece : Reader → Kept → Reader

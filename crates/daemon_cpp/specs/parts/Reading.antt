@@ -2,6 +2,7 @@
 -- keeps these as a stack. No public contract rests on it.
 use Rattle.std.specs.Prelude.{ℕ, zero, suc, ◌-◌, Bool, true, false, List, [], ◌∷◌, Option, None, Some, length, cond, nat_le}
 use Rattle.std.specs.List.{flat_map}
+use Rattle.base_types.specs.Limits.{include_depth_limit}
 use Rattle.pp_tokens.specs.declared.Token.{Token}
 use Rattle.pp_tokens.specs.Lines.{LexedFile}
 use Rattle.directive_scan.specs.declared.Piece.{Piece}
@@ -12,7 +13,7 @@ use Rattle.cpp_output.specs.Layout.{Event, enter}
 use Rattle.tree_model.specs.Paths.{Path, spelled}
 use Rattle.tree_model.specs.Shown.{presumed_name}
 use Rattle.daemon_cpp.specs.Diagnostics.{Diagnostic, WithoutIf, AfterElse, Unended}
-use Rattle.daemon_cpp.specs.Prep.{World, Here, State, PrepStep, Go, and_then, with_value, Entering, piece_step, piece_test, run_file, paid, opening_cost, enter_file, back_in, depth_limit}
+use Rattle.daemon_cpp.specs.Prep.{World, Here, State, PrepStep, Go, and_then, with_value, Entering, piece_step, piece_test, run_file, paid, opening_cost, enter_file, back_in}
 
 -- How the pieces of a file are read: one after another; or none up to the next line of the present conditional, of which no group was
 -- read so far, from within so many conditionals; or none up to its end, behind the group that was read. Conditionals around it need
@@ -96,7 +97,7 @@ pub record Frame : Type 0 where
 
 -- entering from a file around which so many are open
 abbrev pub entering_at : World → ℕ → Entering
-entering_at world level = enter_file world (depth_limit - level)
+entering_at world level = enter_file world (include_depth_limit - level)
 
 -- a step in the file that is read, and then the rest of each file that was left; the files are listed from the source inward
 unfoldable pub frames_resumed : World → ℕ → List Frame → PrepStep → PrepStep

@@ -1,4 +1,5 @@
 use Rattle.std.proofs.Common.{◌<◌, ◌≤◌, List, length, Result, ap, subst, arith}
+use Rattle.base_types.specs.Limits.{include_depth_limit}
 use Rattle.directive_scan.specs.declared.Piece.{Piece}
 use Rattle.daemon_cpp.specs.declared.stop.Stop.{Stop}
 use Rattle.daemon_cpp.specs.declared.cpp.Reader.{Reader}
@@ -8,16 +9,16 @@ use Rattle.daemon_cpp.specs.parts.Files.{RestLeadsTo, EntersTo, Brings, GoesInto
 use Rattle.daemon_cpp.proofs.Readers.{too-deep, opens-brings, brings-stop}
 use Rattle.daemon_cpp.proofs.cpp.Reader.enter.Goals as goal
 
-pub returns-then-as_slice-ge-DEPTH_LIMIT-clause-brings : goal.returns-then-as_slice-ge-DEPTH_LIMIT-clause-brings
-returns-then-as_slice-ge-DEPTH_LIMIT-clause-brings g c = λ told is behind.
+pub returns-then-as_slice-ge-INCLUDE_DEPTH_LIMIT-clause-brings : goal.returns-then-as_slice-ge-INCLUDE_DEPTH_LIMIT-clause-brings
+returns-then-as_slice-ge-INCLUDE_DEPTH_LIMIT-clause-brings g c = λ told is behind.
     let same = ap length c.as_slice.ensures.value in
-    let deep : 200 ≤ length c.args.self.now.around.items = omega (arith, same, c.if-as_slice-ge-DEPTH_LIMIT.true) in
+    let deep : include_depth_limit ≤ length c.args.self.now.around.items = omega (arith, same, c.if-as_slice-ge-INCLUDE_DEPTH_LIMIT.true) in
     too-deep {A = Unit {0}} (world_of told c.args.setup.now) behind c.args.self.now c.args.at c.args.inner (λ done. RestLeadsTo (world_of told c.args.setup.now) behind c.args.self.now) c.refused.result deep c.refused.ensures
 
 pub returns-in_ok-go_into-in-Ok-clause-brings : goal.returns-in_ok-go_into-in-Ok-clause-brings
 returns-in_ok-go_into-in-Ok-clause-brings g c = λ told is behind whole enters_to.
     let same = ap length c.as_slice.ensures.value in
-    let shallow : length c.args.self.now.around.items < 200 = omega (arith, same, c.if-as_slice-ge-DEPTH_LIMIT.false) in
+    let shallow : length c.args.self.now.around.items < include_depth_limit = omega (arith, same, c.if-as_slice-ge-INCLUDE_DEPTH_LIMIT.false) in
     let mid : Reader = record c.args.self.now { kept = c.open_file.new.kept } in
     let opened = subst (λ (r : Result (List Piece) Stop). Brings (EntersTo (world_of told c.args.setup.now) behind c.args.self.now c.args.at c.args.inner) mid (λ pieces w. InsideTo (world_of told c.args.setup.now) behind mid c.args.at c.args.inner pieces w) r) c.in-Ok.is
     (opens-brings (world_of told c.args.setup.now) behind c.args.self.now c.open_file.new.kept c.args.at c.args.inner c.open_file.result shallow (c.open_file.ensures.opens told is)) in
@@ -27,7 +28,7 @@ returns-in_ok-go_into-in-Ok-clause-brings g c = λ told is behind whole enters_t
 pub returns-in-Err-clause-brings : goal.returns-in-Err-clause-brings
 returns-in-Err-clause-brings g c = λ told is behind.
     let same = ap length c.as_slice.ensures.value in
-    let shallow : length c.args.self.now.around.items < 200 = omega (arith, same, c.if-as_slice-ge-DEPTH_LIMIT.false) in
+    let shallow : length c.args.self.now.around.items < include_depth_limit = omega (arith, same, c.if-as_slice-ge-INCLUDE_DEPTH_LIMIT.false) in
     let mid : Reader = record c.args.self.now { kept = c.open_file.new.kept } in
     brings-stop {B = Unit {0}} (EntersTo (world_of told c.args.setup.now) behind c.args.self.now c.args.at c.args.inner) mid (λ pieces w. InsideTo (world_of told c.args.setup.now) behind mid c.args.at c.args.inner pieces w) (λ done. RestLeadsTo (world_of told c.args.setup.now) behind mid) c.in-Err.stop
     (subst (λ (r : Result (List Piece) Stop). Brings (EntersTo (world_of told c.args.setup.now) behind c.args.self.now c.args.at c.args.inner) mid (λ pieces w. InsideTo (world_of told c.args.setup.now) behind mid c.args.at c.args.inner pieces w) r) c.in-Err.is
