@@ -5,6 +5,7 @@ ghost use Rattle.daemon_serve.specs.Serving.{verdict_on};
 ghost use Rattle.daemon_serve.specs.parts.Parts.{HasWhole, IsRequestFed, IsRequestRead};
 
 use base_types::List;
+use base_types::limits::REQUEST_LIMIT;
 use io_edges::Source;
 use job_frames::{Fed, FrameError, RequestReader, request_spellings, request_trees};
 use job_words::Job;
@@ -13,9 +14,6 @@ use tree_model::{CanonPath, Entry};
 
 // A source is read in pieces of at most so many bytes.
 const PIECE: usize = 16_384;
-
-// The bytes that a request has at most.
-const REQUEST_LIMIT: u32 = 268_435_456;
 
 // Why no request was read: the source failed, or the bytes are refused.
 #[derive(Drop)]
@@ -48,7 +46,7 @@ fn feed_from<S: Source>(source: &mut S, reader: &mut RequestReader) -> Result<()
 {
     request_spellings();
     let mut room = [0u8; PIECE];
-    for _ in 0..=REQUEST_LIMIT {
+    for _ in 0..=REQUEST_LIMIT as u32 {
         let n = match source.take(&mut room) {
             Ok(n) => n,
             Err(_) => return Err(NoRequest::Fault),
