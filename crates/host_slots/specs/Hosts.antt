@@ -1,6 +1,8 @@
 -- The hosts that a text names, or the first reason why it names none.
 use Rattle.std.specs.Prelude.{ℕ, ◌+◌, ◌-◌, ◌*◌, List, [], ◌∷◌, length, drop, Bool, true, false, not, ◌&&◌, ◌||◌, ◌==◌, if◌then◌else◌, nat_le, nat_lt, bytes_eq, codes, Option, Some, None, Result, Ok, Err}
 use Rattle.std.specs.List.{list_any, list_all, filter, slice_split, position_or_len, before_first}
+use Rattle.base_types.specs.Limits.{slot_limit, host_limit}
+use Rattle.base_types.specs.Ascii as ascii
 use Rattle.io_edges.specs.declared.wire.Host.{Host}
 use Rattle.host_slots.specs.declared.hosts.HostError.{HostError}
 use Rattle.host_slots.specs.declared.hosts.HostError.TheVariants as refused
@@ -12,7 +14,7 @@ Text = List ℕ
 
 -- white space of ASCII: tab, line feed, vertical tab, form feed, carriage return, space
 abbrev pub is_space : ℕ → Bool
-is_space b = (b == 32) || (nat_le 9 b && nat_le b 13)
+is_space b = (b == ascii.space) || (nat_le ascii.tab b && nat_le b ascii.carriage_return)
 
 abbrev pub is_digit : ℕ → Bool
 is_digit b = nat_le 48 b && nat_le b 57
@@ -34,7 +36,7 @@ decimal_behind n (b ∷ digits) = decimal_behind (n * 10 + (b - 48)) digits
 -- one digit or more, and no zero in front
 abbrev pub is_positive_decimal : Text → Bool
 is_positive_decimal [] = false
-is_positive_decimal (b ∷ digits) = not (b == 48) && list_all is_digit (b ∷ digits)
+is_positive_decimal (b ∷ digits) = not (b == ascii.zero_digit) && list_all is_digit (b ∷ digits)
 
 -- the number that a text spells in decimal; none where it spells no number, or one above the limit
 unfoldable pub number_in : ℕ → Text → Option ℕ
@@ -62,7 +64,7 @@ is_option text = bytes_eq text (codes "cpp") || bytes_eq text (codes "lzo")
 -- nothing, or options with a `,` in front of each
 abbrev pub are_options : Text → Bool
 are_options [] = true
-are_options (b ∷ text) = list_all is_option (slice_split (λ b. b == 44) text)
+are_options (b ∷ text) = list_all is_option (slice_split (λ b. b == ascii.comma) text)
 
 -- the own machine has two slots, any other four, where the word doesn't say how many
 abbrev pub default_limit : Text → ℕ
@@ -74,7 +76,7 @@ host_with_limit name port (Some limit) rest = if are_options rest then Ok (recor
 
 abbrev pub host_with_port : Text → Option ℕ → Text → Result Host HostError
 host_with_port name None rest = Err refused.Port
-host_with_port name (Some port) rest = host_with_limit name port (number_behind_mark 47 (codes ",") (default_limit name) 64 rest) (rest_at 47 (codes ",") rest)
+host_with_port name (Some port) rest = host_with_limit name port (number_behind_mark 47 (codes ",") (default_limit name) slot_limit rest) (rest_at 47 (codes ",") rest)
 
 abbrev pub host_with_name : Text → Text → Result Host HostError
 host_with_name name rest = if is_host_name name then host_with_port name (number_behind_mark 58 (codes "/,") 3632 65535 rest) (rest_at 58 (codes "/,") rest) else Err refused.Name
@@ -103,7 +105,7 @@ each_host (word ∷ words) = hosts_with (host_of word) (each_host words)
 -- 1 to 64 words
 abbrev pub hosts_of_words : List Text → Result (List Host) HostError
 hosts_of_words [] = Err refused.Empty
-hosts_of_words (word ∷ words) = if nat_le (length (word ∷ words)) 64 then each_host (word ∷ words) else Err refused.Many
+hosts_of_words (word ∷ words) = if nat_le (length (word ∷ words)) host_limit then each_host (word ∷ words) else Err refused.Many
 
 -- The hosts that a text names, in its order.
 unfoldable pub hosts_of : Text → Result (List Host) HostError

@@ -1,5 +1,6 @@
 -- Slots of hosts: how many each host has, how many are leased, and what a lease changes.
 use Rattle.std.specs.Prelude.{◌≡◌, ℕ, ◌+◌, ◌-◌, ◌<◌, ◌≤◌, List, length, slice_index, slice_set}
+use Rattle.base_types.specs.Limits.{slot_limit, host_limit}
 use Rattle.io_edges.specs.declared.wire.Host.{Host}
 
 -- the limit of each host, and how many of its slots are leased, in the order of the list of hosts
@@ -9,7 +10,7 @@ pub record Leased : Type 0 where
 
 -- a host with 1 to 64 slots
 abbrev pub HasSlots : Host → Type 0
-HasSlots host = (1 ≤ host.limit) × (host.limit ≤ 64)
+HasSlots host = (1 ≤ host.limit) × (host.limit ≤ slot_limit)
 
 -- the host is below its limit, and each that stands before it is at its own
 pub record IsFirstFree (limits leased : List ℕ) (host : ℕ) : Type 0 where
@@ -31,6 +32,6 @@ slot_given_back host leased = slice_set leased host (slice_index leased host - 1
 -- 1 to 64 hosts, none of which has more slots leased than its limit
 pub record AreWithinLimits (limits leased : List ℕ) : Type 0 where
   pub some : 1 ≤ length limits
-  pub few : length limits ≤ 64
+  pub few : length limits ≤ host_limit
   pub each : length leased ≡ length limits
   pub within : (host : ℕ) → host < length limits → slice_index leased host ≤ slice_index limits host

@@ -1,10 +1,12 @@
 // The hosts that a text names.
 ghost use Rattle.std.specs.Prelude.{◌≡◌, ◌≤◌, ◌⊎◌, Ok, Err, length, map, nat_lt, IfOk, IfErr};
 ghost use Rattle.std.specs.List.{All, filter, slice_split};
+ghost use Rattle.base_types.specs.Limits.{host_limit};
 ghost use Rattle.host_slots.specs.Hosts.{hosts_of, hosts_of_words, host_words, each_host, is_space};
 ghost use Rattle.host_slots.specs.Slots.{HasSlots};
 
 use crate::word::host_of;
+use base_types::limits::HOST_LIMIT;
 use io_edges::Host;
 use std::alloc::{AllocError, Global};
 use thiserror::Error;
@@ -41,9 +43,6 @@ impl From<AllocError> for HostError {
     }
 }
 
-// The greatest number of hosts.
-const HOST_LIMIT: usize = 64;
-
 /// The hosts that a text names: 1 to 64 words with white space between them, each `HOST`, `HOST:PORT`, `HOST/LIMIT` or
 /// `HOST:PORT/LIMIT`, and behind it any number of options, each with a `,` in front. HOST is 1 to 255 letters, digits, `.` or
 /// `-`; PORT is 1 to 65535, by default distcc's 3632; LIMIT is how many slots the host has, 1 to 64, by default 2 for
@@ -51,7 +50,7 @@ const HOST_LIMIT: usize = 64;
 #[tactic(auto, unfolding(crate::specs::Hosts::hosts_of))]
 pub fn read_hosts(alloc: Global, text: &[u8]) -> Result<Vec<Host>, HostError>
     ensures hosts { IfOk result (λ hosts. hosts_of text.now ≡ Ok hosts.items) }
-    ensures few { IfOk result (λ hosts. (1 ≤ length hosts.items) × (length hosts.items ≤ 64)) }
+    ensures few { IfOk result (λ hosts. (1 ≤ length hosts.items) × (length hosts.items ≤ host_limit)) }
     ensures slots { IfOk result (λ hosts. All HasSlots hosts.items) }
     ensures why { IfErr result (λ e. (e ≡ HostError.Memory) ⊎ (hosts_of text.now ≡ Err e)) }
 {
@@ -77,7 +76,7 @@ fn is_space(b: u8) -> bool
 // The hosts of 1 to 64 words.
 fn hosts_of_words(alloc: Global, words: &[&[u8]]) -> Result<Vec<Host>, HostError>
     ensures hosts { IfOk result (λ hosts. hosts_of_words (map (λ word. word.now) words.now) ≡ Ok hosts.items) }
-    ensures few { IfOk result (λ hosts. (1 ≤ length hosts.items) × (length hosts.items ≤ 64)) }
+    ensures few { IfOk result (λ hosts. (1 ≤ length hosts.items) × (length hosts.items ≤ host_limit)) }
     ensures slots { IfOk result (λ hosts. All HasSlots hosts.items) }
     ensures why { IfErr result (λ e. (e ≡ HostError.Memory) ⊎ (hosts_of_words (map (λ word. word.now) words.now) ≡ Err e)) }
 {

@@ -1,6 +1,7 @@
 // The slots as a machine of one thread.
 ghost use Rattle.std.specs.Prelude.{◌≡◌, ℕ, ◌+◌, ◌<◌, ◌≤◌, [], length, map, replicate, slice_index, IfOk, IfSome, IfNone, nat_lt, ◌&&◌};
 ghost use Rattle.std.specs.List.{All};
+ghost use Rattle.base_types.specs.Limits.{host_limit};
 ghost use Rattle.host_slots.specs.Slots.{IsFirstFree, AllLeased, HasSlots, slot_taken, slot_given_back, AreWithinLimits};
 
 use io_edges::Host;
@@ -55,7 +56,7 @@ impl Model for SlotState {
 impl SlotState {
     /// No slot is leased.
     pub fn new(alloc: Global, hosts: &[Host]) -> Result<SlotState, AllocError>
-        requires few { (1 ≤ length hosts.now) × (length hosts.now ≤ 64) }
+        requires few { (1 ≤ length hosts.now) × (length hosts.now ≤ host_limit) }
         requires slots { All HasSlots hosts.now }
         ensures limits { IfOk result (λ s. s.limits ≡ map (λ host. host.limit) hosts.now) }
         ensures free { IfOk result (λ s. s.leased ≡ replicate (length hosts.now) 0) }

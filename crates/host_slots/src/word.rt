@@ -1,12 +1,14 @@
 // The host of one word.
 ghost use Rattle.std.specs.Prelude.{◌≡◌, ◌≤◌, ◌<◌, ◌⊎◌, ◌^◌, ℕ, Ok, Err, length, drop, IfOk, IfErr, IfSome};
 ghost use Rattle.std.specs.List.{list_all, list_any, slice_split, position_or_len};
+ghost use Rattle.base_types.specs.Limits.{slot_limit};
 ghost use Rattle.host_slots.specs.Hosts.{host_of, host_with_name, is_host_name, is_host_name_byte, is_digit, is_option, are_options, is_one_of, number_behind_mark, rest_at, number_in, default_limit};
 ghost use Rattle.host_slots.specs.Slots.{HasSlots};
 
 use crate::HostError;
 use crate::number::{is_digit, number_in};
 use base_types::Bytes;
+use base_types::limits::SLOT_LIMIT;
 use io_edges::Host;
 use std::alloc::Global;
 
@@ -15,9 +17,6 @@ const PORT: u32 = 3632;
 
 // The greatest port.
 const PORT_LIMIT: u32 = 65_535;
-
-// The greatest number of slots of a host.
-const SLOT_LIMIT: u32 = 64;
 
 // The slots of the own machine, and of any other host, where a word doesn't say how many.
 const OWN_SLOTS: u32 = 2;
@@ -102,7 +101,7 @@ fn is_name_byte(b: u8) -> bool
 // The slots of a host whose word doesn't say how many: two on the own machine, else four.
 fn default_limit(name: &[u8]) -> u32
     ensures default { result ≡ default_limit name.now }
-    ensures some { (1 ≤ result) × (result ≤ 64) }
+    ensures some { (1 ≤ result) × (result ≤ slot_limit) }
 {
     if name == b"localhost".as_slice() {
         OWN_SLOTS
