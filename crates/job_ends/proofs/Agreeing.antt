@@ -3,6 +3,7 @@ use Rattle.std.proofs.Common.{◌≡◌, ◌⊎◌, ℕ, ◌≤◌, List, [], �
 use Rattle.std.specs.List.{AllByRecursion}
 use Rattle.std.proofs.lemmas.Bool.{cases_lt}
 use Rattle.base_types.specs.Members.{Member}
+use Rattle.base_types.specs.Limits.{entry_limit}
 use Rattle.tree_model.specs.Paths.{Path}
 use Rattle.tree_model.specs.Entries.{Entries, makes_tree}
 use Rattle.tree_model.specs.Trees.{FileTree, IsTree, tree_of, entry_body, body_limit}
@@ -48,8 +49,8 @@ module _ (tree : FileTree) (budget : ℕ) (job : Job) (entries : Entries) (are :
     | inr fits ↦ fits
   ]
 
-  few : length entries ≤ 100000
-  few = elim (cases_lt 100000 (length entries)) [ inl many ↦ absurd (none refusal.Request (entries, are, inl many)) | inr le ↦ le ]
+  few : length entries ≤ entry_limit
+  few = elim (cases_lt entry_limit (length entries)) [ inl many ↦ absurd (none refusal.Request (entries, are, inl many)) | inr le ↦ le ]
 
   short : length (request_bytes job entries) ≤ most
   short = elim (cases_lt most (length (request_bytes job entries))) [ inl long ↦ absurd (none refusal.Request (entries, are, inr long)) | inr le ↦ le ]

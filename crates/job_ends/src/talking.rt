@@ -7,14 +7,15 @@ ghost use Rattle.job_frames.specs.Reply.{longest_reply};
 ghost use Rattle.job_ends.specs.Exchange.{replied, Began, ended_if, partly};
 
 use base_types::Bytes;
+use base_types::limits::TEXT_LIMIT;
 use io_edges::{Host, LinkFault, LinkState, Wire};
 use std::alloc::Global;
 
 // A request is sent in pieces of at most so many bytes.
 const PIECE: usize = 65_536;
 
-// One byte more than the longest reply has.
-const REPLY_LIMIT: usize = 67_108_913;
+// One byte more than the longest reply has: four tokens and a text.
+const REPLY_LIMIT: usize = TEXT_LIMIT + 49;
 
 /// The bytes that were received, and whether the host said that they are all. Where it didn't, they are more than any
 /// reply has.
