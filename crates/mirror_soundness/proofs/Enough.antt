@@ -1,6 +1,7 @@
 -- Preprocessing over the tree of a job's entries is preprocessing over the whole tree.
 use Rattle.std.proofs.Common.{◌≡◌, List, Option, Some, None, refl, sym, ap, subst}
 use Rattle.base_types.specs.Members.{Member}
+use Rattle.base_types.specs.Limits.{include_depth_limit}
 use Rattle.tree_model.specs.Paths.{Path}
 use Rattle.tree_model.specs.Trees.{tree_of}
 use Rattle.tree_model.specs.Frame.{HoldsOfLocated, LeadsOfLocated}
@@ -12,7 +13,7 @@ use Rattle.search_path.specs.Laws.{SearchesLocate, IsFoundInPart, IsFoundInNoPar
 use Rattle.search_path.specs.declared.asking.Visit.{Visit}
 use Rattle.macro_expand.specs.Laws.{ChoiceFactHolds}
 use Rattle.job_words.specs.JobOf.{JobData}
-use Rattle.daemon_cpp.specs.Prep.{World, PrepStep, Go, Stop, prepared, run_job, prep, world_of, depth_limit}
+use Rattle.daemon_cpp.specs.Prep.{World, PrepStep, Go, Stop, prepared, run_job, prep, world_of}
 use Rattle.sheet_build.specs.Laws.{PlacesLocate}
 use Rattle.sheet_build.specs.Sheet.{SheetData, sheet_of}
 use Rattle.closure_fixpoint.specs.Closure.{IsKnownSearch}
@@ -46,7 +47,7 @@ module _ (fact : ChoiceFactHolds) (outlines : OutlineHolds) (m g : World) (sheet
 
       go : (got : Option Hit) → g.find (source_ask job.source) ≡ got → run_job m job got ≡ run_job g job got
       go None is = refl
-      go (Some hit) is = ap prepared (job_alike fact outlines m g sheet job visits Home a depth_limit hit is).0
+      go (Some hit) is = ap prepared (job_alike fact outlines m g sheet job visits Home a include_depth_limit hit is).0
 
   kept_touched : (visit : Visit) (step : PrepStep) → Keeps (answers_by g sheet) job visits visit step → (l : Located) → Member l (touched_in step) → IsKnownSearch (answers_by g sheet) job visits l
   kept_touched visit (Go state) keeps = keeps.touched
@@ -60,8 +61,8 @@ module _ (fact : ChoiceFactHolds) (outlines : OutlineHolds) (m g : World) (sheet
       go : (got : Option Hit) → g.find (source_ask job.source) ≡ got → Member l (run_job g job got).touched → IsKnownSearch (answers_by g sheet) job visits l
       go None is n = elim n [ ]
       go (Some hit) is n =
-          kept_touched hit.0 (job_step job g depth_limit hit) (job_alike fact outlines m g sheet job visits Home a depth_limit hit is).1 l
-          (subst (λ (ls : List Located). Member l ls) (prepared_touched (job_step job g depth_limit hit)) n)
+          kept_touched hit.0 (job_step job g include_depth_limit hit) (job_alike fact outlines m g sheet job visits Home a include_depth_limit hit is).1 l
+          (subst (λ (ls : List Located). Member l ls) (prepared_touched (job_step job g include_depth_limit hit)) n)
 
 pub is_enough : ClosuresExist → PlacesLocate → ChoiceFactHolds → OutlineHolds → ListsMakeTrees → EntriesAreNodes → NodesAreEntries → TestsDecide → ParentsMakeTrees → IsFoundInPart → IsFoundInNoPart
     → HoldsOfLocated → LeadsOfLocated → SearchesLocate → MirrorIsEnough
