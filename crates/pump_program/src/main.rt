@@ -10,10 +10,12 @@ ghost use Rattle.std.specs.Prelude.{◌≡◌, ◌≤◌, ◌+◌, length, IfOk,
 ghost use Rattle.std.specs.List.{All};
 ghost use Rattle.std.specs.IoError.{error_kind};
 ghost use Rattle.std.specs.Process.{exit_status};
+ghost use Rattle.base_types.specs.Limits.{client_limit};
 ghost use Rattle.command_line.specs.Failures.{failure_status};
 ghost use Rattle.job_ends.specs.Outside.{seen_end};
 ghost use Rattle.job_ends.specs.Works.{IsFresh};
 
+use base_types::limits::CLIENT_LIMIT;
 use command_line::{ended, show, words_of};
 use daemon_serve::{MemWire, ServePeer};
 use host_tree::Folder;
@@ -60,9 +62,6 @@ several hold, it is the first of 5, 4, 6, 1";
 type HostTree = Cached<Folder<HostRuntime>>;
 
 type HostEnd = End<HostTree, MemWire<ServePeer>, FolderOuts<HostRuntime>>;
-
-// The most clients that words may ask for.
-const CLIENTS: usize = 64;
 
 fn main(rt: HostRuntime) -> ExitCode {
     match answer(&rt, &rt) {
@@ -139,7 +138,7 @@ fn run_over<T: Tree, W: Wire, O: Outs, S: Source, K: Sink, G: Progress, H: Threa
     progress: &mut G,
 ) -> u8
     requires some { 1 ≤ length ends.old.items }
-    requires few { length ends.old.items ≤ 64 }
+    requires few { length ends.old.items ≤ client_limit }
     requires fresh { All (λ end. IsFresh (seen_end T.told T.Tree.faults T.reads W.talk W.state W.Wire.faults O.kept O.Outs.faults end)) ends.old.items }
 {
     let mut spawner = MemSpawner::new(alloc, Vec::new(alloc));
@@ -157,15 +156,15 @@ fn run_over<T: Tree, W: Wire, O: Outs, S: Source, K: Sink, G: Progress, H: Threa
 
 // As many ends as there may be clients.
 fn new_ends(rt: &HostRuntime) -> io::Result<Vec<HostEnd>>
-    ensures number { IfOk result (λ ends. length ends.items ≡ 64) }
+    ensures number { IfOk result (λ ends. length ends.items ≡ client_limit) }
     ensures fresh { IfOk result (λ ends. All (λ end. IsFresh (seen_end ⟦<Cached<Folder<HostRuntime>> as Tree>⟧.told ⟦<Cached<Folder<HostRuntime>> as Tree>⟧.faults ⟦<Cached<Folder<HostRuntime>> as Tree>⟧.reads ⟦<MemWire<ServePeer> as Wire>⟧.talk ⟦<MemWire<ServePeer> as Wire>⟧.state ⟦<MemWire<ServePeer> as Wire>⟧.faults ⟦<FolderOuts<HostRuntime> as Outs>⟧.kept ⟦<FolderOuts<HostRuntime> as Outs>⟧.faults end)) ends.items) }
 {
-    more_ends(rt, Vec::new(rt.alloc()), CLIENTS)
+    more_ends(rt, Vec::new(rt.alloc()), CLIENT_LIMIT)
 }
 
 // These ends, and so many more.
 fn more_ends(rt: &HostRuntime, ends: Vec<HostEnd>, more: usize) -> io::Result<Vec<HostEnd>>
-    requires few { length ends.items + more ≤ 64 }
+    requires few { length ends.items + more ≤ client_limit }
     requires fresh { All (λ end. IsFresh (seen_end ⟦<Cached<Folder<HostRuntime>> as Tree>⟧.told ⟦<Cached<Folder<HostRuntime>> as Tree>⟧.faults ⟦<Cached<Folder<HostRuntime>> as Tree>⟧.reads ⟦<MemWire<ServePeer> as Wire>⟧.talk ⟦<MemWire<ServePeer> as Wire>⟧.state ⟦<MemWire<ServePeer> as Wire>⟧.faults ⟦<FolderOuts<HostRuntime> as Outs>⟧.kept ⟦<FolderOuts<HostRuntime> as Outs>⟧.faults end)) ends.items }
     ensures number { IfOk result (λ all. length all.items ≡ length ends.items + more) }
     ensures fresh { IfOk result (λ all. All (λ end. IsFresh (seen_end ⟦<Cached<Folder<HostRuntime>> as Tree>⟧.told ⟦<Cached<Folder<HostRuntime>> as Tree>⟧.faults ⟦<Cached<Folder<HostRuntime>> as Tree>⟧.reads ⟦<MemWire<ServePeer> as Wire>⟧.talk ⟦<MemWire<ServePeer> as Wire>⟧.state ⟦<MemWire<ServePeer> as Wire>⟧.faults ⟦<FolderOuts<HostRuntime> as Outs>⟧.kept ⟦<FolderOuts<HostRuntime> as Outs>⟧.faults end)) all.items) }
