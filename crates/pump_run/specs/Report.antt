@@ -2,6 +2,7 @@
 use Rattle.std.specs.Prelude.{ℕ, List, [], ◌∷◌, ◌++◌, length, map, codes, Bool, true, false}
 use Rattle.std.specs.List.{flat_map, count_by}
 use Rattle.std.specs.Fmt.{decimal}
+use Rattle.base_types.specs.Ascii as ascii
 use Rattle.job_ends.specs.declared.record.Done.{Done}
 use Rattle.closure_fixpoint.specs.declared.job_analysis.Refusal.{Refusal}
 use Rattle.closure_fixpoint.specs.declared.job_analysis.Refusal.TheVariants as refusal
@@ -62,7 +63,7 @@ after_text end.Memory = []
 
 -- the lines of a job
 unfoldable pub job_text : Done → List ℕ
-job_text done = codes "job " ++ (decimal done.job ++ (codes " " ++ (outcome_text done.outcome ++ (codes " " ++ (way_text done.way ++ (10 ∷ after_text done.outcome))))))
+job_text done = codes "job " ++ (decimal done.job ++ (codes " " ++ (outcome_text done.outcome ++ (codes " " ++ (way_text done.way ++ (ascii.newline ∷ after_text done.outcome))))))
 
 abbrev pub is_remote : Way → Bool
 is_remote Remote = true

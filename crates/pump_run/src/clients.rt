@@ -1,6 +1,7 @@
 // The jobs of a run, done by clients at the first ends.
 ghost use Rattle.std.specs.Prelude.{◌≡◌, ◌≤◌, ◌<◌, length, map, IfOk, OnErr};
 ghost use Rattle.std.specs.List.{All, AllByRecursion};
+ghost use Rattle.base_types.specs.Limits.{client_limit, host_limit, job_limit};
 ghost use Rattle.host_slots.specs.Slots.{HasSlots};
 ghost use Rattle.job_ends.specs.Outside.{seen_end};
 ghost use Rattle.job_ends.specs.Works.{IsFresh};
@@ -22,13 +23,13 @@ pub fn run_clients<T: Tree, W: Wire, O: Outs, G: Progress>(
     jobs: &[Job],
     progress: &mut G,
 ) -> Result<(Vec<Done>, Totals), AllocError>
-    requires few { length ends.old ≤ 64 }
+    requires few { length ends.old ≤ client_limit }
     requires fresh { AllByRecursion IsFresh (map (seen_end T.told T.Tree.faults T.reads W.talk W.state W.Wire.faults O.kept O.Outs.faults) ends.old) }
     requires clients { (1 ≤ asked.now.clients) × (asked.now.clients ≤ length ends.old) }
     requires order { All (λ client. client < asked.now.clients) asked.now.order.items }
-    requires hosts { (1 ≤ length asked.now.hosts.items) × (length asked.now.hosts.items ≤ 64) }
+    requires hosts { (1 ≤ length asked.now.hosts.items) × (length asked.now.hosts.items ≤ host_limit) }
     requires slots { All HasSlots asked.now.hosts.items }
-    requires jobs { length jobs.now ≤ 20000 }
+    requires jobs { length jobs.now ≤ job_limit }
     ensures did { let seen = seen_end T.told T.Tree.faults T.reads W.talk W.state W.Wire.faults O.kept O.Outs.faults in
         IfOk result (λ r. ClientsDid T.Of.named W.peer asked.now.budget asked.now.clients jobs.now asked.now.hosts.items r.0.items r.1 (map seen ends.old) (map seen ends.new)) }
     ensures each { length ends.new ≡ length ends.old }

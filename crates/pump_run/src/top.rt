@@ -1,6 +1,7 @@
 // The top call.
 ghost use Rattle.std.specs.Prelude.{◌≡◌, ◌<◌, ◌≤◌, [], length, map};
 ghost use Rattle.std.specs.List.{AllByRecursion};
+ghost use Rattle.base_types.specs.Limits.{client_limit};
 ghost use Rattle.job_ends.specs.Outside.{seen_end};
 ghost use Rattle.job_ends.specs.Works.{IsFresh};
 ghost use Rattle.pump_run.specs.Run.{IsRun, outside, pump_given};
@@ -44,7 +45,7 @@ pub fn pump<T: Tree, W: Wire, O: Outs, P: Spawner, S: Source, K: Sink, R: Thread
     report: &mut K,
 ) -> u8
     requires some { 1 ≤ length ends.old.items }
-    requires few { length ends.old.items ≤ 64 }
+    requires few { length ends.old.items ≤ client_limit }
     requires fresh { AllByRecursion IsFresh (map (seen_end T.told T.Tree.faults T.reads W.talk W.state W.Wire.faults O.kept O.Outs.faults) ends.old.items) }
     requires idle { P.running spawner.old ≡ [] }
     ensures run { let seen = seen_end T.told T.Tree.faults T.reads W.talk W.state W.Wire.faults O.kept O.Outs.faults in
@@ -86,7 +87,7 @@ pub fn pump_watched<
     progress: &mut G,
 ) -> u8
     requires some { 1 ≤ length ends.old.items }
-    requires few { length ends.old.items ≤ 64 }
+    requires few { length ends.old.items ≤ client_limit }
     requires fresh { AllByRecursion IsFresh (map (seen_end T.told T.Tree.faults T.reads W.talk W.state W.Wire.faults O.kept O.Outs.faults) ends.old.items) }
     requires idle { P.running spawner.old ≡ [] }
     ensures run { let seen = seen_end T.told T.Tree.faults T.reads W.talk W.state W.Wire.faults O.kept O.Outs.faults in
