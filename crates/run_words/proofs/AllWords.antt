@@ -4,6 +4,7 @@ use Rattle.std.specs.Prelude.{codes}
 use Rattle.std.specs.List.{list_all}
 use Rattle.std.specs.Option.{option_and_then, unwrap_or}
 use Rattle.std.proofs.lemmas.List.{take_rest}
+use Rattle.base_types.specs.Limits.{default_budget}
 use Rattle.tree_model.specs.Paths.{Text}
 use Rattle.io_edges.specs.declared.wire.Host.{Host}
 use Rattle.run_words.specs.Asked.{FlagsGiven, nothing_given, order_in, settings_by, settings_given, settings_of, settings_with, with_flags}
@@ -11,12 +12,12 @@ use Rattle.run_words.specs.Asked.{FlagsGiven, nothing_given, order_in, settings_
 -- ---- what an order and flags ask for ----
 
 module _ (ends : ℕ) (order : List ℕ) (given : FlagsGiven) (hosts : List Host) (clients budget : ℕ)
-    (named : given.hosts ≡ Some hosts) (many : clients ≡ unwrap_or given.clients ends) (work : budget ≡ unwrap_or given.budget 4096) where
+    (named : given.hosts ≡ Some hosts) (many : clients ≡ unwrap_or given.clients ends) (work : budget ≡ unwrap_or given.budget default_budget) where
   asks : settings_with ends order hosts clients budget ≡ settings_given ends order given
   asks =
       ap (λ n. settings_with ends order hosts n budget) many
       ∙ ap (λ n. settings_with ends order hosts (unwrap_or given.clients ends) n) work
-      ∙ sym (ap (option_and_then (λ hosts. settings_with ends order hosts (unwrap_or given.clients ends) (unwrap_or given.budget 4096))) named)
+      ∙ sym (ap (option_and_then (λ hosts. settings_with ends order hosts (unwrap_or given.clients ends) (unwrap_or given.budget default_budget))) named)
 
   module _ (read : List ℕ) (same : read ≡ order) (fits : Bool) (is : fits ≡ (nat_le clients ends && list_all (λ client. nat_lt client clients) read)) where
     chosen : (b : Bool) → fits ≡ b → (if b then Some (record { order = order; hosts = hosts; clients = clients; budget = budget }) else None) ≡ settings_given ends order given

@@ -1,9 +1,11 @@
 -- What the words of the top call ask for.
-use Rattle.std.specs.Prelude.{ℕ, List, [], ◌∷◌, length, Bool, ◌&&◌, ◌||◌, ◌==◌, if◌then◌else◌, nat_le, nat_lt, bytes_eq, codes, slice_index, Option, None, Some, Result, Ok, Err}
+use Rattle.std.specs.Prelude.{ℕ, ◌-◌, List, [], ◌∷◌, length, Bool, ◌&&◌, ◌||◌, ◌==◌, if◌then◌else◌, nat_le, nat_lt, bytes_eq, codes, slice_index, Option, None, Some, Result, Ok, Err}
 use Rattle.std.specs.List.{list_all, slice_split}
 use Rattle.std.specs.Option.{option_and_then, unwrap_or}
 use Rattle.std.specs.Char.{is_ascii_digit}
 use Rattle.std.specs.Str.Parse.{digits_value}
+use Rattle.base_types.specs.Limits.{client_limit, order_limit, default_budget, budget_limit}
+use Rattle.base_types.specs.Ascii as ascii
 use Rattle.tree_model.specs.Paths.{Text}
 use Rattle.io_edges.specs.declared.wire.Host.{Host}
 use Rattle.host_slots.specs.declared.hosts.HostError.{HostError}
@@ -20,7 +22,7 @@ pub record Settings : Type 0 where
 
 -- decimal digits without a sign, and without a zero in front of others
 abbrev pub is_decimal : Text → Bool
-is_decimal word = nat_lt 0 (length word) && (list_all is_ascii_digit word && ((length word == 1) || (nat_lt 48 (slice_index word 0))))
+is_decimal word = nat_lt 0 (length word) && (list_all is_ascii_digit word && ((length word == 1) || (nat_lt ascii.zero_digit (slice_index word 0))))
 
 -- a number within these limits
 unfoldable pub number_between : ℕ → ℕ → Text → Option ℕ
@@ -37,15 +39,15 @@ number_in_front (Some n) (Some numbers) = Some (n ∷ numbers)
 -- the numbers of clients that words name
 unfoldable pub numbers_in : List Text → Option (List ℕ)
 numbers_in [] = Some []
-numbers_in (word ∷ words) = number_in_front (number_between 0 63 word) (numbers_in words)
+numbers_in (word ∷ words) = number_in_front (number_between 0 (client_limit - 1) word) (numbers_in words)
 
 -- at most 1,000,000 of them
 abbrev pub few_in : List Text → Option (List ℕ)
-few_in words = if nat_le (length words) 1000000 then numbers_in words else None
+few_in words = if nat_le (length words) order_limit then numbers_in words else None
 
 -- `-` for no order, or numbers of clients with a `,` between them
 unfoldable pub order_in : Text → Option (List ℕ)
-order_in word = if bytes_eq word (codes "-") then Some [] else few_in (slice_split (λ b. b == 44) word)
+order_in word = if bytes_eq word (codes "-") then Some [] else few_in (slice_split (λ b. b == ascii.comma) word)
 
 -- ---- the word behind each flag ----
 
@@ -59,11 +61,11 @@ hosts_in word = hosts_read (hosts_of word)
 
 -- 1 to 64 clients
 abbrev pub clients_in : Text → Option ℕ
-clients_in word = number_between 1 64 word
+clients_in word = number_between 1 client_limit word
 
 -- a budget from 1 to 65,536
 abbrev pub budget_in : Text → Option ℕ
-budget_in word = number_between 1 65536 word
+budget_in word = number_between 1 budget_limit word
 
 -- ---- the flags ----
 
@@ -118,7 +120,7 @@ settings_with ends order hosts clients budget =
 
 abbrev pub settings_given : ℕ → List ℕ → FlagsGiven → Option Settings
 settings_given ends order given =
-    option_and_then (λ hosts. settings_with ends order hosts (unwrap_or given.clients ends) (unwrap_or given.budget 4096)) given.hosts
+    option_and_then (λ hosts. settings_with ends order hosts (unwrap_or given.clients ends) (unwrap_or given.budget default_budget)) given.hosts
 
 abbrev pub settings_by : ℕ → Option (List ℕ) → Option FlagsGiven → Option Settings
 settings_by ends None given = None

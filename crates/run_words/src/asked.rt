@@ -2,17 +2,16 @@
 ghost use Rattle.std.specs.Prelude.{◌≡◌, ◌≤◌, ◌<◌, ◌&&◌, length, map, nat_le, nat_lt, IfOk, IfSome, Some};
 ghost use Rattle.std.specs.List.{All, list_all};
 ghost use Rattle.std.specs.Option.{option_map};
+ghost use Rattle.base_types.specs.Limits.{client_limit, host_limit, budget_limit};
 ghost use Rattle.host_slots.specs.Slots.{HasSlots};
 ghost use Rattle.run_words.specs.Asked.{settings_of, settings_by, settings_with, settings_given, order_in, with_flags, nothing_given};
 ghost use Rattle.run_words.specs.parts.Flagged.{given_by, settings_by_asked, FlagsFit};
 
 use crate::flags::{Flags, flags_in};
 use crate::order::order_in;
+use base_types::limits::DEFAULT_BUDGET;
 use io_edges::Host;
 use std::alloc::{AllocError, Global};
-
-// The budget of an analysis where the words name none.
-const BUDGET: u32 = 4096;
 
 /// What words ask for: the numbers of clients whose turns come first, the hosts, how many clients there are, and the budget
 /// of an analysis.
@@ -30,13 +29,13 @@ pub struct Asked {
 /// (1 to 65,536; by default 4,096), each at most once and in any order; only `--hosts` must be there. Time is proportional to
 /// the bytes of the words. The only error is want of memory.
 pub fn asked_in(alloc: Global, ends: usize, words: &[&str]) -> Result<Option<Asked>, AllocError>
-    requires few { ends ≤ 64 }
+    requires few { ends ≤ client_limit }
     ensures asked { IfOk result (λ asked. option_map settings_by_asked asked ≡ settings_of ends (map (λ word. word.now) words.now)) }
     ensures clients { IfOk result (λ asked. IfSome asked (λ a. (1 ≤ ends → 1 ≤ a.clients) × (a.clients ≤ ends))) }
     ensures order { IfOk result (λ asked. IfSome asked (λ a. All (λ client. client < a.clients) a.order.items)) }
-    ensures hosts { IfOk result (λ asked. IfSome asked (λ a. (1 ≤ length a.hosts.items) × (length a.hosts.items ≤ 64))) }
+    ensures hosts { IfOk result (λ asked. IfSome asked (λ a. (1 ≤ length a.hosts.items) × (length a.hosts.items ≤ host_limit))) }
     ensures slots { IfOk result (λ asked. IfSome asked (λ a. All HasSlots a.hosts.items)) }
-    ensures budget { IfOk result (λ asked. IfSome asked (λ a. (1 ≤ a.budget) × (a.budget ≤ 65536))) }
+    ensures budget { IfOk result (λ asked. IfSome asked (λ a. (1 ≤ a.budget) × (a.budget ≤ budget_limit))) }
 {
     let [command, order, flags @ ..] = words else {
         return Ok(None);
@@ -55,14 +54,14 @@ pub fn asked_in(alloc: Global, ends: usize, words: &[&str]) -> Result<Option<Ask
 
 // What an order and flags ask for, or None where no hosts are given or clients are missing.
 fn asked_by(ends: usize, order: Vec<u32>, flags: Flags) -> Option<Asked>
-    requires few { ends ≤ 64 }
+    requires few { ends ≤ client_limit }
     requires fits { FlagsFit flags }
     ensures asked { option_map settings_by_asked result ≡ settings_given ends order.items (given_by flags) }
     ensures clients { IfSome result (λ a. (1 ≤ ends → 1 ≤ a.clients) × (a.clients ≤ ends)) }
     ensures order { IfSome result (λ a. All (λ client. client < a.clients) a.order.items) }
-    ensures hosts { IfSome result (λ a. (1 ≤ length a.hosts.items) × (length a.hosts.items ≤ 64)) }
+    ensures hosts { IfSome result (λ a. (1 ≤ length a.hosts.items) × (length a.hosts.items ≤ host_limit)) }
     ensures slots { IfSome result (λ a. All HasSlots a.hosts.items) }
-    ensures budget { IfSome result (λ a. (1 ≤ a.budget) × (a.budget ≤ 65536)) }
+    ensures budget { IfSome result (λ a. (1 ≤ a.budget) × (a.budget ≤ budget_limit)) }
 {
     let Flags {
         hosts,
@@ -80,7 +79,7 @@ fn asked_by(ends: usize, order: Vec<u32>, flags: Flags) -> Option<Asked>
         order,
         hosts,
         clients,
-        budget: budget.unwrap_or(BUDGET),
+        budget: budget.unwrap_or(DEFAULT_BUDGET),
     })
 }
 

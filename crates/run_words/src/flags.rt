@@ -2,20 +2,16 @@
 ghost use Rattle.std.specs.Prelude.{◌≡◌, ◌≤◌, length, map, Some, IfOk, IfSome};
 ghost use Rattle.std.specs.List.{All};
 ghost use Rattle.std.specs.Option.{option_map};
+ghost use Rattle.base_types.specs.Limits.{host_limit};
 ghost use Rattle.host_slots.specs.Slots.{HasSlots};
 ghost use Rattle.run_words.specs.Asked.{with_hosts, with_clients, with_budget, with_flag, with_flags, nothing_given, hosts_in};
 ghost use Rattle.run_words.specs.parts.Flagged.{given_by, FlagsFit};
 
 use crate::numbers::number_in;
+use base_types::limits::{BUDGET_LIMIT, CLIENT_LIMIT};
 use host_slots::{HostError, read_hosts};
 use io_edges::Host;
 use std::alloc::{AllocError, Global};
-
-// The greatest number of clients.
-const CLIENTS: u32 = 64;
-
-// The greatest budget of an analysis.
-const GREATEST: u32 = 65_536;
 
 /// What flags give, each of which may stand there once: hosts, how many clients there are, and a budget.
 #[derive(Drop)]
@@ -93,7 +89,7 @@ fn with_hosts(alloc: Global, flags: Flags, word: &str) -> Result<Option<Flags>, 
 // The hosts that a word names.
 fn hosts_in(alloc: Global, word: &str) -> Result<Option<Vec<Host>>, AllocError>
     ensures hosts { IfOk result (λ hosts. option_map (λ hosts. hosts.items) hosts ≡ hosts_in word.now) }
-    ensures few { IfOk result (λ hosts. IfSome hosts (λ hosts. (1 ≤ length hosts.items) × (length hosts.items ≤ 64))) }
+    ensures few { IfOk result (λ hosts. IfSome hosts (λ hosts. (1 ≤ length hosts.items) × (length hosts.items ≤ host_limit))) }
     ensures slots { IfOk result (λ hosts. IfSome hosts (λ hosts. All HasSlots hosts.items)) }
 {
     match read_hosts(alloc, word.as_bytes()) {
@@ -111,7 +107,7 @@ fn with_clients(flags: Flags, word: &str) -> Option<Flags>
     if flags.clients.is_some() {
         return None;
     }
-    match number_in(word, 1, CLIENTS) {
+    match number_in(word, 1, CLIENT_LIMIT as u32) {
         Some(clients) => Some(Flags {
             clients: Some(clients),
             ..flags
@@ -128,7 +124,7 @@ fn with_budget(flags: Flags, word: &str) -> Option<Flags>
     if flags.budget.is_some() {
         return None;
     }
-    match number_in(word, 1, GREATEST) {
+    match number_in(word, 1, BUDGET_LIMIT) {
         Some(budget) => Some(Flags {
             budget: Some(budget),
             ..flags

@@ -2,6 +2,7 @@
 ghost use Rattle.std.specs.Prelude.{◌≡◌, ◌≤◌, ◌&&◌, ◌||◌, ◌==◌, if◌then◌else◌, length, nat_le, nat_lt, slice_index, Some, None, IfSome};
 ghost use Rattle.std.specs.List.{list_all};
 ghost use Rattle.std.specs.Char.{is_ascii_digit};
+ghost use Rattle.base_types.specs.Ascii as ascii;
 ghost use Rattle.run_words.specs.Asked.{is_decimal, number_between};
 
 // The number that a word says, within these limits.
@@ -44,7 +45,7 @@ fn has_digits(word: &[u8]) -> bool
 
 // One digit, or a first one that is no zero.
 fn has_first_digit(word: &[u8]) -> bool
-    ensures { result ≡ ((length word.now == 1) || nat_lt 48 (slice_index word.now 0)) }
+    ensures { result ≡ ((length word.now == 1) || nat_lt ascii.zero_digit (slice_index word.now 0)) }
 {
     match word {
         [] => false,

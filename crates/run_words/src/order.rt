@@ -2,16 +2,15 @@
 ghost use Rattle.std.specs.Prelude.{◌≡◌, ◌==◌, length, IfOk};
 ghost use Rattle.std.specs.List.{slice_split};
 ghost use Rattle.std.specs.Option.{option_map};
+ghost use Rattle.base_types.specs.Ascii as ascii;
 ghost use Rattle.run_words.specs.Asked.{numbers_in, order_in};
 
 use crate::numbers::number_in;
+use base_types::limits::{CLIENT_LIMIT, ORDER_LIMIT};
 use std::alloc::{AllocError, Global};
 
 // The greatest number of a client.
-const LAST: u32 = 63;
-
-// How many numbers an order may have.
-const ORDER_LIMIT: usize = 1_000_000;
+const LAST: u32 = CLIENT_LIMIT as u32 - 1;
 
 /// The numbers of clients that a word names: none for `-`, and None where it is no order.
 #[tactic(auto, unfolding(crate::specs::Asked::order_in))]
@@ -30,14 +29,14 @@ pub fn order_in(alloc: Global, word: &str) -> Result<Option<Vec<u32>>, AllocErro
 
 // How many parts a word has between commas.
 fn parts_of(word: &str) -> usize
-    ensures { result ≡ length (slice_split (λ b. b == 44) word.now) }
+    ensures { result ≡ length (slice_split (λ b. b == ascii.comma) word.now) }
 {
     word.as_bytes().split(|b| *b == b',').count()
 }
 
 // The numbers that a word of so many parts names.
 fn numbers_in(alloc: Global, word: &str, parts: usize) -> Result<Option<Vec<u32>>, AllocError>
-    ensures { IfOk result (λ numbers. option_map (λ numbers. numbers.items) numbers ≡ numbers_in (slice_split (λ b. b == 44) word.now)) }
+    ensures { IfOk result (λ numbers. option_map (λ numbers. numbers.items) numbers ≡ numbers_in (slice_split (λ b. b == ascii.comma) word.now)) }
 {
     let mut numbers = Vec::with_capacity(alloc, parts)?;
     let mut rest = word;
