@@ -1,17 +1,18 @@
 -- Which texts are preprocessing tokens, and of which kind (ISO C 6.4). A text is a list of bytes.
 use Rattle.std.specs.Prelude.{ℕ, suc, Bool, true, false, not, ◌&&◌, ◌||◌, List, [], ◌∷◌, length, drop, if◌then◌else◌, nat_le, ◌==◌, nat_eq, Option, Some, None, codes, bytes_eq}
 use Rattle.std.specs.List.{list_all, list_any, starts_with}
+use Rattle.base_types.specs.Ascii as ascii
 use Rattle.pp_tokens.specs.declared.token.Kind.{Kind}
 use Rattle.pp_tokens.specs.declared.token.Kind.TheVariants.{Ident, Number, Char, Str, Punct, Other}
 
 -- a decimal digit (5.2.1)
 abbrev pub is_digit : ℕ → Bool
-is_digit b = nat_le 48 b && nat_le b 57
+is_digit b = nat_le ascii.zero_digit b && nat_le b ascii.nine_digit
 
 -- a letter, `_`, `$` or a byte from 128: what an identifier begins with (6.4.2.1)
 abbrev pub is_identifier_start : ℕ → Bool
 is_identifier_start b =
-    (nat_le 97 b && nat_le b 122) || ((nat_le 65 b && nat_le b 90) || ((b == 95) || ((b == 36) || nat_le 128 b)))
+    (nat_le ascii.lower_a b && nat_le b ascii.lower_z) || ((nat_le ascii.upper_a b && nat_le b ascii.upper_z) || ((b == ascii.underscore) || ((b == ascii.dollar) || nat_le 128 b)))
 
 -- what an identifier goes on with (6.4.2.1)
 abbrev pub is_identifier_byte : ℕ → Bool
@@ -19,10 +20,10 @@ is_identifier_byte b = is_identifier_start b || is_digit b
 
 -- white space within a line: space, tab, vertical tab, form feed, and a carriage return that ends no line (6.4)
 abbrev pub is_white : ℕ → Bool
-is_white b = (b == 32) || ((b == 9) || ((b == 11) || ((b == 12) || (b == 13))))
+is_white b = (b == ascii.space) || ((b == ascii.tab) || ((b == ascii.vertical_tab) || ((b == ascii.form_feed) || (b == ascii.carriage_return))))
 
 abbrev pub is_newline : ℕ → Bool
-is_newline b = b == 10
+is_newline b = b == ascii.newline
 
 -- an identifier (6.4.2.1)
 unfoldable pub is_identifier : List ℕ → Bool
@@ -31,14 +32,14 @@ is_identifier (b ∷ bs) = is_identifier_start b && list_all is_identifier_byte 
 
 -- after e, E, p or P a sign belongs to the number (6.4.8)
 abbrev pub is_exponent : ℕ → Bool
-is_exponent b = (b == 101) || ((b == 69) || ((b == 112) || (b == 80)))
+is_exponent b = (b == ascii.lower_e) || ((b == ascii.upper_e) || ((b == ascii.lower_p) || (b == ascii.upper_p)))
 
 abbrev pub is_sign : ℕ → Bool
-is_sign b = (b == 43) || (b == 45)
+is_sign b = (b == ascii.plus) || (b == ascii.minus)
 
 -- b may stand in a number right after the byte a (6.4.8)
 abbrev pub continues_number : ℕ → ℕ → Bool
-continues_number a b = is_identifier_byte b || ((b == 46) || (is_sign b && is_exponent a))
+continues_number a b = is_identifier_byte b || ((b == ascii.dot) || (is_sign b && is_exponent a))
 
 -- each of the bytes may stand in a number right after the one before it, the first of them after a (6.4.8)
 unfoldable pub number_goes_on : ℕ → List ℕ → Bool
@@ -57,7 +58,7 @@ begins_with_digit (b ∷ bs) = is_digit b
 -- a preprocessing number: a digit, or `.` and a digit, and what goes on (6.4.8)
 unfoldable pub is_number : List ℕ → Bool
 is_number [] = false
-is_number (b ∷ bs) = (is_digit b || ((b == 46) && begins_with_digit bs)) && number_goes_on b bs
+is_number (b ∷ bs) = (is_digit b || ((b == ascii.dot) && begins_with_digit bs)) && number_goes_on b bs
 
 abbrev pub is_empty : List ℕ → Bool
 is_empty [] = true
@@ -70,7 +71,7 @@ closes quote escaped [] = false
 closes quote true (b ∷ bs) = not (is_newline b) && closes quote false bs
 closes quote false (b ∷ bs) =
     if b == quote then is_empty bs
-    else (not (is_newline b) && closes quote (b == 92) bs)
+    else (not (is_newline b) && closes quote (b == ascii.backslash) bs)
 
 -- quote, content, quote
 abbrev pub is_quoted : ℕ → List ℕ → Bool
@@ -84,11 +85,11 @@ is_literal prefixes quote t =
 
 -- a string literal (6.4.5)
 unfoldable pub is_string : List ℕ → Bool
-is_string t = is_literal (codes "u8" ∷ codes "u" ∷ codes "U" ∷ codes "L" ∷ []) 34 t
+is_string t = is_literal (codes "u8" ∷ codes "u" ∷ codes "U" ∷ codes "L" ∷ []) ascii.quote t
 
 -- a character constant (6.4.4.4)
 unfoldable pub is_character : List ℕ → Bool
-is_character t = is_literal (codes "u" ∷ codes "U" ∷ codes "L" ∷ []) 39 t
+is_character t = is_literal (codes "u" ∷ codes "U" ∷ codes "L" ∷ []) ascii.apostrophe t
 
 -- The text is what may stand in a header name behind its first delimiter, the last one included (6.4.7).
 unfoldable pub closes_header : ℕ → List ℕ → Bool
@@ -104,7 +105,7 @@ is_delimited opening closing (b ∷ bs) =
 
 -- a header name: `<`, at least one byte, `>`; or the same between two `"` (6.4.7)
 unfoldable pub is_header : List ℕ → Bool
-is_header t = is_delimited 60 62 t || is_delimited 34 34 t
+is_header t = is_delimited ascii.less ascii.greater t || is_delimited ascii.quote ascii.quote t
 
 -- the punctuators, digraphs among them (6.4.6)
 abbrev pub punctuators : List (List ℕ)

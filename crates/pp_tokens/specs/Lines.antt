@@ -2,6 +2,7 @@
 -- comments and tokens, and these are logical lines of tokens.
 use Rattle.std.specs.Prelude.{◌≡◌, ◌≢◌, ℕ, zero, suc, ◌-◌, Bool, true, false, not, ◌&&◌, ◌||◌, List, [], ◌∷◌, ◌++◌, map, length, take, if◌then◌else◌, ◌==◌, nat_eq, Option, Some, None, codes, bytes_eq, ◌⊎◌, unwrap_or, option_map}
 use Rattle.std.specs.List.{starts_with, list_all, flat_map}
+use Rattle.base_types.specs.Ascii as ascii
 use Rattle.pp_tokens.specs.declared.token.Kind.{Kind}
 use Rattle.pp_tokens.specs.declared.token.Token.{Token}
 use Rattle.pp_tokens.specs.declared.token.Kind.TheVariants.{Header}
@@ -50,11 +51,11 @@ behind x y test (a ∷ b ∷ bs) = (a == x) && ((b == y) && test bs)
 
 -- `/*` with its `*/`, or `//` and what is left of its line
 unfoldable pub is_comment : List ℕ → Bool
-is_comment t = behind 47 42 ends_comment t || behind 47 47 (list_all (λ b. not (is_newline b))) t
+is_comment t = behind ascii.slash ascii.star ends_comment t || behind ascii.slash ascii.slash (list_all (λ b. not (is_newline b))) t
 
 -- `/*` without a `*/`
 unfoldable pub is_open_comment : List ℕ → Bool
-is_open_comment = behind 47 42 (λ bs. not (has_end bs))
+is_open_comment = behind ascii.slash ascii.star (λ bs. not (has_end bs))
 
 abbrev pub is_one : (ℕ → Bool) → List ℕ → Bool
 is_one test [] = false

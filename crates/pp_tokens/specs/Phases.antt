@@ -2,6 +2,7 @@
 -- each with the physical line on which it stands.
 use Rattle.std.specs.Prelude.{ℕ, ◌+◌, Bool, ◌&&◌, List, [], ◌∷◌, map, if◌then◌else◌, ◌==◌, nat_eq, Option, Some, None}
 use Rattle.std.specs.List.{starts_with}
+use Rattle.base_types.specs.Ascii as ascii
 
 -- a byte of the source, and its physical line, from 1
 pub record Cell : Type 0 where
@@ -18,30 +19,30 @@ bytes = map (λ c. c.byte)
 -- A last line without a line feed gets one; an empty body has no line (5.1.1.2 paragraph 2).
 unfoldable pub ended : List ℕ → List ℕ
 ended [] = []
-ended (b ∷ []) = if b == 10 then b ∷ [] else b ∷ 10 ∷ []
+ended (b ∷ []) = if b == ascii.newline then b ∷ [] else b ∷ ascii.newline ∷ []
 ended (b ∷ c ∷ bs) = b ∷ ended (c ∷ bs)
 
 -- a carriage return right before a newline is part of it (phase 1)
 unfoldable pub with_newlines : List ℕ → List ℕ
 with_newlines [] = []
 with_newlines (b ∷ bs) =
-    if (b == 13) && starts_with nat_eq bs (10 ∷ []) then with_newlines bs else b ∷ with_newlines bs
+    if (b == ascii.carriage_return) && starts_with nat_eq bs (ascii.newline ∷ []) then with_newlines bs else b ∷ with_newlines bs
 
 -- each byte with its line: one more after each newline
 unfoldable pub numbered : ℕ → List ℕ → List Cell
 numbered line [] = []
-numbered line (b ∷ bs) = cell b line ∷ numbered (if b == 10 then line + 1 else line) bs
+numbered line (b ∷ bs) = cell b line ∷ numbered (if b == ascii.newline then line + 1 else line) bs
 
 -- what `??` and this byte stand for (5.2.1.1)
 abbrev pub trigraph : ℕ → Option ℕ
 trigraph b =
-    if b == 61 then Some 35 else (if b == 40 then Some 91 else (if b == 47 then Some 92
-    else (if b == 41 then Some 93 else (if b == 39 then Some 94 else (if b == 60 then Some 123
-    else (if b == 33 then Some 124 else (if b == 62 then Some 125 else (if b == 45 then Some 126 else None))))))))
+    if b == ascii.equals then Some ascii.hash else (if b == ascii.open_parenthesis then Some ascii.open_bracket else (if b == ascii.slash then Some ascii.backslash
+    else (if b == ascii.close_parenthesis then Some ascii.close_bracket else (if b == ascii.apostrophe then Some ascii.caret else (if b == ascii.less then Some ascii.open_brace
+    else (if b == ascii.exclamation then Some ascii.bar else (if b == ascii.greater then Some ascii.close_brace else (if b == ascii.minus then Some ascii.tilde else None))))))))
 
 -- the character that a trigraph of these three bytes stands for
 abbrev pub trigraph_of : ℕ → ℕ → ℕ → Option ℕ
-trigraph_of a b c = if (a == 63) && (b == 63) then trigraph c else None
+trigraph_of a b c = if (a == ascii.question) && (b == ascii.question) then trigraph c else None
 
 -- trigraphs replaced, from left to right (phase 1)
 unfoldable pub without_trigraphs : List Cell → List Cell
@@ -58,7 +59,7 @@ without_trigraphs (c ∷ d ∷ e ∷ cs) =
 unfoldable pub spliced : List Cell → List Cell
 spliced [] = []
 spliced (c ∷ []) = c ∷ []
-spliced (c ∷ d ∷ cs) = if (c.byte == 92) && (d.byte == 10) then spliced cs else c ∷ spliced (d ∷ cs)
+spliced (c ∷ d ∷ cs) = if (c.byte == ascii.backslash) && (d.byte == ascii.newline) then spliced cs else c ∷ spliced (d ∷ cs)
 
 -- The text of a file after phases 1 and 2. The missing last line feed is added first, so a `\` at the very end
 -- is spliced away, and a carriage return there is part of the newline. Comments stand in it as they are.

@@ -2,11 +2,12 @@
 -- elsewhere, so that translation phases 1 and 2 leave them as they are.
 use Rattle.std.specs.Prelude.{ℕ, Bool, true, not, ◌&&◌, ◌||◌, List, [], ◌∷◌, ◌++◌, ◌-◌, length, take, drop, if◌then◌else◌, nat_le, ◌==◌, nat_eq, codes, bytes_eq}
 use Rattle.std.specs.List.{list_all, list_any, starts_with}
+use Rattle.base_types.specs.Ascii as ascii
 use Rattle.pp_tokens.specs.Grammar.{is_digit}
 
 -- a letter, a digit or `_`
 abbrev pub is_word_byte : ℕ → Bool
-is_word_byte b = (nat_le 97 b && nat_le b 122) || ((nat_le 65 b && nat_le b 90) || (is_digit b || (b == 95)))
+is_word_byte b = (nat_le ascii.lower_a b && nat_le b ascii.lower_z) || ((nat_le ascii.upper_a b && nat_le b ascii.upper_z) || (is_digit b || (b == ascii.underscore)))
 
 -- one of `;` `,` `(` `)` `{` `}` `[` `]`
 abbrev pub is_text_mark : ℕ → Bool
@@ -14,11 +15,11 @@ is_text_mark b = list_any (λ m. b == m) (codes ";,(){}[]")
 
 -- a byte of a text line: a letter, a digit, `_`, a space or a mark
 abbrev pub is_text_byte : ℕ → Bool
-is_text_byte b = is_word_byte b || ((b == 32) || is_text_mark b)
+is_text_byte b = is_word_byte b || ((b == ascii.space) || is_text_mark b)
 
 -- a byte of a simple name: a letter, a digit, `_`, `.` or `-`
 abbrev pub is_name_byte : ℕ → Bool
-is_name_byte b = is_word_byte b || ((b == 46) || (b == 45))
+is_name_byte b = is_word_byte b || ((b == ascii.dot) || (b == ascii.minus))
 
 -- A simple name: 1 to 255 letters, digits, `_`, `.` and `-`, with no `-` in front, and neither `.` nor `..`.
 unfoldable pub is_simple_name : List ℕ → Bool
@@ -52,12 +53,12 @@ onto_line b (l ∷ ls) = (b ∷ l) ∷ ls
 -- a body cut at its line feeds; what stands behind the last one is a line where it isn't empty
 unfoldable pub lines_of : List ℕ → List (List ℕ)
 lines_of [] = []
-lines_of (b ∷ bs) = if b == 10 then [] ∷ lines_of bs else onto_line b (lines_of bs)
+lines_of (b ∷ bs) = if b == ascii.newline then [] ∷ lines_of bs else onto_line b (lines_of bs)
 
 -- the body is empty or ends with a line feed
 unfoldable pub ends_line : List ℕ → Bool
 ends_line [] = true
-ends_line (b ∷ []) = b == 10
+ends_line (b ∷ []) = b == ascii.newline
 ends_line (b ∷ c ∷ bs) = ends_line (c ∷ bs)
 
 -- A plain body: empty or ended by a line feed, and each of its lines is an include line or a text line.

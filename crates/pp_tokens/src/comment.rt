@@ -1,6 +1,7 @@
 // Comments that stand first in a text (ISO C 6.4.9).
 ghost use Rattle.std.specs.Prelude.{◌≡◌, ◌≤◌, ◌<◌, ◌==◌, false, not, length, get_or, drop, take_while};
 ghost use Rattle.std.specs.Option.{IfSome};
+ghost use Rattle.base_types.specs.Ascii as ascii;
 ghost use Rattle.pp_tokens.specs.Lines.{Part, first_part, comment};
 ghost use Rattle.pp_tokens.specs.parts.Text.{part_told, comment_length};
 
@@ -21,7 +22,7 @@ pub fn bytes_before(stop: u8, bytes: &[u8]) -> usize
 
 /// How many bytes stand before the end of the line.
 pub fn line_length(bytes: &[u8]) -> usize
-    ensures run { result ≡ length (take_while (λ b. not (b == 10)) bytes.now) }
+    ensures run { result ≡ length (take_while (λ b. not (b == ascii.newline)) bytes.now) }
     ensures within { result ≤ length bytes.now }
 {
     bytes_before(b'\n', bytes)
@@ -47,7 +48,7 @@ fn comment_length(inside: &[u8]) -> Option<usize>
 /// What begins with `/`: a comment, one that never ends, `/=` or `/`.
 pub fn slash_part(rest: &[u8]) -> (What, usize)
     requires some { 0 < length rest.now }
-    requires slash { get_or rest.now 0 0 ≡ 47 }
+    requires slash { get_or rest.now 0 0 ≡ ascii.slash }
     ensures { (part_told result.0, result.1) ≡ first_part false rest.now }
 {
     let second = byte_at(rest, 1);

@@ -1,6 +1,7 @@
 // Literals, header names and identifiers: what is read up to a closing quote or delimiter, and what may be the prefix of
 // a literal (ISO C 6.4.2, 6.4.4.4, 6.4.5, 6.4.7).
 ghost use Rattle.std.specs.Prelude.{◌≡◌, ◌≤◌, ◌<◌, ◌+◌, ℕ, ◌⊎◌, true, false, None, IfSome, length, drop, get_or, take_while, not, ◌&&◌, ◌==◌};
+ghost use Rattle.base_types.specs.Ascii as ascii;
 ghost use Rattle.pp_tokens.specs.declared.token.Kind.TheVariants.{Header};
 ghost use Rattle.pp_tokens.specs.Grammar.{is_identifier_start};
 ghost use Rattle.pp_tokens.specs.Lines.{Part, token, first_part};
@@ -130,7 +131,7 @@ fn literal_kind(quote: u8) -> Kind
 fn delimiter_partner_at(text: &[u8], at: usize, unpaired: &mut Unpaired) -> Option<usize>
     requires at { at < length text.now }
     requires known { KnowsUnpaired unpaired.old text.now at }
-    requires delimiter { (get_or text.now at 0 ≡ 60) ⊎ (get_or text.now at 0 ≡ 34) }
+    requires delimiter { (get_or text.now at 0 ≡ ascii.less) ⊎ (get_or text.now at 0 ≡ ascii.quote) }
     ensures partner { result ≡ delimiter_length (closing_delimiter (get_or text.now at 0)) (drop (at + 1) text.now) }
     ensures within { IfSome result (λ n. at + 1 + n ≤ length text.now) }
     ensures known { KnowsUnpaired unpaired.new text.now at }
@@ -145,7 +146,7 @@ fn delimiter_partner_at(text: &[u8], at: usize, unpaired: &mut Unpaired) -> Opti
 pub fn header_at(text: &[u8], at: usize, unpaired: &mut Unpaired) -> Option<usize>
     requires at { at < length text.now }
     requires known { KnowsUnpaired unpaired.old text.now at }
-    requires delimiter { (get_or text.now at 0 ≡ 60) ⊎ (get_or text.now at 0 ≡ 34) }
+    requires delimiter { (get_or text.now at 0 ≡ ascii.less) ⊎ (get_or text.now at 0 ≡ ascii.quote) }
     ensures header { IfSome result (λ n. ◌≡◌ {A = Part × ℕ} (first_part true (drop at text.now)) (token Header, n)) }
     ensures other { result ≡ None → first_part true (drop at text.now) ≡ first_part false (drop at text.now) }
     ensures known { KnowsUnpaired unpaired.new text.now at }

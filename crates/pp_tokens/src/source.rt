@@ -1,6 +1,7 @@
 // Translation phases 1 and 2 (ISO C 5.1.1.2): newlines, trigraphs and spliced lines.
 ghost use Rattle.std.specs.Prelude.{◌≡◌, ℕ, ◌+◌, ◌≤◌, ◌<◌, ◌∷◌, ◌++◌, [], length, take, drop, not, true, IfOk, IsSome};
 ghost use Rattle.std.specs.List.{list_all};
+ghost use Rattle.base_types.specs.Ascii as ascii;
 ghost use Rattle.memchr.specs.Find.{IsFirstByte};
 ghost use Rattle.pp_tokens.specs.Lined.{lined, Rising};
 ghost use Rattle.pp_tokens.specs.Phases.{ended, trigraph, source_text};
@@ -29,7 +30,7 @@ enum Piece {
 // A body up to the newline that ends it, which needn't stand there.
 fn without_last_newline(body: &[u8]) -> &[u8]
     requires { 0 < length body.now }
-    ensures ended { ended body.now ≡ result.now ++ (10 ∷ []) }
+    ensures ended { ended body.now ≡ result.now ++ (ascii.newline ∷ []) }
     ensures within { length result.now ≤ length body.now }
 {
     let (front, last) = body.split_at(body.len() - 1);
@@ -57,7 +58,7 @@ fn is_kept(b: u8, trigraphs: bool) -> bool
 // Whether the byte at a place is sure to be a byte of the text: one that always is, or a backslash that no newline follows.
 fn stays(bytes: &[u8], at: usize, trigraphs: bool) -> bool
     requires { at < length bytes.now }
-    ensures { result ≡ true → IsRun trigraphs (drop at bytes.now ++ (10 ∷ [])) 1 }
+    ensures { result ≡ true → IsRun trigraphs (drop at bytes.now ++ (ascii.newline ∷ [])) 1 }
 {
     if is_kept(bytes[at], trigraphs) {
         return true;
@@ -73,7 +74,7 @@ fn stays(bytes: &[u8], at: usize, trigraphs: bool) -> bool
 fn short_run(rest: &[u8], bound: usize, trigraphs: bool) -> usize
     requires { bound ≤ length rest.now }
     ensures within { result ≤ bound }
-    ensures run { IsRun trigraphs (rest.now ++ (10 ∷ [])) result }
+    ensures run { IsRun trigraphs (rest.now ++ (ascii.newline ∷ [])) result }
 {
     for at in 0..bound {
         if !stays(rest, at, trigraphs) {
@@ -97,7 +98,7 @@ fn long_run(rest: &[u8], trigraphs: bool) -> usize
 // How many bytes at the front are sure to be bytes of the text. The start of a search costs more than a look at a few bytes.
 fn run_length(rest: &[u8], trigraphs: bool) -> usize
     ensures within { result ≤ length rest.now }
-    ensures run { IsRun trigraphs (rest.now ++ (10 ∷ [])) result }
+    ensures run { IsRun trigraphs (rest.now ++ (ascii.newline ∷ [])) result }
 {
     let bound = rest.len().min(16);
     let run = short_run(rest, bound, trigraphs);
@@ -111,7 +112,7 @@ fn run_length(rest: &[u8], trigraphs: bool) -> usize
 // How many bytes the newline at the front has. The one that ends the body stands behind the rest.
 #[tactic(auto, using(crate::proofs::NewlineLengths::newline_at))]
 fn newline_length(rest: &[u8]) -> usize
-    ensures value { result ≡ newline_length (rest.now ++ (10 ∷ [])) }
+    ensures value { result ≡ newline_length (rest.now ++ (ascii.newline ∷ [])) }
     ensures within { result ≤ length rest.now + 1 }
 {
     if rest.is_empty() || rest[0] == b'\n' {
@@ -169,7 +170,7 @@ fn front_character(rest: &[u8], trigraphs: bool) -> (u8, usize)
 
 // What stands at the front, and how many bytes it has. The newline that ends the body stands behind the rest.
 fn front_piece(rest: &[u8], trigraphs: bool) -> (Piece, usize)
-    ensures front { (line : ℕ) → IsFront trigraphs line (rest.now ++ (10 ∷ [])) result.0 result.1 }
+    ensures front { (line : ℕ) → IsFront trigraphs line (rest.now ++ (ascii.newline ∷ [])) result.0 result.1 }
     ensures moves { 0 < result.1 }
     ensures within { result.1 ≤ length rest.now + 1 }
 {

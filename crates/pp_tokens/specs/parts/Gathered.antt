@@ -2,6 +2,7 @@
 -- these.
 use Rattle.std.specs.Prelude.{◌≡◌, ℕ, ◌+◌, ◌≤◌, Bool, true, false, cond, List, [], ◌∷◌, ◌++◌, map, length, drop, Option, Some, None, ◌==◌, ◌⊎◌}
 use Rattle.std.specs.List.{count_by}
+use Rattle.base_types.specs.Ascii as ascii
 use Rattle.pp_tokens.specs.declared.token.Token.{Token}
 use Rattle.pp_tokens.specs.declared.token.Kind.TheVariants.{Header}
 use Rattle.pp_tokens.specs.Grammar.{is_header}
@@ -16,7 +17,7 @@ use Rattle.pp_tokens.specs.parts.Text.{after_word}
 
 -- how many newlines stand in a text
 abbrev pub newlines : List ℕ → ℕ
-newlines = count_by (λ b. b == 10)
+newlines = count_by (λ b. b == ascii.newline)
 
 -- the text is this part as a whole, or a header name
 abbrev pub IsPart : Part → List ℕ → Type 0

@@ -1,5 +1,6 @@
 -- What opens a literal or a header name, as tests of its bytes. No public contract rests on these.
 use Rattle.std.specs.Prelude.{ℕ, Bool, ◌&&◌, ◌||◌, List, ◌==◌, codes, bytes_eq, if◌then◌else◌}
+use Rattle.base_types.specs.Ascii as ascii
 use Rattle.pp_tokens.specs.declared.token.Kind.{Kind}
 use Rattle.pp_tokens.specs.declared.token.Kind.TheVariants.{Char, Str}
 
@@ -13,12 +14,12 @@ opens_string word = bytes_eq word (codes "u8") || opens_character word
 
 -- right before this quote the identifier is a prefix of the quote's literals
 abbrev pub opens_literal : List ℕ → ℕ → Bool
-opens_literal word quote = ((quote == 34) && opens_string word) || ((quote == 39) && opens_character word)
+opens_literal word quote = ((quote == ascii.quote) && opens_string word) || ((quote == ascii.apostrophe) && opens_character word)
 
 -- the kind of a literal between two of these quotes (6.4.4.4, 6.4.5)
 abbrev pub literal_kind : ℕ → Kind
-literal_kind quote = if quote == 34 then Str else Char
+literal_kind quote = if quote == ascii.quote then Str else Char
 
 -- what closes a header name behind this delimiter (6.4.7)
 abbrev pub closing_delimiter : ℕ → ℕ
-closing_delimiter delimiter = if delimiter == 60 then 62 else 34
+closing_delimiter delimiter = if delimiter == ascii.less then ascii.greater else ascii.quote

@@ -2,6 +2,7 @@
 -- these. The rest ends with the newline that ends the body, whether it stands there or is added.
 use Rattle.std.specs.Prelude.{◌≡◌, ℕ, ◌+◌, Bool, not, ◌&&◌, ◌||◌, List, [], ◌∷◌, ◌++◌, take, drop, if◌then◌else◌, ◌==◌, nat_eq, get_or, Option, None, Some}
 use Rattle.std.specs.List.{starts_with}
+use Rattle.base_types.specs.Ascii as ascii
 use Rattle.pp_tokens.specs.declared.source.Piece.{Piece}
 use Rattle.pp_tokens.specs.declared.source.Piece.TheVariants.{Byte, Splice}
 use Rattle.pp_tokens.specs.Phases.{Cell, cell, trigraph_of, with_newlines, numbered, without_trigraphs, spliced}
@@ -19,7 +20,7 @@ source_from trigraphs line rest = spliced (characters trigraphs line rest)
 -- how many bytes the newline at the front has, with the carriage return that is part of it; 0 where none stands there
 unfoldable pub newline_length : List ℕ → ℕ
 newline_length [] = 0
-newline_length (b ∷ bs) = if b == 10 then 1 else (if (b == 13) && starts_with nat_eq bs (10 ∷ []) then 2 else 0)
+newline_length (b ∷ bs) = if b == ascii.newline then 1 else (if (b == ascii.carriage_return) && starts_with nat_eq bs (ascii.newline ∷ []) then 2 else 0)
 
 -- the character that a trigraph at the front stands for
 unfoldable pub front_trigraph : List ℕ → Option ℕ
@@ -39,12 +40,12 @@ front_character trigraphs rest = or_byte (if trigraphs then front_trigraph rest 
 
 -- a byte that phases 1 and 2 leave as it is, whatever stands behind it
 abbrev pub is_kept : Bool → ℕ → Bool
-is_kept trigraphs b = not ((b == 13) || ((b == 92) || (trigraphs && (b == 63))))
+is_kept trigraphs b = not ((b == ascii.carriage_return) || ((b == ascii.backslash) || (trigraphs && (b == ascii.question))))
 
 -- the line behind these bytes, of which the first is on this one
 unfoldable pub line_behind : ℕ → List ℕ → ℕ
 line_behind line [] = line
-line_behind line (b ∷ bs) = line_behind (if b == 10 then line + 1 else line) bs
+line_behind line (b ∷ bs) = line_behind (if b == ascii.newline then line + 1 else line) bs
 
 -- the first bytes of the rest, as many as this, stay as they are, on whichever line they begin
 abbrev pub IsRun : Bool → List ℕ → ℕ → Type 0
@@ -55,5 +56,5 @@ IsRun trigraphs rest n =
 -- The first bytes of the rest, as many as this, give the one byte, or are a splice.
 abbrev pub IsFront : Bool → ℕ → List ℕ → Piece → ℕ → Type 0
 IsFront trigraphs line rest (Byte b) n =
-    source_from trigraphs line rest ≡ cell b line ∷ source_from trigraphs (if b == 10 then line + 1 else line) (drop n rest)
+    source_from trigraphs line rest ≡ cell b line ∷ source_from trigraphs (if b == ascii.newline then line + 1 else line) (drop n rest)
 IsFront trigraphs line rest Splice n = source_from trigraphs line rest ≡ source_from trigraphs (line + 1) (drop n rest)

@@ -2,6 +2,7 @@
 use Rattle.std.specs.Prelude.{ℕ, suc, Bool, true, false, not, ◌&&◌, ◌||◌, List, [], ◌∷◌, ◌==◌, codes, bytes_eq, nat_eq, if◌then◌else◌, Option, None, Some}
 use Rattle.std.specs.List.{list_all, list_any, starts_with}
 use Rattle.std.specs.Option.{option_map}
+use Rattle.base_types.specs.Ascii as ascii
 use Rattle.pp_tokens.specs.declared.token.Kind.{Kind}
 use Rattle.pp_tokens.specs.declared.part.What.{What}
 use Rattle.pp_tokens.specs.declared.part.What.TheVariants.{Newline, White, Comment, OpenComment, Token}
@@ -53,19 +54,19 @@ is_due Other = false
 
 -- a quote of a string or of a character
 abbrev pub is_quote : ℕ → Bool
-is_quote b = (b == 34) || (b == 39)
+is_quote b = (b == ascii.quote) || (b == ascii.apostrophe)
 
 -- the first delimiter of a header name (6.4.7)
 abbrev pub opens_header : ℕ → Bool
-opens_header b = (b == 60) || (b == 34)
+opens_header b = (b == ascii.less) || (b == ascii.quote)
 
 -- a number begins with these two bytes: with a digit, or with `.` and a digit (6.4.8)
 abbrev pub begins_number : ℕ → ℕ → Bool
-begins_number a b = is_digit a || ((a == 46) && is_digit b)
+begins_number a b = is_digit a || ((a == ascii.dot) && is_digit b)
 
 -- a comment begins with these two bytes: with `/*` or `//` (6.4.9)
 abbrev pub begins_comment : ℕ → ℕ → Bool
-begins_comment a b = (a == 47) && ((b == 42) || (b == 47))
+begins_comment a b = (a == ascii.slash) && ((b == ascii.star) || (b == ascii.slash))
 
 -- how many bytes lead up to the end of a comment, its `*/` included; none where it never ends (6.4.9)
 unfoldable pub comment_length : List ℕ → Option ℕ
@@ -87,28 +88,28 @@ is_operator a = takes_equals a || list_any (λ m. a == m) (codes "~?:")
 
 -- a punctuator of one byte (6.4.6)
 abbrev pub is_single : ℕ → Bool
-is_single a = is_text_mark a || (is_operator a || ((a == 46) || (a == 35)))
+is_single a = is_text_mark a || (is_operator a || ((a == ascii.dot) || (a == ascii.hash)))
 
 -- `->`, `##` or a digraph of two bytes (6.4.6)
 abbrev pub is_mixed : ℕ → ℕ → Bool
 is_mixed a b =
-    ((a == 45) && (b == 62))
-    || (((a == 35) && (b == 35))
-    || (((a == 60) && ((b == 58) || (b == 37))) || (((a == 37) && ((b == 58) || (b == 62))) || ((a == 58) && (b == 62)))))
+    ((a == ascii.minus) && (b == ascii.greater))
+    || (((a == ascii.hash) && (b == ascii.hash))
+    || (((a == ascii.less) && ((b == ascii.colon) || (b == ascii.percent))) || (((a == ascii.percent) && ((b == ascii.colon) || (b == ascii.greater))) || ((a == ascii.colon) && (b == ascii.greater)))))
 
 -- a punctuator of two bytes (6.4.6)
 abbrev pub is_pair : ℕ → ℕ → Bool
-is_pair a b = ((b == 61) && takes_equals a) || (((b == a) && is_doubled a) || is_mixed a b)
+is_pair a b = ((b == ascii.equals) && takes_equals a) || (((b == a) && is_doubled a) || is_mixed a b)
 
 -- a punctuator of three bytes (6.4.6)
 abbrev pub is_triple : ℕ → ℕ → ℕ → Bool
 is_triple a b c =
-    ((a == 60) && ((b == 60) && (c == 61)))
-    || (((a == 62) && ((b == 62) && (c == 61))) || ((a == 46) && ((b == 46) && (c == 46))))
+    ((a == ascii.less) && ((b == ascii.less) && (c == ascii.equals)))
+    || (((a == ascii.greater) && ((b == ascii.greater) && (c == ascii.equals))) || ((a == ascii.dot) && ((b == ascii.dot) && (c == ascii.dot))))
 
 -- the punctuator of four bytes (6.4.6)
 abbrev pub is_quadruple : ℕ → ℕ → ℕ → ℕ → Bool
-is_quadruple a b c d = (a == 37) && ((b == 58) && ((c == 37) && (d == 58)))
+is_quadruple a b c d = (a == ascii.percent) && ((b == ascii.colon) && ((c == ascii.percent) && (d == ascii.colon)))
 
 -- a byte that some punctuator has second (6.4.6)
 abbrev pub is_second : ℕ → Bool
@@ -122,4 +123,4 @@ mark_length a b c d =
 
 -- no line ends within the text
 abbrev pub no_newline : List ℕ → Bool
-no_newline = list_all (λ b. not (b == 10))
+no_newline = list_all (λ b. not (b == ascii.newline))

@@ -1,6 +1,7 @@
 -- What is left of a file from a line of text on, where a line of text tells no more than that it is there. No public
 -- contract rests on these.
 use Rattle.std.specs.Prelude.{◌≡◌, ℕ, zero, ◌+◌, ◌≤◌, Bool, true, false, not, ◌&&◌, ◌||◌, List, [], ◌∷◌, map, length, drop, ◌==◌, codes, Option}
+use Rattle.base_types.specs.Ascii as ascii
 use Rattle.pp_tokens.specs.declared.due.Before.{Before}
 use Rattle.pp_tokens.specs.declared.due.Before.TheVariants.{Nothing}
 use Rattle.pp_tokens.specs.declared.text_line.LineEnd.{LineEnd}
@@ -13,7 +14,7 @@ use Rattle.pp_tokens.specs.parts.Gathered.{joined}
 
 -- a byte that ends no line, and neither begins nor ends a comment or a literal
 abbrev pub is_ordinary : ℕ → Bool
-is_ordinary b = not ((b == 10) || ((b == 34) || ((b == 39) || (b == 47))))
+is_ordinary b = not ((b == ascii.newline) || ((b == ascii.quote) || ((b == ascii.apostrophe) || (b == ascii.slash))))
 
 -- the lines from a line of text on
 unfoldable pub text_lines : List Element → List (List Token)
