@@ -1,16 +1,15 @@
 -- Plain bodies, line by line.
 use Rattle.std.specs.Prelude.{◌≡◌, ℕ, Bool, true, false, not, ◌&&◌, List, [], ◌∷◌, ◌++◌, refl, ◌==◌}
 use Rattle.std.specs.List.{list_all}
-use Rattle.std.proofs.lemmas.Bool.{not-true}
+use Rattle.std.proofs.lemmas.Bool.{not-true, and_parts}
 use Rattle.pp_tokens.specs.Plain.{is_plain_line, lines_of, ends_line, is_plain_body}
 use Rattle.pp_tokens.specs.parts.Text.{no_newline}
-use Rattle.pp_tokens.proofs.Headers.{both_hold}
 
 lines_cut : (line more : List ℕ) → no_newline line ≡ true → lines_of (line ++ (10 ∷ more)) ≡ line ∷ lines_of more
 unfolding lines_of
 lines_cut [] more h = refl
 lines_cut (b ∷ line) more h =
-    let both = both_hold (not (b == 10)) (no_newline line) h in
+    let both = and_parts (not (b == 10)) (no_newline line) h in
     let e : (b == 10) ≡ false = not-true (b == 10) both.0 in
     let behind : lines_of (line ++ (10 ∷ more)) ≡ line ∷ lines_of more = lines_cut line more both.1 in
     rw (e, behind) refl
@@ -35,8 +34,8 @@ body_cut line more h =
 -- what has no newline, and isn't empty, ends no line
 unended : (b : ℕ) (bs : List ℕ) → no_newline (b ∷ bs) ≡ true → ends_line (b ∷ bs) ≡ false
 unfolding ends_line
-unended b [] h = not-true (b == 10) (both_hold (not (b == 10)) true h).0
-unended b (c ∷ bs) h = unended c bs (both_hold (not (b == 10)) (no_newline (c ∷ bs)) h).1
+unended b [] h = not-true (b == 10) (and_parts (not (b == 10)) true h).0
+unended b (c ∷ bs) h = unended c bs (and_parts (not (b == 10)) (no_newline (c ∷ bs)) h).1
 
 pub no_end : (b : ℕ) (bs : List ℕ) → no_newline (b ∷ bs) ≡ true → is_plain_body (b ∷ bs) ≡ false
 unfolding is_plain_body

@@ -3,14 +3,13 @@
 use Rattle.std.specs.Prelude.{◌≡◌, ◌≢◌, ℕ, zero, suc, ◌+◌, ◌-◌, ◌≤◌, ◌<◌, Bool, true, false, cond, not, ◌&&◌, List, [], ◌∷◌, ◌++◌, length, take, drop, take_while, get_or, Option, Some, None, option_map, refl, ◌==◌, ◌⊎◌}
 use Rattle.std.specs.List.{list_all}
 use Rattle.std.proofs.Common.{sym, ◌∙◌, ap, inl, inr, arith, add-one}
-use Rattle.std.proofs.lemmas.Bool.{cases_lt, not-true, eq-eqb, ne_eqb}
+use Rattle.std.proofs.lemmas.Bool.{cases_lt, not-true, eq-eqb, ne_eqb, and_parts}
 use Rattle.std.proofs.lemmas.List.{append-nil, length-append, length-drop, drop-drop, drop_all, get_or-drop}
 use Rattle.std.proofs.Math.Seq.{drop-cons, take-append_seam}
 use Rattle.pp_tokens.specs.declared.unpaired.Unpaired.{Unpaired}
 use Rattle.pp_tokens.specs.Grammar.{closes, closes_header, is_empty}
 use Rattle.pp_tokens.specs.parts.Text.{no_newline}
 use Rattle.pp_tokens.specs.parts.Unpaired.{closing_length, delimiter_length, NonePairs, KnowsUnpaired}
-use Rattle.pp_tokens.proofs.Headers.{both_hold}
 use Rattle.pp_tokens.proofs.Longest.{map_none}
 use Rattle.pp_tokens.proofs.FirstBytes.{run_of}
 
@@ -57,7 +56,7 @@ unfolding closes closing_length
 closing_found q true [] rest h = absurd (cc)
 closing_found q false [] rest h = absurd (cc)
 closing_found q true (b ∷ t) rest h =
-    let both = both_hold (not (b == 10)) (closes q false t) h in
+    let both = and_parts (not (b == 10)) (closes q false t) h in
     let other : (b == 10) ≡ false = not-true (b == 10) both.0 in
     let found : closing_length q false (t ++ rest) ≡ Some (length t) = closing_found q false t rest both.1 in
     rw (other, found) refl
@@ -69,7 +68,7 @@ closing_found q false (b ∷ t) rest h = by_test (b == q) t h (λ e h'. closing_
     by_test true [] h ih = refl
     by_test true (c ∷ t) h ih = absurd (cc)
     by_test false t h ih =
-        let both = both_hold (not (b == 10)) (closes q (b == 92) t) h in
+        let both = and_parts (not (b == 10)) (closes q (b == 92) t) h in
         let other : (b == 10) ≡ false = not-true (b == 10) both.0 in
         let found : closing_length q (b == 92) (t ++ rest) ≡ Some (length t) = ih (b == 92) both.1 in
         rw (other, found) refl
@@ -190,7 +189,7 @@ delimiter_found d (b ∷ t) rest h = by_test (b == d) t h (λ h'. delimiter_foun
     by_test true [] h ih = refl
     by_test true (c ∷ t) h ih = absurd (cc)
     by_test false t h ih =
-        let both = both_hold (not (b == 10)) (closes_header d t) h in
+        let both = and_parts (not (b == 10)) (closes_header d t) h in
         let other : (b == 10) ≡ false = not-true (b == 10) both.0 in
         let found : delimiter_length d (t ++ rest) ≡ Some (length t) = ih both.1 in
         rw (other, found) refl
@@ -256,7 +255,7 @@ unfolding closing_length
 quote_passed q e [] k n below within line is none = absurd (omega arith)
 quote_passed q e (b ∷ bs) k zero below within line is none = absurd (omega arith)
 quote_passed q true (b ∷ bs) zero (suc n) below within line is none =
-    let other : (b == 10) ≡ false = not-true (b == 10) (both_hold _ _ line).0 in
+    let other : (b == 10) ≡ false = not-true (b == 10) (and_parts _ _ line).0 in
     let h : cond (b == 10) None (option_map suc (closing_length q false bs)) ≡ None = none in
     map_none suc (closing_length q false bs) (rw other at h)
 quote_passed q false (b ∷ bs) zero (suc n) below within line is none =
@@ -265,12 +264,12 @@ quote_passed q false (b ∷ bs) zero (suc n) below within line is none =
     let h' = rw same at h in
     absurd (cc)
 quote_passed q true (b ∷ bs) (suc k) (suc n) below within line is none =
-    let both = both_hold _ _ line in
+    let both = and_parts _ _ line in
     let other : (b == 10) ≡ false = not-true (b == 10) both.0 in
     let h : cond (b == 10) None (option_map suc (closing_length q false bs)) ≡ None = none in
     quote_passed q false bs k n (omega arith) (omega arith) both.1 is (map_none suc (closing_length q false bs) (rw other at h))
 quote_passed q false (b ∷ bs) (suc k) (suc n) below within line is none =
-    let both = both_hold _ _ line in
+    let both = and_parts _ _ line in
     let other : (b == 10) ≡ false = not-true (b == 10) both.0 in
     let h : cond (b == q) (Some 1) (cond (b == 10) None (option_map suc (closing_length q (b == 92) bs))) ≡ None = none in
     quote_passed q (b == 92) bs k n (omega arith) (omega arith) both.1 is (by_quote (b == q) other h)
@@ -288,7 +287,7 @@ unfolding delimiter_length
 delimiters_passed d byte [] k n below within line is none = absurd (omega arith)
 delimiters_passed d byte (b ∷ bs) k zero below within line is none = absurd (omega arith)
 delimiters_passed d byte (b ∷ bs) k (suc n) below within line is none =
-    let both = both_hold _ _ line in
+    let both = and_parts _ _ line in
     let other : (b == 10) ≡ false = not-true (b == 10) both.0 in
     let h : cond (b == d) (Some 1) (cond (b == 10) None (option_map suc (delimiter_length d bs))) ≡ None = none in
     onward k below is both.1 (by_delimiter (b == d) other h) (λ j below' is' none'. delimiters_passed d byte bs j n below' (omega arith) both.1 is' none')

@@ -1,7 +1,7 @@
 -- The steps of the lexer that keeps the tokens of directives alone.
 use Rattle.std.specs.Prelude.{◌≡◌, ℕ, zero, ◌+◌, ◌<◌, Bool, true, false, cond, not, List, [], ◌∷◌, ◌++◌, ◌||◌, map, length, take, drop, Option, None, Some, codes, bytes_eq, refl}
 use Rattle.std.proofs.Common.{sym, ◌∙◌, ap, arith, append_assoc, length-drop, drop-drop}
-use Rattle.std.proofs.lemmas.Bool.{not-true}
+use Rattle.std.proofs.lemmas.Bool.{not-true, and_parts}
 use Rattle.std.proofs.lemmas.List.{map-append}
 use Rattle.pp_tokens.specs.declared.token.Kind.{Kind}
 use Rattle.pp_tokens.specs.declared.token.Token.{Token}
@@ -17,7 +17,6 @@ use Rattle.pp_tokens.specs.parts.Seen.{seen_lines, last_end}
 use Rattle.pp_tokens.specs.parts.Text.{after_word, is_due}
 use Rattle.pp_tokens.specs.parts.TextLines.{text_lines, text_file, file_behind, begins_line, begins_text, EndsText}
 use Rattle.pp_tokens.specs.parts.Gathered.{newlines, joined, present_tokens, file_with, IsGathered, GathersNothing, EndsLastLine, EndsTextLine, AddsGap, Gathers}
-use Rattle.pp_tokens.proofs.Headers.{both_hold}
 use Rattle.pp_tokens.proofs.DueWords.{after_words, due_is}
 use Rattle.pp_tokens.proofs.LinedRests.{lined_past, cut_bytes}
 use Rattle.pp_tokens.proofs.OneLine.{short_newlines}
@@ -241,7 +240,7 @@ text_step text splices old new at base n k end state g o below is begins ended e
     let xs = drop at text in
     let some : 0 < length xs = omega (arith, length-drop at text) in
     let moves : 0 < n = (first_within (is_due old.before) xs (token k) n some is).0 in
-    let begun = both_hold (begins_line old.before) (not (spells_hash (take n xs))) begins in
+    let begun = and_parts (begins_line old.before) (not (spells_hash (take n xs))) begins in
     let other : spells_hash (take n xs) ≡ false = not-true (spells_hash (take n xs)) begun.1 in
     let words : state.words ≡ [] = no_words state.words (ap begins_line state.seen ∙ begun.0) in
     let due : header_due state.words ≡ is_due old.before = due_is state.words ∙ ap is_due state.seen in
@@ -268,8 +267,8 @@ text_step text splices old new at base n k end state g o below is begins ended e
 
 -- only a token begins a line of text
 pub is_a_token : (before : Before) (p : Part) (w : List ℕ) → begins_text before p w ≡ true → (k : Kind) × (p ≡ token k)
-is_a_token before newline w h = absurd (let e : false ≡ true = (both_hold (begins_line before) false h).1 in cc)
-is_a_token before white w h = absurd (let e : false ≡ true = (both_hold (begins_line before) false h).1 in cc)
-is_a_token before comment w h = absurd (let e : false ≡ true = (both_hold (begins_line before) false h).1 in cc)
-is_a_token before open_comment w h = absurd (let e : false ≡ true = (both_hold (begins_line before) false h).1 in cc)
+is_a_token before newline w h = absurd (let e : false ≡ true = (and_parts (begins_line before) false h).1 in cc)
+is_a_token before white w h = absurd (let e : false ≡ true = (and_parts (begins_line before) false h).1 in cc)
+is_a_token before comment w h = absurd (let e : false ≡ true = (and_parts (begins_line before) false h).1 in cc)
+is_a_token before open_comment w h = absurd (let e : false ≡ true = (and_parts (begins_line before) false h).1 in cc)
 is_a_token before (token k) w h = (k, refl)

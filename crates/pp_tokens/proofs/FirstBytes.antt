@@ -2,7 +2,7 @@
 use Rattle.std.specs.Prelude.{◌≡◌, ℕ, ◌≤◌, Bool, true, false, cond, not, ◌&&◌, List, [], ◌∷◌, ◌++◌, length, Some, None, option_map, suc, refl, ◌==◌, nat_eq, bytes_eq, take_while, drop, eqb, leb, get_or}
 use Rattle.std.specs.List.{list_all, list_any, starts_with}
 use Rattle.std.proofs.Common.{sym, ◌∙◌, ap, inr, subst, arith}
-use Rattle.std.proofs.lemmas.Bool.{eqb-true, leb-true, lt-leb, ne_eqb}
+use Rattle.std.proofs.lemmas.Bool.{eqb-true, leb-true, lt-leb, ne_eqb, and_parts, and_left, and_right, or_from}
 use Rattle.std.proofs.Math.Numerals.{one-add}
 use Rattle.std.proofs.Math.Seq.{drop-append_seam}
 use Rattle.std.proofs.lemmas.List.{append-nil}
@@ -10,7 +10,6 @@ use Rattle.pp_tokens.specs.declared.token.Kind.TheVariants.{Ident}
 use Rattle.pp_tokens.specs.Grammar.{is_digit, is_identifier_start, is_identifier_byte, is_identifier, is_number, is_quoted, is_string, is_character, is_punctuator, punctuators, kind_of}
 use Rattle.pp_tokens.specs.Lines.{token, part_of, is_comment, is_open_comment, NoLonger, first_part}
 use Rattle.pp_tokens.specs.parts.Text.{is_quote}
-use Rattle.pp_tokens.proofs.Headers.{and_fails, or_fails, both_hold}
 use Rattle.pp_tokens.proofs.Reading.{stands_first}
 
 -- a byte that passes a test isn't one that fails it
@@ -32,11 +31,11 @@ first (b ∷ bs) = b
 -- a text whose first byte passes a test that no entry's first byte passes is no entry
 no_entry : (f : ℕ → Bool) (b : ℕ) (u : List ℕ) (ps : List (List ℕ)) → f b ≡ true → f 0 ≡ false → list_all (λ p. not (f (first p))) ps ≡ true → list_any (bytes_eq (b ∷ u)) ps ≡ false
 no_entry f b u [] passes zero_fails all = refl
-no_entry f b u ([] ∷ ps) passes zero_fails all = no_entry f b u ps passes zero_fails (both_hold _ _ all).1
+no_entry f b u ([] ∷ ps) passes zero_fails all = no_entry f b u ps passes zero_fails (and_parts _ _ all).1
 no_entry f b u ((k ∷ ks) ∷ ps) passes zero_fails all =
-    let fails : f k ≡ false = not_holds (f k) (both_hold _ _ all).0 in
+    let fails : f k ≡ false = not_holds (f k) (and_parts _ _ all).0 in
     let e : (b == k) ≡ false = apart f b k passes fails in
-    rw e (no_entry f b u ps passes zero_fails (both_hold _ _ all).1)
+    rw e (no_entry f b u ps passes zero_fails (and_parts _ _ all).1)
   where
     not_holds : (t : Bool) → not t ≡ true → t ≡ false
     not_holds false h = refl
@@ -62,38 +61,34 @@ word_byte_plain b h =
 not_quoted_behind : (q : ℕ) (t r : List ℕ) → is_plain q ≡ false → list_all is_identifier_byte t ≡ true → EndsWord r → is_quoted q (t ++ r) ≡ false
 not_quoted_behind q [] [] fails all ends = refl
 not_quoted_behind q [] (m ∷ ms) fails all ends = not_quoted q m ms fails ends.1
-not_quoted_behind q (c ∷ t) r fails all ends = not_quoted q c (t ++ r) fails (word_byte_plain c (both_hold _ _ all).0)
-
-left_fails : (a b : Bool) → a ≡ false → (a && b) ≡ false
-left_fails true b h = absurd (cc)
-left_fails false b h = refl
+not_quoted_behind q (c ∷ t) r fails all ends = not_quoted q c (t ++ r) fails (word_byte_plain c (and_parts _ _ all).0)
 
 -- what stands behind a prefix of two bytes, the second of which goes on with an identifier
 two_bytes : (q x y b : ℕ) (t r : List ℕ) → is_plain q ≡ false → is_identifier_byte y ≡ true → list_all is_identifier_byte t ≡ true → EndsWord r
     → (starts_with nat_eq (b ∷ (t ++ r)) (x ∷ y ∷ []) && is_quoted q (drop 2 (b ∷ (t ++ r)))) ≡ false
-two_bytes q x y b [] [] fails word all ends = left_fails _ _ (and_fails (eqb x b) false refl)
+two_bytes q x y b [] [] fails word all ends = and_left _ _ (and_right (eqb x b) false refl)
 two_bytes q x y b [] (m ∷ ms) fails word all ends =
     let e : eqb y m ≡ false = ne_eqb y m (λ s. (let h : true ≡ false = sym word ∙ ap is_identifier_byte s ∙ ends.0 in cc)) in
-    left_fails _ _ (and_fails (eqb x b) _ (rw e refl))
-two_bytes q x y b (c ∷ t) r fails word all ends = and_fails _ _ (not_quoted_behind q t r fails (both_hold _ _ all).1 ends)
+    and_left _ _ (and_right (eqb x b) _ (rw e refl))
+two_bytes q x y b (c ∷ t) r fails word all ends = and_right _ _ (not_quoted_behind q t r fails (and_parts _ _ all).1 ends)
 
 one_byte : (q x b : ℕ) (t r : List ℕ) → is_plain q ≡ false → list_all is_identifier_byte t ≡ true → EndsWord r
     → (starts_with nat_eq (b ∷ (t ++ r)) (x ∷ []) && is_quoted q (drop 1 (b ∷ (t ++ r)))) ≡ false
-one_byte q x b t r fails all ends = and_fails _ _ (not_quoted_behind q t r fails all ends)
+one_byte q x b t r fails all ends = and_right _ _ (not_quoted_behind q t r fails all ends)
 
 -- an identifier with no quote right behind it begins no literal
 word_no_string : (b : ℕ) (t r : List ℕ) → is_plain b ≡ true → list_all is_identifier_byte t ≡ true → EndsWord r → is_string (b ∷ (t ++ r)) ≡ false
 unfolding is_string
 word_no_string b t r plain all ends =
-    or_fails _ _ (not_quoted 34 b (t ++ r) refl plain)
-    (or_fails _ _ (two_bytes 34 117 56 b t r refl refl all ends)
-    (or_fails _ _ (one_byte 34 117 b t r refl all ends) (or_fails _ _ (one_byte 34 85 b t r refl all ends) (or_fails _ _ (one_byte 34 76 b t r refl all ends) refl))))
+    or_from _ _ (not_quoted 34 b (t ++ r) refl plain)
+    (or_from _ _ (two_bytes 34 117 56 b t r refl refl all ends)
+    (or_from _ _ (one_byte 34 117 b t r refl all ends) (or_from _ _ (one_byte 34 85 b t r refl all ends) (or_from _ _ (one_byte 34 76 b t r refl all ends) refl))))
 
 word_no_character : (b : ℕ) (t r : List ℕ) → is_plain b ≡ true → list_all is_identifier_byte t ≡ true → EndsWord r → is_character (b ∷ (t ++ r)) ≡ false
 unfolding is_character
 word_no_character b t r plain all ends =
-    or_fails _ _ (not_quoted 39 b (t ++ r) refl plain)
-    (or_fails _ _ (one_byte 39 117 b t r refl all ends) (or_fails _ _ (one_byte 39 85 b t r refl all ends) (or_fails _ _ (one_byte 39 76 b t r refl all ends) refl)))
+    or_from _ _ (not_quoted 39 b (t ++ r) refl plain)
+    (or_from _ _ (one_byte 39 117 b t r refl all ends) (or_from _ _ (one_byte 39 85 b t r refl all ends) (or_from _ _ (one_byte 39 76 b t r refl all ends) refl)))
 
 -- comments begin with a slash
 pub no_comment : (b : ℕ) (u : List ℕ) → (b == 47) ≡ false → is_comment (b ∷ u) ≡ false
@@ -124,8 +119,8 @@ start_no_digit b start = by_test (is_digit b) refl
     by_test : (t : Bool) → is_digit b ≡ t → t ≡ false
     by_test false e = refl
     by_test true e =
-        let low = leb-true 48 b (both_hold _ _ e).0 in
-        let high = leb-true b 57 (both_hold _ _ e).1 in
+        let low = leb-true 48 b (and_parts _ _ e).0 in
+        let high = leb-true b 57 (and_parts _ _ e).1 in
         absurd (digit_no_start b low high start)
 
 pub no_punctuator : (f : ℕ → Bool) (b : ℕ) (u : List ℕ) → f b ≡ true → f 0 ≡ false → list_all (λ p. not (f (first p))) punctuators ≡ true → is_punctuator (b ∷ u) ≡ false
@@ -175,7 +170,7 @@ run_of p (x ∷ xs) = by_test (p x) refl (run_of p xs)
 -- a text with a byte in it that fails isn't all of them
 pub some_fails : (p : ℕ → Bool) (xs : List ℕ) (b : ℕ) (bs : List ℕ) → p b ≡ false → list_all p (xs ++ (b ∷ bs)) ≡ false
 some_fails p [] b bs h = rw h refl
-some_fails p (x ∷ xs) b bs h = and_fails (p x) _ (some_fails p xs b bs h)
+some_fails p (x ∷ xs) b bs h = and_right (p x) _ (some_fails p xs b bs h)
 
 -- one byte that begins an identifier is one
 one_word : (b : ℕ) → is_identifier_start b ≡ true → part_of (b ∷ []) ≡ Some (token Ident)

@@ -3,9 +3,9 @@ use Rattle.std.specs.Prelude.{◌≡◌, ℕ, ◌+◌, ◌≤◌, ◌<◌, Bool,
 use Rattle.std.specs.List.{list_all, starts_with}
 use Rattle.std.proofs.Common.{sym, ◌∙◌, ap, inl, inr, subst, arith}
 use Rattle.std.proofs.lemmas.List.{drop-append-le, drop-drop}
+use Rattle.std.proofs.lemmas.Bool.{and_parts, and_right}
 use Rattle.pp_tokens.specs.Phases.{Cell, cell, with_newlines, numbered, without_trigraphs, spliced}
 use Rattle.pp_tokens.specs.parts.Pieces.{characters, source_from, newline_length, front_trigraph, or_byte, front_character, is_kept, line_behind}
-use Rattle.pp_tokens.proofs.Headers.{both_hold, and_fails}
 use Rattle.pp_tokens.proofs.Fronts.{byte_front, newline_front, character_front, character_visible}
 
 -- WHAT IS SPLICED
@@ -18,7 +18,7 @@ not_backslash c (d ∷ cs) h = rw h refl
 not_before_newline : (c d : Cell) (cs : List Cell) → (d.byte == 10) ≡ false → spliced (c ∷ d ∷ cs) ≡ c ∷ spliced (d ∷ cs)
 unfolding spliced
 not_before_newline c d cs h =
-    let n : ((c.byte == 92) && (d.byte == 10)) ≡ false = and_fails (c.byte == 92) (d.byte == 10) h in
+    let n : ((c.byte == 92) && (d.byte == 10)) ≡ false = and_right (c.byte == 92) (d.byte == 10) h in
     rw n refl
 
 a_splice : (x line : ℕ) (cs : List Cell) → (x == 92) ≡ true → spliced (cell x line ∷ cell 10 line ∷ cs) ≡ spliced cs
@@ -195,13 +195,13 @@ pub backslash_front : (trigraphs : Bool) (line : ℕ) (behind : List ℕ) → ne
     → source_from trigraphs line (92 ∷ behind) ≡ cell 92 line ∷ source_from trigraphs line behind
 unfolding source_from
 backslash_front trigraphs line behind none =
-    ap spliced (byte_front trigraphs line 92 behind refl (and_fails trigraphs false refl)) ∙ stays_before trigraphs line 92 behind none
+    ap spliced (byte_front trigraphs line 92 behind refl (and_right trigraphs false refl)) ∙ stays_before trigraphs line 92 behind none
 
 pub kept_run : (trigraphs : Bool) (line : ℕ) (run rest : List ℕ) → list_all (is_kept trigraphs) run ≡ true
     → source_from trigraphs line (run ++ rest) ≡ numbered line run ++ source_from trigraphs (line_behind line run) rest
 unfolding numbered line_behind
 kept_run trigraphs line [] rest kept = refl
 kept_run trigraphs line (b ∷ bs) rest kept =
-    let both = both_hold (is_kept trigraphs b) (list_all (is_kept trigraphs) bs) kept in
+    let both = and_parts (is_kept trigraphs b) (list_all (is_kept trigraphs) bs) kept in
     kept_front trigraphs line b (bs ++ rest) both.0
     ∙ ap (λ (l : List Cell). cell b line ∷ l) (kept_run trigraphs (cond (b == 10) (line + 1) line) bs rest both.1)

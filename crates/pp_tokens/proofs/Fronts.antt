@@ -2,10 +2,9 @@
 use Rattle.std.specs.Prelude.{◌≡◌, ℕ, ◌+◌, ◌<◌, Bool, true, false, cond, ◌&&◌, List, [], ◌∷◌, drop, refl, ◌==◌, nat_eq, Option, Some, None, ◌⊎◌}
 use Rattle.std.specs.List.{starts_with}
 use Rattle.std.proofs.Common.{sym, ◌∙◌, ap, inl, inr, subst, arith}
-use Rattle.std.proofs.lemmas.Bool.{eqb-true, ne_eqb}
+use Rattle.std.proofs.lemmas.Bool.{eqb-true, ne_eqb, and_parts, and_right}
 use Rattle.pp_tokens.specs.Phases.{Cell, cell, trigraph, with_newlines, numbered, without_trigraphs}
 use Rattle.pp_tokens.specs.parts.Pieces.{characters, newline_length, front_trigraph, or_byte, front_character}
-use Rattle.pp_tokens.proofs.Headers.{both_hold, and_fails}
 
 -- TRIGRAPHS
 
@@ -21,7 +20,7 @@ no_second : (c d : Cell) (cs : List Cell) → (d.byte == 63) ≡ false → witho
 unfolding without_trigraphs
 no_second c d [] h = refl
 no_second c d (e ∷ cs) h =
-    let n : ((c.byte == 63) && (d.byte == 63)) ≡ false = and_fails (c.byte == 63) (d.byte == 63) h in
+    let n : ((c.byte == 63) && (d.byte == 63)) ≡ false = and_right (c.byte == 63) (d.byte == 63) h in
     rw (n, without_trigraphs) refl
 
 -- nor is the third
@@ -53,7 +52,7 @@ trigraph_visible d x =
 -- NEWLINES
 
 feed_is : (b : ℕ) (bs : List ℕ) → starts_with nat_eq (b ∷ bs) (10 ∷ []) ≡ true → b ≡ 10
-feed_is b bs h = sym (eqb-true 10 b (both_hold (nat_eq 10 b) _ h).0)
+feed_is b bs h = sym (eqb-true 10 b (and_parts (nat_eq 10 b) _ h).0)
 
 -- the first byte of a text after its carriage returns that belong to newlines are dropped
 abbrev FirstByte : ℕ → List ℕ → Type 0
@@ -61,13 +60,13 @@ FirstByte d ds = (rest : List ℕ) × ((with_newlines (d ∷ ds) ≡ d ∷ rest)
 
 first_byte : (d : ℕ) (ds : List ℕ) → FirstByte d ds
 unfolding with_newlines
-first_byte d [] = ([], inl (let n : ((d == 13) && false) ≡ false = and_fails (d == 13) false refl in rw n refl))
+first_byte d [] = ([], inl (let n : ((d == 13) && false) ≡ false = and_right (d == 13) false refl in rw n refl))
 first_byte d (e ∷ ds) = by_test ((d == 13) && starts_with nat_eq (e ∷ ds) (10 ∷ [])) refl
   where
     by_test : (t : Bool) → ((d == 13) && starts_with nat_eq (e ∷ ds) (10 ∷ [])) ≡ t → FirstByte d (e ∷ ds)
     by_test false h = (with_newlines (e ∷ ds), inl (rw h refl))
     by_test true h =
-        (let ten : e ≡ 10 = feed_is e ds (both_hold (d == 13) _ h).1 in
+        (let ten : e ≡ 10 = feed_is e ds (and_parts (d == 13) _ h).1 in
         (with_newlines ds, inr (rw h (ap (λ k. with_newlines (k ∷ ds)) ten))))
 
 -- what is no newline and begins no trigraph is a character
@@ -95,14 +94,14 @@ newline_is (b ∷ bs) some = feed (b == 10) refl bs some
     ends : (t : Bool) → (b == 10) ≡ false → (c : ℕ) (cs : List ℕ) → ((b == 13) && starts_with nat_eq (c ∷ cs) (10 ∷ [])) ≡ t → 0 < cond t 2 0 → NewlineFront (b ∷ c ∷ cs)
     ends false other c cs h some' = absurd (omega arith)
     ends true other c cs h some' =
-        (let both = both_hold (b == 13) (starts_with nat_eq (c ∷ cs) (10 ∷ [])) h in
+        (let both = and_parts (b == 13) (starts_with nat_eq (c ∷ cs) (10 ∷ [])) h in
         record {
           more = cs;
           is = inr ((λ i. eqb-true b 13 both.0 i ∷ feed_is c cs both.1 i ∷ cs), rw (other, h) refl);
         })
 
     returned : (b == 10) ≡ false → (cs : List ℕ) → 0 < cond ((b == 13) && starts_with nat_eq cs (10 ∷ [])) 2 0 → NewlineFront (b ∷ cs)
-    returned other [] some' = absurd (let n : ((b == 13) && false) ≡ false = and_fails (b == 13) false refl in let k = rw n at some' in omega (arith, k))
+    returned other [] some' = absurd (let n : ((b == 13) && false) ≡ false = and_right (b == 13) false refl in let k = rw n at some' in omega (arith, k))
     returned other (c ∷ cs) some' = ends ((b == 13) && starts_with nat_eq (c ∷ cs) (10 ∷ [])) other c cs refl some'
 
     feed : (t : Bool) → (b == 10) ≡ t → (cs : List ℕ) → 0 < cond t 1 (cond ((b == 13) && starts_with nat_eq cs (10 ∷ [])) 2 0) → NewlineFront (b ∷ cs)
@@ -114,7 +113,7 @@ pub newline_front : (trigraphs : Bool) (line : ℕ) (rest : List ℕ) → 0 < ne
 newline_front trigraphs line rest some =
     let front = newline_is rest some in
     let fed : characters trigraphs line (10 ∷ front.more) ≡ cell 10 line ∷ characters trigraphs (line + 1) front.more =
-    byte_front trigraphs line 10 front.more refl (and_fails trigraphs false refl) in
+    byte_front trigraphs line 10 front.more refl (and_right trigraphs false refl) in
     elim front.is [
       | inl (is, one) ↦ ap (characters trigraphs line) is ∙ fed ∙ (λ i. cell 10 line ∷ characters trigraphs (line + 1) (drop (sym one i) (sym is i)))
       | inr (is, two) ↦
@@ -155,7 +154,7 @@ trigraph_is (a ∷ b ∷ c ∷ cs) x h = questions ((a == 63) && (b == 63)) refl
     questions : (t : Bool) → ((a == 63) && (b == 63)) ≡ t → cond t (trigraph c) None ≡ Some x → TrigraphFront (a ∷ b ∷ c ∷ cs) x
     questions false e h' = absurd (cc)
     questions true e h' =
-        (let both = both_hold (a == 63) (b == 63) e in
+        (let both = and_parts (a == 63) (b == 63) e in
         record {
           third = c;
           more = cs;

@@ -1,13 +1,13 @@
 -- Numbers and single bytes that stand in front of a text.
 use Rattle.std.specs.Prelude.{◌≡◌, ℕ, ◌+◌, ◌≤◌, ◌<◌, Bool, true, false, cond, List, [], ◌∷◌, ◌++◌, length, Some, None, option_map, zero, suc, refl, ◌==◌, drop, eqb}
 use Rattle.std.proofs.Math.Numerals.{one-add}
-use Rattle.std.proofs.Common.{get_or, drop-cons, add-one, sym, ◌∙◌, ap, inl, inr, arith}
-use Rattle.std.proofs.lemmas.Bool.{eqb-true, leb-true, ne_eqb}
+use Rattle.std.proofs.Common.{get_or, sym, ◌∙◌, ap, inl, inr, arith}
+use Rattle.std.proofs.lemmas.List.{drop_more}
+use Rattle.std.proofs.lemmas.Bool.{eqb-true, leb-true, ne_eqb, and_parts, and_right, or_cases}
 use Rattle.pp_tokens.specs.declared.token.Kind.TheVariants.{Number}
 use Rattle.pp_tokens.specs.Grammar.{is_digit, is_identifier_start, is_identifier, is_number, number_goes_on, continues_number, is_string, is_character, is_punctuator, kind_of, number_length}
 use Rattle.pp_tokens.specs.parts.Text.{begins_number}
 use Rattle.pp_tokens.specs.Lines.{Part, token, part_of, is_comment, is_open_comment, NoLonger, first_part}
-use Rattle.pp_tokens.proofs.Headers.{and_fails, both_hold, either_holds}
 use Rattle.pp_tokens.proofs.Reading.{stands_first}
 use Rattle.pp_tokens.proofs.FirstBytes.{apart, no_comment, no_open_comment, no_punctuator, digit_no_start}
 
@@ -16,7 +16,7 @@ digit_starts_none b d = by_test (is_identifier_start b) refl
   where
     by_test : (t : Bool) → is_identifier_start b ≡ t → t ≡ false
     by_test false e = refl
-    by_test true e = absurd (digit_no_start b (leb-true 48 b (both_hold _ _ d).0) (leb-true b 57 (both_hold _ _ d).1) e)
+    by_test true e = absurd (digit_no_start b (leb-true 48 b (and_parts _ _ d).0) (leb-true b 57 (and_parts _ _ d).1) e)
 
 -- no literal begins with a digit
 digit_no_string : (b : ℕ) (u : List ℕ) → is_digit b ≡ true → is_string (b ∷ u) ≡ false
@@ -78,7 +78,7 @@ number_run a (x ∷ xs) = by_test (continues_number a x) refl (number_run x xs)
       split = ap (λ (l : List ℕ). x ∷ l) r.split;
       size = rw e (ap suc r.size);
       goes_on = rw e r.goes_on;
-      stops = λ m ms rest e'. and_fails (continues_number a x) _ (r.stops m ms rest e');
+      stops = λ m ms rest e'. and_right (continues_number a x) _ (r.stops m ms rest e');
     }
     by_test false e r = record {
       front = [];
@@ -155,10 +155,10 @@ pub number_first : (text : List ℕ) → begins_number (get_or text 0 0) (get_or
     → first_part false text ≡ (token Number, suc (number_length (get_or text 0 0) (drop 1 text)))
 number_first [] h = absurd (cc)
 number_first (b ∷ bs) h =
-    elim (either_holds (is_digit b) _ h) [
+    elim (or_cases (is_digit b) _ h) [
       | inl d ↦ number_stands b bs d
       | inr p ↦
-          (let both = both_hold (b == 46) (is_digit (get_or bs 0 0)) p in
+          (let both = and_parts (b == 46) (is_digit (get_or bs 0 0)) p in
           ap (λ k. first_part false (k ∷ bs)) (eqb-true b 46 both.0) ∙ behind_point bs both.1
           ∙ ap (λ k. (token Number, suc (number_length k bs))) (sym (eqb-true b 46 both.0)))
     ]
@@ -178,17 +178,14 @@ single_stands b bs p is alone =
 
 -- BYTE BY BYTE
 
-from_place : (xs : List ℕ) (i : ℕ) → i < length xs → drop i xs ≡ get_or xs i 0 ∷ drop (i + 1) xs
-from_place xs i h = rw add-one (drop-cons xs i 0 h)
-
 pub number_more : (last : ℕ) (xs : List ℕ) (i : ℕ) → i < length xs → continues_number last (get_or xs i 0) ≡ true
     → number_length last (drop i xs) ≡ 1 + number_length (get_or xs i 0) (drop (i + 1) xs)
 unfolding number_length
-number_more last xs i h e = rw (from_place xs i h) (rw (e, one-add) refl)
+number_more last xs i h e = rw (drop_more xs i 0 h) (rw (e, one-add) refl)
 
 pub number_stops : (last : ℕ) (xs : List ℕ) (i : ℕ) → i < length xs → continues_number last (get_or xs i 0) ≡ false → number_length last (drop i xs) ≡ 0
 unfolding number_length
-number_stops last xs i h e = rw (from_place xs i h) (rw e refl)
+number_stops last xs i h e = rw (drop_more xs i 0 h) (rw e refl)
 
 pub number_end : (last : ℕ) (xs : List ℕ) (i : ℕ) → length xs ≤ i → number_length last (drop i xs) ≡ 0
 unfolding number_length

@@ -2,7 +2,7 @@
 use Rattle.std.specs.Prelude.{◌≡◌, ℕ, Bool, true, false, cond, not, ◌&&◌, ◌||◌, List, [], ◌∷◌, length, drop, Option, Some, None, option_map, refl, ◌==◌, nat_eq, codes, bytes_eq}
 use Rattle.std.specs.List.{list_all, list_any, starts_with}
 use Rattle.std.proofs.Common.{sym, ◌∙◌, ap, inl, inr, arith}
-use Rattle.std.proofs.lemmas.Bool.{eqb-true, not-true}
+use Rattle.std.proofs.lemmas.Bool.{eqb-true, not-true, and_parts, or_cases}
 use Rattle.std.proofs.lemmas.Slice.Eq.{bytes_eq-Decides}
 use Rattle.pp_tokens.specs.declared.token.Kind.{Kind}
 use Rattle.pp_tokens.specs.declared.token.Kind.TheVariants.{Ident, Number, Char, Str, Punct, Other}
@@ -10,7 +10,6 @@ use Rattle.pp_tokens.specs.Grammar.{is_identifier_start, is_identifier_byte, is_
 use Rattle.pp_tokens.specs.Lines.{Part, newline, white, comment, open_comment, token, is_one, is_comment, is_open_comment, part_of}
 use Rattle.pp_tokens.specs.parts.Text.{no_newline}
 use Rattle.pp_tokens.specs.parts.Gathered.{newlines, IsPart, is_long}
-use Rattle.pp_tokens.proofs.Headers.{both_hold, either_holds}
 use Rattle.pp_tokens.proofs.FirstBytes.{apart}
 use Rattle.pp_tokens.proofs.LinedRests.{newline_next}
 
@@ -23,7 +22,7 @@ passes_first p b bs fails passes h = one_more b bs (apart p b 10 passes fails) h
 
 pub all_pass : (p : ℕ → Bool) (bs : List ℕ) → p 10 ≡ false → list_all p bs ≡ true → no_newline bs ≡ true
 all_pass p [] fails h = refl
-all_pass p (b ∷ bs) fails h = passes_first p b bs fails (both_hold (p b) (list_all p bs) h).0 (all_pass p bs fails (both_hold (p b) (list_all p bs) h).1)
+all_pass p (b ∷ bs) fails h = passes_first p b bs fails (and_parts (p b) (list_all p bs) h).0 (all_pass p bs fails (and_parts (p b) (list_all p bs) h).1)
 
 -- IDENTIFIERS AND NUMBERS
 
@@ -31,25 +30,25 @@ identifier_line : (t : List ℕ) → is_identifier t ≡ true → no_newline t �
 unfolding is_identifier
 identifier_line [] h = refl
 identifier_line (b ∷ bs) h =
-    let both = both_hold (is_identifier_start b) (list_all is_identifier_byte bs) h in
+    let both = and_parts (is_identifier_start b) (list_all is_identifier_byte bs) h in
     passes_first is_identifier_start b bs refl both.0 (all_pass is_identifier_byte bs refl both.1)
 
 number_goes_line : (a : ℕ) (bs : List ℕ) → number_goes_on a bs ≡ true → no_newline bs ≡ true
 unfolding number_goes_on
 number_goes_line a [] h = refl
 number_goes_line a (b ∷ bs) h =
-    let both = both_hold (continues_number a b) (number_goes_on b bs) h in
+    let both = and_parts (continues_number a b) (number_goes_on b bs) h in
     passes_first (continues_number a) b bs refl both.0 (number_goes_line b bs both.1)
 
 number_line : (t : List ℕ) → is_number t ≡ true → no_newline t ≡ true
 unfolding is_number
 number_line [] h = refl
 number_line (b ∷ bs) h =
-    let both = both_hold (is_digit b || ((b == 46) && begins_with_digit bs)) (number_goes_on b bs) h in
+    let both = and_parts (is_digit b || ((b == 46) && begins_with_digit bs)) (number_goes_on b bs) h in
     let behind : no_newline bs ≡ true = number_goes_line b bs both.1 in
-    elim (either_holds (is_digit b) ((b == 46) && begins_with_digit bs) both.0) [
+    elim (or_cases (is_digit b) ((b == 46) && begins_with_digit bs) both.0) [
       | inl digit ↦ passes_first is_digit b bs refl digit behind
-      | inr dot ↦ passes_first (λ c. c == 46) b bs refl (both_hold (b == 46) (begins_with_digit bs) dot).0 behind
+      | inr dot ↦ passes_first (λ c. c == 46) b bs refl (and_parts (b == 46) (begins_with_digit bs) dot).0 behind
     ]
 
 -- LITERALS AND HEADER NAMES
@@ -62,7 +61,7 @@ closes_line : (quote : ℕ) (escaped : Bool) (bs : List ℕ) → (quote == 10) �
 unfolding closes
 closes_line quote escaped [] other h = refl
 closes_line quote true (b ∷ bs) other h =
-    let both = both_hold (not (is_newline b)) (closes quote false bs) h in
+    let both = and_parts (not (is_newline b)) (closes quote false bs) h in
     one_more b bs (not-true (b == 10) both.0) (closes_line quote false bs other both.1)
 closes_line quote false (b ∷ bs) other h = by_test (b == quote) refl h (closes_line quote (b == 92) bs other)
   where
@@ -70,26 +69,26 @@ closes_line quote false (b ∷ bs) other h = by_test (b == quote) refl h (closes
         → (closes quote (b == 92) bs ≡ true → no_newline bs ≡ true) → no_newline (b ∷ bs) ≡ true
     by_test true e h' ih = one_more b bs (ap (λ k. k == 10) (eqb-true b quote e) ∙ other) (empty_line bs h')
     by_test false e h' ih =
-        let both = both_hold (not (is_newline b)) (closes quote (b == 92) bs) h' in
+        let both = and_parts (not (is_newline b)) (closes quote (b == 92) bs) h' in
         one_more b bs (not-true (b == 10) both.0) (ih both.1)
 
 quoted_line : (quote : ℕ) (t : List ℕ) → (quote == 10) ≡ false → is_quoted quote t ≡ true → no_newline t ≡ true
 quoted_line quote [] other h = refl
 quoted_line quote (b ∷ bs) other h =
-    let both = both_hold (b == quote) (closes quote false bs) h in
+    let both = and_parts (b == quote) (closes quote false bs) h in
     one_more b bs (ap (λ k. k == 10) (eqb-true b quote both.0) ∙ other) (closes_line quote false bs other both.1)
 
 prefixed_line : (p t : List ℕ) → starts_with nat_eq t p ≡ true → no_newline p ≡ true → no_newline (drop (length p) t) ≡ true → no_newline t ≡ true
 prefixed_line [] t h front behind = behind
 prefixed_line (x ∷ p) [] h front behind = refl
 prefixed_line (x ∷ p) (b ∷ t) h front behind =
-    let both = both_hold (nat_eq x b) (starts_with nat_eq t p) h in
-    let line = both_hold (not (x == 10)) (no_newline p) front in
+    let both = and_parts (nat_eq x b) (starts_with nat_eq t p) h in
+    let line = and_parts (not (x == 10)) (no_newline p) front in
     one_more b t (ap (λ k. k == 10) (sym (eqb-true x b both.0)) ∙ not-true (x == 10) line.0) (prefixed_line p t both.1 line.1 behind)
 
 literal_line : (prefixes : List (List ℕ)) (quote : ℕ) (t : List ℕ) → (quote == 10) ≡ false → list_all no_newline prefixes ≡ true → is_literal prefixes quote t ≡ true → no_newline t ≡ true
 literal_line prefixes quote t other each h =
-    elim (either_holds (is_quoted quote t) (list_any begins prefixes) h) [ inl quoted ↦ quoted_line quote t other quoted | inr some ↦ by_prefix prefixes each some ]
+    elim (or_cases (is_quoted quote t) (list_any begins prefixes) h) [ inl quoted ↦ quoted_line quote t other quoted | inr some ↦ by_prefix prefixes each some ]
   where
     begins : List ℕ → Bool
     begins = λ p. starts_with nat_eq t p && is_quoted quote (drop (length p) t)
@@ -97,10 +96,10 @@ literal_line prefixes quote t other each h =
     by_prefix : (ps : List (List ℕ)) → list_all no_newline ps ≡ true → list_any (λ p. starts_with nat_eq t p && is_quoted quote (drop (length p) t)) ps ≡ true → no_newline t ≡ true
     by_prefix [] all some = absurd (cc)
     by_prefix (p ∷ ps) all some =
-        let line = both_hold (no_newline p) (list_all no_newline ps) all in
-        elim (either_holds (starts_with nat_eq t p && is_quoted quote (drop (length p) t)) (list_any (λ q. starts_with nat_eq t q && is_quoted quote (drop (length q) t)) ps) some) [
+        let line = and_parts (no_newline p) (list_all no_newline ps) all in
+        elim (or_cases (starts_with nat_eq t p && is_quoted quote (drop (length p) t)) (list_any (λ q. starts_with nat_eq t q && is_quoted quote (drop (length q) t)) ps) some) [
           | inl here ↦
-              (let both = both_hold (starts_with nat_eq t p) (is_quoted quote (drop (length p) t)) here in
+              (let both = and_parts (starts_with nat_eq t p) (is_quoted quote (drop (length p) t)) here in
               prefixed_line p t both.0 line.0 (quoted_line quote (drop (length p) t) other both.1))
           | inr later ↦ by_prefix ps line.1 later
         ]
@@ -114,28 +113,28 @@ closes_header_line delimiter (b ∷ bs) other h = by_test (b == delimiter) refl 
         → (closes_header delimiter bs ≡ true → no_newline bs ≡ true) → no_newline (b ∷ bs) ≡ true
     by_test true e h' ih = one_more b bs (ap (λ k. k == 10) (eqb-true b delimiter e) ∙ other) (empty_line bs h')
     by_test false e h' ih =
-        let both = both_hold (not (is_newline b)) (closes_header delimiter bs) h' in
+        let both = and_parts (not (is_newline b)) (closes_header delimiter bs) h' in
         one_more b bs (not-true (b == 10) both.0) (ih both.1)
 
 delimited_line : (opening closing : ℕ) (t : List ℕ) → (opening == 10) ≡ false → (closing == 10) ≡ false → is_delimited opening closing t ≡ true → no_newline t ≡ true
 delimited_line opening closing [] o c h = refl
 delimited_line opening closing (b ∷ bs) o c h =
-    let both = both_hold (b == opening) _ h in
-    let closed = (both_hold (not (starts_with nat_eq bs (closing ∷ []))) (closes_header closing bs) both.1).1 in
+    let both = and_parts (b == opening) _ h in
+    let closed = (and_parts (not (starts_with nat_eq bs (closing ∷ []))) (closes_header closing bs) both.1).1 in
     one_more b bs (ap (λ k. k == 10) (eqb-true b opening both.0) ∙ o) (closes_header_line closing bs c closed)
 
 header_line : (t : List ℕ) → is_header t ≡ true → no_newline t ≡ true
 unfolding is_header
 header_line t h =
-    elim (either_holds (is_delimited 60 62 t) (is_delimited 34 34 t) h) [ inl angle ↦ delimited_line 60 62 t refl refl angle | inr quote ↦ delimited_line 34 34 t refl refl quote ]
+    elim (or_cases (is_delimited 60 62 t) (is_delimited 34 34 t) h) [ inl angle ↦ delimited_line 60 62 t refl refl angle | inr quote ↦ delimited_line 34 34 t refl refl quote ]
 
 -- TOKENS
 
 entry_line : (t : List ℕ) (ps : List (List ℕ)) → list_all no_newline ps ≡ true → list_any (bytes_eq t) ps ≡ true → no_newline t ≡ true
 entry_line t [] each h = absurd (cc)
 entry_line t (p ∷ ps) each h =
-    let line = both_hold (no_newline p) (list_all no_newline ps) each in
-    elim (either_holds (bytes_eq t p) (list_any (bytes_eq t) ps) h) [
+    let line = and_parts (no_newline p) (list_all no_newline ps) each in
+    elim (or_cases (bytes_eq t p) (list_any (bytes_eq t) ps) h) [
       | inl here ↦ ap no_newline ((bytes_eq-Decides t p).0 here) ∙ line.0
       | inr later ↦ entry_line t ps line.1 later
     ]
@@ -192,7 +191,7 @@ part_line t p short h =
 pub none_counted : (t : List ℕ) → no_newline t ≡ true → newlines t ≡ 0
 none_counted [] h = refl
 none_counted (b ∷ bs) h =
-    let both = both_hold (not (b == 10)) (no_newline bs) h in
+    let both = and_parts (not (b == 10)) (no_newline bs) h in
     let e : (b == 10) ≡ false = not-true (b == 10) both.0 in
     newline_next b bs ∙ rw e (let later : newlines bs ≡ 0 = none_counted bs both.1 in omega (arith, later))
 

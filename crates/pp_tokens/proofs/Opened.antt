@@ -2,7 +2,7 @@
 use Rattle.std.specs.Prelude.{◌≡◌, ◌≢◌, ℕ, suc, ◌+◌, Bool, true, false, cond, not, ◌&&◌, ◌||◌, List, [], ◌∷◌, ◌++◌, length, Option, Some, None, option_map, refl, ◌==◌, nat_eq, ◌⊎◌}
 use Rattle.std.specs.List.{starts_with}
 use Rattle.std.proofs.Common.{sym, ◌∙◌, ap, inl, inr, subst, arith, append_assoc}
-use Rattle.std.proofs.lemmas.Bool.{eqb-true, eq-eqb, ne_eqb}
+use Rattle.std.proofs.lemmas.Bool.{eqb-true, eq-eqb, ne_eqb, and_right, or_cases, or_from}
 use Rattle.std.proofs.lemmas.List.{length-append}
 use Rattle.pp_tokens.specs.declared.token.Kind.{Kind}
 use Rattle.pp_tokens.specs.declared.token.Kind.TheVariants.{Ident, Char, Str, Header, Other}
@@ -11,7 +11,6 @@ use Rattle.pp_tokens.specs.Lines.{token, part_of, is_comment, is_open_comment, N
 use Rattle.pp_tokens.specs.parts.Literals.{literal_kind, closing_delimiter}
 use Rattle.pp_tokens.specs.parts.Text.{is_quote}
 use Rattle.pp_tokens.specs.parts.Unpaired.{closing_length, delimiter_length}
-use Rattle.pp_tokens.proofs.Headers.{either_holds, and_fails, or_fails}
 use Rattle.pp_tokens.proofs.Longest.{none_longest}
 use Rattle.pp_tokens.proofs.Reading.{stands_first}
 use Rattle.pp_tokens.proofs.TextLemmas.{header_stands}
@@ -133,7 +132,7 @@ prefix_first prefix quote kind bs some opening none =
 -- with no prefix
 quote_opens : (quote : ℕ) → is_quote quote ≡ true → Opens [] quote (literal_kind quote)
 quote_opens quote h =
-    elim (either_holds (quote == 34) (quote == 39) h) [
+    elim (or_cases (quote == 34) (quote == 39) h) [
       | inl e ↦ subst (λ q. Opens [] q (literal_kind q)) (sym (eqb-true quote 34 e)) string_opens
       | inr e ↦ subst (λ q. Opens [] q (literal_kind q)) (sym (eqb-true quote 39 e)) character_opens
     ]
@@ -141,7 +140,7 @@ quote_opens quote h =
 quote_is : (quote : ℕ) → is_quote quote ≡ true → part_of (quote ∷ []) ≡ Some (token Other)
 unfolding part_of kind_of is_identifier is_number is_string is_character is_punctuator is_comment is_open_comment closes
 quote_is quote h =
-    elim (either_holds (quote == 34) (quote == 39) h) [
+    elim (or_cases (quote == 34) (quote == 39) h) [
       | inl e ↦ subst (λ q. part_of (q ∷ []) ≡ Some (token Other)) (sym (eqb-true quote 34 e)) refl
       | inr e ↦ subst (λ q. part_of (q ∷ []) ≡ Some (token Other)) (sym (eqb-true quote 39 e)) refl
     ]
@@ -178,7 +177,7 @@ empty_name d (c ∷ []) h one = by_test (c == d) refl h
   where
     by_test : (s : Bool) → (c == d) ≡ s → cond s true (not (c == 10) && false) ≡ true → not (starts_with nat_eq (c ∷ []) (d ∷ [])) ≡ false
     by_test true is h = let same : (d == c) ≡ true = eq-eqb d c (sym (eqb-true c d is)) in rw same refl
-    by_test false is h = absurd (let e : (not (c == 10) && false) ≡ false = and_fails (not (c == 10)) false refl in cc)
+    by_test false is h = absurd (let e : (not (c == 10) && false) ≡ false = and_right (not (c == 10)) false refl in cc)
 
 -- what a search for the closing delimiter tells where no header name begins
 abbrev pub Unnamed : Option ℕ → Type 0
@@ -188,7 +187,7 @@ no_name : (d : ℕ) (bs t rest : List ℕ) → Unnamed (delimiter_length d bs) �
 no_name d bs t rest unnamed split = by_test (closes_header d t) refl
   where
     by_test : (s : Bool) → closes_header d t ≡ s → (not (starts_with nat_eq t (d ∷ [])) && closes_header d t) ≡ false
-    by_test false e = and_fails _ _ e
+    by_test false e = and_right _ _ e
     by_test true e =
         let found : delimiter_length d bs ≡ Some (length t) = ap (delimiter_length d) split ∙ delimiter_found d t rest e in
         elim unnamed [
@@ -204,7 +203,7 @@ no_header b bs (inl is) unnamed (f ∷ t) rest e =
     let first_byte : f ≡ 60 = cc in
     let split : bs ≡ t ++ rest = cc in
     let u : Unnamed (delimiter_length 62 bs) = subst (λ c. Unnamed (delimiter_length (closing_delimiter c) bs)) is unnamed in
-    rw first_byte (or_fails _ _ (no_name 62 bs t rest u split) refl)
+    rw first_byte (or_from _ _ (no_name 62 bs t rest u split) refl)
 no_header b bs (inr is) unnamed (f ∷ t) rest e =
     let first_byte : f ≡ 34 = cc in
     let split : bs ≡ t ++ rest = cc in

@@ -2,7 +2,7 @@
 use Rattle.std.specs.Prelude.{◌≡◌, ◌≢◌, ℕ, suc, ◌+◌, Bool, true, false, cond, not, ◌&&◌, ◌||◌, List, [], ◌∷◌, ◌++◌, length, drop, Option, Some, None, option_map, refl, ◌==◌, nat_eq, codes, bytes_eq, ◌⊎◌}
 use Rattle.std.specs.List.{list_all, list_any, starts_with}
 use Rattle.std.proofs.Common.{sym, ◌∙◌, ap, inl, inr, arith}
-use Rattle.std.proofs.lemmas.Bool.{eqb-true}
+use Rattle.std.proofs.lemmas.Bool.{eqb-true, and_parts, or_cases}
 use Rattle.std.proofs.lemmas.Slice.Eq.{bytes_eq-Decides}
 use Rattle.pp_tokens.specs.declared.token.Kind.{Kind}
 use Rattle.pp_tokens.specs.declared.token.Kind.TheVariants.{Ident, Number, Char, Str, Punct, Other}
@@ -12,7 +12,6 @@ use Rattle.pp_tokens.specs.parts.Text.{is_quote}
 use Rattle.pp_tokens.specs.parts.TextLines.{is_ordinary}
 use Rattle.pp_tokens.specs.parts.Gathered.{is_long}
 use Rattle.pp_tokens.specs.parts.Literals.{literal_kind}
-use Rattle.pp_tokens.proofs.Headers.{both_hold, either_holds}
 use Rattle.pp_tokens.proofs.FirstBytes.{apart, first, no_comment, no_open_comment}
 use Rattle.pp_tokens.proofs.Closing.{closing_found}
 use Rattle.pp_tokens.proofs.Opened.{quoted_first}
@@ -47,7 +46,7 @@ is_ordinary_by f b o h =
 all_ordinary : (f : ℕ → Bool) (bs : List ℕ) → OnlyOrdinary f → list_all f bs ≡ true → list_all is_ordinary bs ≡ true
 all_ordinary f [] o h = refl
 all_ordinary f (b ∷ bs) o h =
-    let both = both_hold (f b) (list_all f bs) h in
+    let both = and_parts (f b) (list_all f bs) h in
     rw (is_ordinary_by f b o both.0) (all_ordinary f bs o both.1)
 
 -- an ordinary byte isn't one that is not
@@ -60,18 +59,18 @@ word_goes_on : (b : ℕ) (u : List ℕ) → is_identifier (b ∷ u) ≡ true →
 unfolding is_identifier
 word_goes_on b u h =
     all_ordinary is_identifier_byte u (record { newline = refl; double = refl; single = refl; slash = refl })
-    (both_hold (is_identifier_start b) (list_all is_identifier_byte u) h).1
+    (and_parts (is_identifier_start b) (list_all is_identifier_byte u) h).1
 
 number_goes : (a : ℕ) (u : List ℕ) → number_goes_on a u ≡ true → list_all is_ordinary u ≡ true
 unfolding number_goes_on
 number_goes a [] h = refl
 number_goes a (b ∷ bs) h =
-    let both = both_hold (continues_number a b) (number_goes_on b bs) h in
+    let both = and_parts (continues_number a b) (number_goes_on b bs) h in
     rw (is_ordinary_by (continues_number a) b (record { newline = refl; double = refl; single = refl; slash = refl }) both.0) (number_goes b bs both.1)
 
 number_ordinary : (b : ℕ) (u : List ℕ) → is_number (b ∷ u) ≡ true → list_all is_ordinary u ≡ true
 unfolding is_number
-number_ordinary b u h = number_goes b u (both_hold (is_digit b || ((b == 46) && begins_with_digit u)) (number_goes_on b u) h).1
+number_ordinary b u h = number_goes b u (and_parts (is_digit b || ((b == 46) && begins_with_digit u)) (number_goes_on b u) h).1
 
 -- LITERALS
 
@@ -80,7 +79,7 @@ cut_off_front : (u p : List ℕ) → starts_with nat_eq u p ≡ true → u ≡ p
 cut_off_front u [] h = refl
 cut_off_front [] (x ∷ p) h = absurd (cc)
 cut_off_front (b ∷ u) (x ∷ p) h =
-    let both = both_hold (nat_eq x b) (starts_with nat_eq u p) h in
+    let both = and_parts (nat_eq x b) (starts_with nat_eq u p) h in
     (λ i. sym (eqb-true x b both.0) i ∷ cut_off_front u p both.1 i)
 
 -- what stands between two quotes stands first
@@ -88,7 +87,7 @@ quotes_first : (quote : ℕ) (t rest : List ℕ) → is_quote quote ≡ true →
     → (t ≢ []) × (first_part false (t ++ rest) ≡ (token (literal_kind quote), length t))
 quotes_first quote [] rest q h = absurd (cc)
 quotes_first quote (b ∷ bs) rest q h =
-    let both = both_hold (b == quote) (closes quote false bs) h in
+    let both = and_parts (b == quote) (closes quote false bs) h in
     let same : b ≡ quote = eqb-true b quote both.0 in
     let size : length bs + 1 ≡ suc (length bs) = omega arith in (
       (λ e. cc),
@@ -104,16 +103,16 @@ prefixed : (quote b : ℕ) (u p rest : List ℕ) → is_quote quote ≡ true →
     → (starts_with nat_eq (b ∷ u) p && is_quoted quote (drop (length p) (b ∷ u))) ≡ true → Quoted u rest
 prefixed quote b u [] rest q each h = absurd (cc)
 prefixed quote b u (x ∷ p) rest q each h =
-    let both = both_hold (starts_with nat_eq (b ∷ u) (x ∷ p)) (is_quoted quote (drop (length p) u)) h in
-    let begins = both_hold (nat_eq x b) (starts_with nat_eq u p) both.0 in
+    let both = and_parts (starts_with nat_eq (b ∷ u) (x ∷ p)) (is_quoted quote (drop (length p) u)) h in
+    let begins = and_parts (nat_eq x b) (starts_with nat_eq u p) both.0 in
     let first = quotes_first quote (drop (length p) u) rest q both.1 in
-    let all = both_hold (list_all is_ordinary (x ∷ p)) true each in
+    let all = and_parts (list_all is_ordinary (x ∷ p)) true each in
     record {
       prefix = p;
       quoted = drop (length p) u;
       kind = literal_kind quote;
       split = cut_off_front u p begins.1;
-      each = (both_hold (is_ordinary x) (list_all is_ordinary p) all.0).1;
+      each = (and_parts (is_ordinary x) (list_all is_ordinary p) all.0).1;
       some = first.0;
       found = first.1;
     }
@@ -121,16 +120,16 @@ prefixed quote b u (x ∷ p) rest q each h =
 literal_goes_on : (prefixes : List (List ℕ)) (quote b : ℕ) (u rest : List ℕ) → is_quote quote ≡ true → (b == quote) ≡ false → list_all ordinary_prefix prefixes ≡ true
     → is_literal prefixes quote (b ∷ u) ≡ true → Quoted u rest
 literal_goes_on prefixes quote b u rest q other each h =
-    elim (either_holds (is_quoted quote (b ∷ u)) (list_any (λ p. starts_with nat_eq (b ∷ u) p && is_quoted quote (drop (length p) (b ∷ u))) prefixes) h) [
-      | inl quoted ↦ absurd (let e : true ≡ false = sym (both_hold (b == quote) (closes quote false u) quoted).0 ∙ other in cc)
+    elim (or_cases (is_quoted quote (b ∷ u)) (list_any (λ p. starts_with nat_eq (b ∷ u) p && is_quoted quote (drop (length p) (b ∷ u))) prefixes) h) [
+      | inl quoted ↦ absurd (let e : true ≡ false = sym (and_parts (b == quote) (closes quote false u) quoted).0 ∙ other in cc)
       | inr some ↦ by_prefix prefixes each some
     ]
   where
     by_prefix : (ps : List (List ℕ)) → list_all ordinary_prefix ps ≡ true → list_any (λ p. starts_with nat_eq (b ∷ u) p && is_quoted quote (drop (length p) (b ∷ u))) ps ≡ true → Quoted u rest
     by_prefix [] all some = absurd (cc)
     by_prefix (p ∷ ps) all some =
-        let line = both_hold (ordinary_prefix p) (list_all ordinary_prefix ps) all in
-        elim (either_holds (starts_with nat_eq (b ∷ u) p && is_quoted quote (drop (length p) (b ∷ u))) (list_any (λ q. starts_with nat_eq (b ∷ u) q && is_quoted quote (drop (length q) (b ∷ u))) ps) some) [
+        let line = and_parts (ordinary_prefix p) (list_all ordinary_prefix ps) all in
+        elim (or_cases (starts_with nat_eq (b ∷ u) p && is_quoted quote (drop (length p) (b ∷ u))) (list_any (λ q. starts_with nat_eq (b ∷ u) q && is_quoted quote (drop (length q) (b ∷ u))) ps) some) [
           | inl here ↦ prefixed quote b u p rest q line.0 here
           | inr later ↦ by_prefix ps line.1 later
         ]
@@ -143,16 +142,16 @@ ordinary_entry p = not (is_ordinary (first p)) || list_all is_ordinary p
 
 all_of_entry : (b : ℕ) (u : List ℕ) → is_ordinary b ≡ true → ordinary_entry (b ∷ u) ≡ true → list_all is_ordinary u ≡ true
 all_of_entry b u h entry =
-    elim (either_holds (not (is_ordinary b)) (list_all is_ordinary (b ∷ u)) entry) [
+    elim (or_cases (not (is_ordinary b)) (list_all is_ordinary (b ∷ u)) entry) [
       | inl fails ↦ absurd (let e : false ≡ true = ap not (sym h) ∙ fails in cc)
-      | inr each ↦ (both_hold (is_ordinary b) (list_all is_ordinary u) each).1
+      | inr each ↦ (and_parts (is_ordinary b) (list_all is_ordinary u) each).1
     ]
 
 entry_goes_on : (b : ℕ) (u : List ℕ) (ps : List (List ℕ)) → is_ordinary b ≡ true → list_all ordinary_entry ps ≡ true → list_any (bytes_eq (b ∷ u)) ps ≡ true → list_all is_ordinary u ≡ true
 entry_goes_on b u [] h each some = absurd (cc)
 entry_goes_on b u (p ∷ ps) h each some =
-    let line = both_hold (ordinary_entry p) (list_all ordinary_entry ps) each in
-    elim (either_holds (bytes_eq (b ∷ u) p) (list_any (bytes_eq (b ∷ u)) ps) some) [
+    let line = and_parts (ordinary_entry p) (list_all ordinary_entry ps) each in
+    elim (or_cases (bytes_eq (b ∷ u) p) (list_any (bytes_eq (b ∷ u)) ps) some) [
       | inl here ↦ all_of_entry b u h (ap ordinary_entry ((bytes_eq-Decides (b ∷ u) p).0 here) ∙ line.0)
       | inr later ↦ entry_goes_on b u ps h line.1 later
     ]

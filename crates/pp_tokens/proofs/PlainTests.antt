@@ -3,20 +3,14 @@ use Rattle.std.specs.Prelude.{◌≡◌, ℕ, ◌-◌, ◌≤◌, ◌<◌, Bool,
 use Rattle.std.proofs.Common.{sym, ◌∙◌, ap, arith, length-drop, length-append, append-nil}
 use Rattle.std.proofs.Math.Seq.{take-append_seam, drop-append_seam}
 use Rattle.std.proofs.lemmas.List.{take-append-drop, length-take-le}
-use Rattle.std.proofs.lemmas.Bool.{eqb-true}
+use Rattle.std.proofs.lemmas.Bool.{eqb-true, and_parts, and_right}
 use Rattle.std.proofs.lemmas.Slice.Eq.{bytes_eq-Decides}
+use Rattle.std.specs.Cmp.{both_ways}
 use Rattle.std.specs.Cmp.Derive.{both_true}
 use Rattle.pp_tokens.specs.Plain.{is_simple_name, include_line, included_name, is_include_line, is_plain_line, is_plain_body, lines_of, ends_line}
 use Rattle.pp_tokens.specs.parts.Text.{no_newline}
-use Rattle.pp_tokens.proofs.Headers.{both_hold, and_fails}
 use Rattle.pp_tokens.proofs.FirstBytes.{Run, run_of}
 use Rattle.pp_tokens.proofs.Bodies.{body_cut, no_end}
-
--- two tests that hold together are one
-both_ways : (a b : Bool) → (a ≡ true → b ≡ true) → (b ≡ true → a ≡ true) → a ≡ b
-both_ways true b f g = sym (f refl)
-both_ways false true f g = g refl
-both_ways false false f g = refl
 
 -- INCLUDE LINES
 
@@ -24,14 +18,14 @@ pub short_line : (line : List ℕ) → length line < 12 → is_include_line line
 unfolding is_include_line is_simple_name
 short_line line h =
     let none : length line - 11 ≡ 0 = omega (arith, h) in
-    and_fails (bytes_eq line (include_line (included_name line))) (is_simple_name (included_name line)) (ap (λ n. is_simple_name (take n (drop 10 line))) none)
+    and_right (bytes_eq line (include_line (included_name line))) (is_simple_name (included_name line)) (ap (λ n. is_simple_name (take n (drop 10 line))) none)
 
 abbrev framed : List ℕ → Bool
 framed line = bytes_eq (take 10 line) (codes "#include \"") && bytes_eq (drop (length line - 11) (drop 10 line)) (codes "\"")
 
 framed_whole : (line : List ℕ) → framed line ≡ true → bytes_eq line (include_line (included_name line)) ≡ true
 framed_whole line h =
-    let both = both_hold (bytes_eq (take 10 line) (codes "#include \"")) (bytes_eq (drop (length line - 11) (drop 10 line)) (codes "\"")) h in
+    let both = and_parts (bytes_eq (take 10 line) (codes "#include \"")) (bytes_eq (drop (length line - 11) (drop 10 line)) (codes "\"")) h in
     let front : take 10 line ≡ codes "#include \"" = (bytes_eq-Decides (take 10 line) (codes "#include \"")).0 both.0 in
     let end : drop (length line - 11) (drop 10 line) ≡ codes "\"" = (bytes_eq-Decides (drop (length line - 11) (drop 10 line)) (codes "\"")).0 both.1 in
     let behind : drop 10 line ≡ included_name line ++ codes "\"" =

@@ -2,7 +2,7 @@
 use Rattle.std.specs.Prelude.{◌≡◌, ℕ, zero, suc, ◌+◌, ◌-◌, ◌≤◌, ◌<◌, Bool, true, false, cond, ◌&&◌, ◌||◌, List, [], ◌∷◌, ◌++◌, length, take, drop, take_while, get_or, Some, None, refl, ◌==◌, nat_eq, ◌⊎◌, codes, bytes_eq}
 use Rattle.std.specs.List.{list_all, starts_with}
 use Rattle.std.proofs.Common.{sym, ◌∙◌, ap, inl, inr, subst, arith}
-use Rattle.std.proofs.lemmas.Bool.{eqb-true, eq-eqb, and_left, or_parts}
+use Rattle.std.proofs.lemmas.Bool.{eqb-true, eq-eqb, and_left, or_parts, and_parts, or_cases, or_from}
 use Rattle.std.proofs.lemmas.Slice.Eq.{bytes_eq-Decides}
 use Rattle.std.proofs.lemmas.List.{drop-drop, get_or-drop, length-drop}
 use Rattle.std.proofs.lemmas.List.Sums.{take_while-cons}
@@ -14,7 +14,6 @@ use Rattle.pp_tokens.specs.Grammar.{is_identifier_start, is_identifier_byte, is_
 use Rattle.pp_tokens.specs.Lines.{token, part_of, NoLonger, first_part}
 use Rattle.pp_tokens.specs.parts.Literals.{opens_character, opens_string, opens_literal, literal_kind}
 use Rattle.pp_tokens.specs.parts.Unpaired.{closing_length, delimiter_length, KnowsUnpaired}
-use Rattle.pp_tokens.proofs.Headers.{both_hold, either_holds, or_fails}
 use Rattle.pp_tokens.proofs.Reading.{stands_first}
 use Rattle.pp_tokens.proofs.FirstBytes.{apart, not_quoted, start_plain, word_part, word_is, some_fails, Run, run_of}
 use Rattle.pp_tokens.proofs.Closing.{rest_is, run_front, earlier_unpaired}
@@ -33,12 +32,12 @@ no_prefix : (prefix word : List ℕ) (quote q : ℕ) (ms : List ℕ) → list_al
     → (starts_with nat_eq (word ++ (q ∷ ms)) prefix && is_quoted quote (drop (length prefix) (word ++ (q ∷ ms)))) ≡ false
 no_prefix [] [] quote q ms prefixes words quotes stops h = and_left (q == quote) _ (sym (and-true (q == quote)) ∙ h)
 no_prefix [] (c ∷ word) quote q ms prefixes words quotes stops h =
-    and_left (c == quote) _ (apart is_identifier_byte c quote (both_hold _ _ words).0 quotes)
+    and_left (c == quote) _ (apart is_identifier_byte c quote (and_parts _ _ words).0 quotes)
 no_prefix (x ∷ prefix) [] quote q ms prefixes words quotes stops h =
-    let other : (x == q) ≡ false = apart is_identifier_byte x q (both_hold _ _ prefixes).0 stops in
+    let other : (x == q) ≡ false = apart is_identifier_byte x q (and_parts _ _ prefixes).0 stops in
     rw other refl
 no_prefix (x ∷ prefix) (c ∷ word) quote q ms prefixes words quotes stops h =
-    by_test (x == c) refl (no_prefix prefix word quote q ms (both_hold _ _ prefixes).1 (both_hold _ _ words).1 quotes stops)
+    by_test (x == c) refl (no_prefix prefix word quote q ms (and_parts _ _ prefixes).1 (and_parts _ _ words).1 quotes stops)
   where
     by_test : (s : Bool) → (x == c) ≡ s
         → (((q == quote) && bytes_eq word prefix) ≡ false → (starts_with nat_eq (word ++ (q ∷ ms)) prefix && is_quoted quote (drop (length prefix) (word ++ (q ∷ ms)))) ≡ false)
@@ -56,11 +55,11 @@ string_none b t q ms start all stops h =
     let u8 = and_or (q == 34) (bytes_eq (b ∷ t) (codes "u8")) (opens_character (b ∷ t)) h in
     let u = and_or (q == 34) (bytes_eq (b ∷ t) (codes "u")) (bytes_eq (b ∷ t) (codes "U") || bytes_eq (b ∷ t) (codes "L")) u8.1 in
     let l = and_or (q == 34) (bytes_eq (b ∷ t) (codes "U")) (bytes_eq (b ∷ t) (codes "L")) u.1 in
-    or_fails _ _ (not_quoted 34 b (t ++ (q ∷ ms)) refl (start_plain b start))
-    (or_fails _ _ (no_prefix (codes "u8") (b ∷ t) 34 q ms refl all refl stops u8.0)
-    (or_fails _ _ (no_prefix (codes "u") (b ∷ t) 34 q ms refl all refl stops u.0)
-    (or_fails _ _ (no_prefix (codes "U") (b ∷ t) 34 q ms refl all refl stops l.0)
-    (or_fails _ _ (no_prefix (codes "L") (b ∷ t) 34 q ms refl all refl stops l.1) refl))))
+    or_from _ _ (not_quoted 34 b (t ++ (q ∷ ms)) refl (start_plain b start))
+    (or_from _ _ (no_prefix (codes "u8") (b ∷ t) 34 q ms refl all refl stops u8.0)
+    (or_from _ _ (no_prefix (codes "u") (b ∷ t) 34 q ms refl all refl stops u.0)
+    (or_from _ _ (no_prefix (codes "U") (b ∷ t) 34 q ms refl all refl stops l.0)
+    (or_from _ _ (no_prefix (codes "L") (b ∷ t) 34 q ms refl all refl stops l.1) refl))))
 
 character_none : (b : ℕ) (t : List ℕ) (q : ℕ) (ms : List ℕ) → is_identifier_start b ≡ true → list_all is_identifier_byte (b ∷ t) ≡ true → is_identifier_byte q ≡ false
     → ((q == 39) && opens_character (b ∷ t)) ≡ false → is_character (b ∷ (t ++ (q ∷ ms))) ≡ false
@@ -68,10 +67,10 @@ unfolding is_character
 character_none b t q ms start all stops h =
     let u = and_or (q == 39) (bytes_eq (b ∷ t) (codes "u")) (bytes_eq (b ∷ t) (codes "U") || bytes_eq (b ∷ t) (codes "L")) h in
     let l = and_or (q == 39) (bytes_eq (b ∷ t) (codes "U")) (bytes_eq (b ∷ t) (codes "L")) u.1 in
-    or_fails _ _ (not_quoted 39 b (t ++ (q ∷ ms)) refl (start_plain b start))
-    (or_fails _ _ (no_prefix (codes "u") (b ∷ t) 39 q ms refl all refl stops u.0)
-    (or_fails _ _ (no_prefix (codes "U") (b ∷ t) 39 q ms refl all refl stops l.0)
-    (or_fails _ _ (no_prefix (codes "L") (b ∷ t) 39 q ms refl all refl stops l.1) refl)))
+    or_from _ _ (not_quoted 39 b (t ++ (q ∷ ms)) refl (start_plain b start))
+    (or_from _ _ (no_prefix (codes "u") (b ∷ t) 39 q ms refl all refl stops u.0)
+    (or_from _ _ (no_prefix (codes "U") (b ∷ t) 39 q ms refl all refl stops l.0)
+    (or_from _ _ (no_prefix (codes "L") (b ∷ t) 39 q ms refl all refl stops l.1) refl)))
 
 -- a word that isn't the prefix right before the quote, and what follows it, is no part
 no_longer_word : (b : ℕ) (t : List ℕ) (q : ℕ) (ms : List ℕ) → is_identifier_start b ≡ true → list_all is_identifier_byte t ≡ true → is_identifier_byte q ≡ false
@@ -142,11 +141,11 @@ word_first b bs word behind n start w apart =
 
 string_prefix : (word : List ℕ) → opens_string word ≡ true → OpensLiteral word 34 Str
 string_prefix word h =
-    elim (either_holds (bytes_eq word (codes "u8")) (opens_character word) h) [
+    elim (or_cases (bytes_eq word (codes "u8")) (opens_character word) h) [
       | inl e ↦ subst (λ w. OpensLiteral w 34 Str) (sym ((bytes_eq-Decides word (codes "u8")).0 e)) u8_string
-      | inr h' ↦ elim (either_holds (bytes_eq word (codes "u")) (bytes_eq word (codes "U") || bytes_eq word (codes "L")) h') [
+      | inr h' ↦ elim (or_cases (bytes_eq word (codes "u")) (bytes_eq word (codes "U") || bytes_eq word (codes "L")) h') [
         | inl e ↦ subst (λ w. OpensLiteral w 34 Str) (sym ((bytes_eq-Decides word (codes "u")).0 e)) u_string
-        | inr h'' ↦ elim (either_holds (bytes_eq word (codes "U")) (bytes_eq word (codes "L")) h'') [
+        | inr h'' ↦ elim (or_cases (bytes_eq word (codes "U")) (bytes_eq word (codes "L")) h'') [
           | inl e ↦ subst (λ w. OpensLiteral w 34 Str) (sym ((bytes_eq-Decides word (codes "U")).0 e)) U_string
           | inr e ↦ subst (λ w. OpensLiteral w 34 Str) (sym ((bytes_eq-Decides word (codes "L")).0 e)) L_string
         ]
@@ -155,9 +154,9 @@ string_prefix word h =
 
 character_prefix : (word : List ℕ) → opens_character word ≡ true → OpensLiteral word 39 Char
 character_prefix word h =
-    elim (either_holds (bytes_eq word (codes "u")) (bytes_eq word (codes "U") || bytes_eq word (codes "L")) h) [
+    elim (or_cases (bytes_eq word (codes "u")) (bytes_eq word (codes "U") || bytes_eq word (codes "L")) h) [
       | inl e ↦ subst (λ w. OpensLiteral w 39 Char) (sym ((bytes_eq-Decides word (codes "u")).0 e)) u_character
-      | inr h' ↦ elim (either_holds (bytes_eq word (codes "U")) (bytes_eq word (codes "L")) h') [
+      | inr h' ↦ elim (or_cases (bytes_eq word (codes "U")) (bytes_eq word (codes "L")) h') [
         | inl e ↦ subst (λ w. OpensLiteral w 39 Char) (sym ((bytes_eq-Decides word (codes "U")).0 e)) U_character
         | inr e ↦ subst (λ w. OpensLiteral w 39 Char) (sym ((bytes_eq-Decides word (codes "L")).0 e)) L_character
       ]
@@ -165,10 +164,10 @@ character_prefix word h =
 
 prefix_opens : (word : List ℕ) (quote : ℕ) → opens_literal word quote ≡ true → OpensLiteral word quote (literal_kind quote)
 prefix_opens word quote h =
-    elim (either_holds ((quote == 34) && opens_string word) ((quote == 39) && opens_character word) h) [
-      | inl s ↦ (let both = both_hold (quote == 34) (opens_string word) s in
+    elim (or_cases ((quote == 34) && opens_string word) ((quote == 39) && opens_character word) h) [
+      | inl s ↦ (let both = and_parts (quote == 34) (opens_string word) s in
           subst (λ q. OpensLiteral word q (literal_kind q)) (sym (eqb-true quote 34 both.0)) (string_prefix word both.1))
-      | inr s ↦ (let both = both_hold (quote == 39) (opens_character word) s in
+      | inr s ↦ (let both = and_parts (quote == 39) (opens_character word) s in
           subst (λ q. OpensLiteral word q (literal_kind q)) (sym (eqb-true quote 39 both.0)) (character_prefix word both.1))
     ]
 
@@ -192,8 +191,8 @@ prefix_alone b bs word behind rest n quote w split opens none =
 all_at : (f : ℕ → Bool) (xs : List ℕ) (n k : ℕ) → list_all f (take n xs) ≡ true → k < n → n ≤ length xs → f (get_or xs k 0) ≡ true
 all_at f [] n k all below within = absurd (omega arith)
 all_at f (x ∷ xs) zero k all below within = absurd (omega arith)
-all_at f (x ∷ xs) (suc n) zero all below within = (both_hold _ _ all).0
-all_at f (x ∷ xs) (suc n) (suc k) all below within = all_at f xs n k (both_hold _ _ all).1 (omega arith) (omega arith)
+all_at f (x ∷ xs) (suc n) zero all below within = (and_parts _ _ all).0
+all_at f (x ∷ xs) (suc n) (suc k) all below within = all_at f xs n k (and_parts _ _ all).1 (omega arith) (omega arith)
 
 -- no quote or delimiter stands within a word
 pub known_before : (known : Unpaired) (text rest : List ℕ) (at n : ℕ) → rest ≡ drop at text → n ≡ length (take_while is_identifier_byte rest) → n ≤ length rest

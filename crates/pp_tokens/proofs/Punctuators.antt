@@ -1,6 +1,7 @@
 -- The longest punctuator in front of a text.
 use Rattle.std.specs.Prelude.{◌≡◌, ℕ, Bool, true, false, not, ◌&&◌, ◌||◌, List, [], ◌∷◌, refl, ◌==◌, bytes_eq, codes}
 use Rattle.std.specs.List.{list_all, list_any}
+use Rattle.std.specs.Cmp.{both_ways}
 use Rattle.std.proofs.Common.{sym, ◌∙◌, ap, inl, inr}
 use Rattle.std.proofs.lemmas.Bool.{eqb-true, and_parts, or_cases}
 use Rattle.std.proofs.lemmas.Slice.Eq.{bytes_eq-Decides}
@@ -9,11 +10,6 @@ use Rattle.pp_tokens.specs.Plain.{is_text_mark}
 use Rattle.pp_tokens.specs.parts.Text.{is_single, is_operator, takes_equals, is_doubled, is_mixed, is_pair, is_triple, is_quadruple, is_second}
 
 -- THE TABLE AND THE TESTS
-
-same_truth : (x y : Bool) → (x ≡ true → y ≡ true) → (y ≡ true → x ≡ true) → x ≡ y
-same_truth true y f g = sym (f refl)
-same_truth false true f g = g refl
-same_truth false false f g = refl
 
 -- what holds of each entry holds of a text that is one
 of_table : (f : List ℕ → Bool) (t : List ℕ) (ps : List (List ℕ)) → list_all f ps ≡ true → list_any (bytes_eq t) ps ≡ true → f t ≡ true
@@ -103,7 +99,7 @@ mixed_pairs a b h =
 
 pub single_is : (a : ℕ) → is_single a ≡ is_punctuator (a ∷ [])
 unfolding is_punctuator
-single_is a = same_truth _ _ forth (entry_passes (a ∷ []))
+single_is a = both_ways _ _ forth (entry_passes (a ∷ []))
   where
     test : ℕ → Bool
     test m = is_punctuator (m ∷ [])
@@ -132,7 +128,7 @@ single_is a = same_truth _ _ forth (entry_passes (a ∷ []))
         ]
 
 pub pair_is : (a b : ℕ) → is_pair a b ≡ is_punctuator (a ∷ b ∷ [])
-pair_is a b = same_truth _ _ forth (entry_passes (a ∷ b ∷ []))
+pair_is a b = both_ways _ _ forth (entry_passes (a ∷ b ∷ []))
   where
     forth : is_pair a b ≡ true → is_punctuator (a ∷ b ∷ []) ≡ true
     forth h =
@@ -150,7 +146,7 @@ pair_is a b = same_truth _ _ forth (entry_passes (a ∷ b ∷ []))
 
 pub triple_is : (a b c : ℕ) → is_triple a b c ≡ is_punctuator (a ∷ b ∷ c ∷ [])
 unfolding is_punctuator
-triple_is a b c = same_truth _ _ forth (entry_passes (a ∷ b ∷ c ∷ []))
+triple_is a b c = both_ways _ _ forth (entry_passes (a ∷ b ∷ c ∷ []))
   where
     forth : is_triple a b c ≡ true → is_punctuator (a ∷ b ∷ c ∷ []) ≡ true
     forth h =
@@ -164,7 +160,7 @@ triple_is a b c = same_truth _ _ forth (entry_passes (a ∷ b ∷ c ∷ []))
 
 pub quadruple_is : (a b c d : ℕ) → is_quadruple a b c d ≡ is_punctuator (a ∷ b ∷ c ∷ d ∷ [])
 unfolding is_punctuator
-quadruple_is a b c d = same_truth _ _ forth (entry_passes (a ∷ b ∷ c ∷ d ∷ []))
+quadruple_is a b c d = both_ways _ _ forth (entry_passes (a ∷ b ∷ c ∷ d ∷ []))
   where
     forth : is_quadruple a b c d ≡ true → is_punctuator (a ∷ b ∷ c ∷ d ∷ []) ≡ true
     forth h =

@@ -5,6 +5,7 @@ use Rattle.std.proofs.Common.{sym, ◌∙◌, ap, inl, inr, arith, subst, append
 use Rattle.std.proofs.Math.Nat.{add-zero}
 use Rattle.std.proofs.Math.Seq.{take-append_seam, drop-append_seam}
 use Rattle.std.proofs.lemmas.List.{length-append, length-map, drop-map}
+use Rattle.std.proofs.lemmas.Bool.{and_parts}
 use Rattle.pp_tokens.specs.Phases.{Cell, bytes}
 use Rattle.pp_tokens.specs.Lined.{lined, spliced_up_to}
 use Rattle.pp_tokens.specs.Lines.{Part, newline, white, comment, open_comment, token, LexedFile, header_due, words_after, spells_hash, line_of, unended_line, first_part, elements, Stands}
@@ -15,7 +16,6 @@ use Rattle.pp_tokens.proofs.LinedRests.{lined_bytes, lined_past, cut_line}
 use Rattle.pp_tokens.proofs.OneLine.{all_pass, none_counted}
 use Rattle.pp_tokens.proofs.Closing.{run_front}
 use Rattle.pp_tokens.proofs.SliceLemmas.{comment_at}
-use Rattle.pp_tokens.proofs.Headers.{both_hold}
 use Rattle.pp_tokens.proofs.OrdinaryParts.{GoesOn, part_goes_on}
 use Rattle.pp_tokens.proofs.LexSteps.{first_within}
 
@@ -110,7 +110,7 @@ skip_some : (m k : ℕ) (cells : List Cell) → Skips m → length cells ≤ m �
 skip_some m zero cells skips h each = refl
 skip_some m (suc k) [] skips h each = refl
 skip_some m (suc k) (c ∷ cs) skips h each =
-    let both = both_hold (is_ordinary c.byte) (list_all is_ordinary (take k (bytes cs))) each in
+    let both = and_parts (is_ordinary c.byte) (list_all is_ordinary (take k (bytes cs))) each in
     skips c cs (omega arith) both.0 ∙ skip_some m k cs skips (omega arith) both.1
 
 -- the part whose first byte is stepped over ends where reading on from the next byte comes by

@@ -1,13 +1,13 @@
 use Rattle.std.proofs.Common.{◌≡◌, ◌≤◌, ◌<◌, ◌+◌, ◌-◌, ℕ, true, false, length, take, drop, ap, ◌∙◌, sym, arith, length-drop, subst, ◌==◌}
 use Rattle.std.proofs.lemmas.List.Sums.{count_by-le-length}
 use Rattle.std.proofs.lemmas.List.{length-take-le}
+use Rattle.std.proofs.lemmas.Bool.{and_parts}
 use Rattle.pp_tokens.specs.Lined.{spliced_up_to}
 use Rattle.pp_tokens.specs.Lines.{Part, first_part}
 use Rattle.pp_tokens.specs.DirectiveLines.{directives_alone}
 use Rattle.pp_tokens.specs.parts.Gathered.{newlines, IsPart, Gathers}
 use Rattle.pp_tokens.specs.parts.Text.{is_due, part_told}
 use Rattle.pp_tokens.specs.parts.TextLines.{begins_line, begins_text}
-use Rattle.pp_tokens.proofs.Headers.{both_hold}
 use Rattle.pp_tokens.proofs.LaterPlaces.{known_later}
 use Rattle.pp_tokens.proofs.Splices.{up_to_all, up_to_later}
 use Rattle.pp_tokens.proofs.LexSteps.{first_within, first_is_part, nothing_gathered, lex_start, lex_step, lex_end, white_run, front_is_white}
@@ -84,7 +84,7 @@ loop-at-preserved-then-begins_text c =
     let word = take n (drop at text) in
     let begins : begins_text old.before (part_told c.next_part-what.result.0) word ≡ true =
     ap (begins_text old.before (part_told c.next_part-what.result.0)) (sym c.stretch-word.ensures) ∙ sym c.begins_text.ensures ∙ c.if-begins_text.true in
-    let starts : begins_line old.before ≡ true = (both_hold (begins_line old.before) _ begins).0 in
+    let starts : begins_line old.before ≡ true = (and_parts (begins_line old.before) _ begins).0 in
     let kind = is_a_token old.before (part_told c.next_part-what.result.0) word begins in
     let ended = text_outlined text old new end.comment c.loop-at.invariant.gathered c.loop-at.invariant.outlined starts c.in_ok-end_text.ensures in
     let same : at + (end.at - at) ≡ end.at = omega (arith, c.line_end-end.ensures.end.later) in

@@ -1,8 +1,7 @@
 use Rattle.std.proofs.Common.{◌≡◌, ◌≢◌, ℕ, ◌<◌, ◌≤◌, ◌∷◌, ◌==◌, ◌&&◌, [], List, length, get_or, refl, ◌∙◌, arith, true, false, eq-eqb, None}
-use Rattle.std.proofs.lemmas.Bool.{ne_eqb}
+use Rattle.std.proofs.lemmas.Bool.{ne_eqb, and_right}
 use Rattle.pp_tokens.specs.Phases.{trigraph}
 use Rattle.pp_tokens.specs.parts.Pieces.{front_trigraph}
-use Rattle.pp_tokens.proofs.Headers.{and_fails}
 use Rattle.pp_tokens.proofs.source.front_trigraph.Goals as goal
 use Rattle.pp_tokens.proofs.source.front_trigraph.Goals.{then-rest-lt3-via-then-rest-lt3, then-rest-lt3-via-else-rest-lt3+then-rest-ne63, then-rest-lt3-via-else-rest-lt3+else-rest-ne63+then-rest-ne63-2}
 
@@ -25,7 +24,7 @@ unfolding front_trigraph
 other_second [] h = refl
 other_second (a ∷ []) h = refl
 other_second (a ∷ b ∷ []) h = refl
-other_second (a ∷ b ∷ d ∷ bs) h = let e : ((a == 63) && (b == 63)) ≡ false = and_fails (a == 63) (b == 63) (ne_eqb b 63 h) in rw e refl
+other_second (a ∷ b ∷ d ∷ bs) h = let e : ((a == 63) && (b == 63)) ≡ false = and_right (a == 63) (b == 63) (ne_eqb b 63 h) in rw e refl
 
 by_third : (rest : List ℕ) → 3 ≤ length rest → get_or rest 0 0 ≡ 63 → get_or rest 1 0 ≡ 63 → trigraph (get_or rest 2 0) ≡ front_trigraph rest
 unfolding front_trigraph
