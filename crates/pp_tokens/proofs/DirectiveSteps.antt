@@ -16,7 +16,7 @@ use Rattle.pp_tokens.specs.DirectiveLines.{begins_hash, directive_line, directiv
 use Rattle.pp_tokens.specs.parts.Seen.{seen_lines, last_end}
 use Rattle.pp_tokens.specs.parts.Text.{after_word, is_due}
 use Rattle.pp_tokens.specs.parts.TextLines.{text_lines, text_file, file_behind, begins_line, begins_text, EndsText}
-use Rattle.pp_tokens.specs.parts.Gathered.{newlines, joined, present_tokens, file_with, IsGathered, GathersNothing, EndsLastLine, EndsTextLine, AddsGap, Gathers}
+use Rattle.pp_tokens.specs.parts.Gathered.{newlines, lines_left, present_tokens, file_with, IsGathered, GathersNothing, EndsLastLine, EndsTextLine, AddsGap, Gathers}
 use Rattle.pp_tokens.proofs.DueWords.{after_words, due_is}
 use Rattle.pp_tokens.proofs.LinedRests.{lined_past, cut_bytes}
 use Rattle.pp_tokens.proofs.OneLine.{short_newlines}
@@ -139,18 +139,18 @@ end_outlined text old new g o e =
 
 -- A LINE OF TEXT
 
-joined_part : (p : Part) (cs : List Cell) (es : List Element) → ((t : Token) (ts : List Token) (space : Bool) → spells_hash t.text ≡ false → map directive_line (joined true (t ∷ ts) space es) ≡ text_lines es)
+joined_part : (p : Part) (cs : List Cell) (es : List Element) → ((t : Token) (ts : List Token) (space : Bool) → spells_hash t.text ≡ false → map directive_line (lines_left true (t ∷ ts) space es) ≡ text_lines es)
     → (t : Token) (ts : List Token) (space : Bool) → spells_hash t.text ≡ false
-    → map directive_line (joined true (t ∷ ts) space (record { part = p; cells = cs } ∷ es)) ≡ text_lines (record { part = p; cells = cs } ∷ es)
-unfolding joined text_lines
-joined_part newline cs es ih t ts space h = ap (λ (k : Bool). cond k (t ∷ ts) [] ∷ map directive_line (joined false [] true es)) h
+    → map directive_line (lines_left true (t ∷ ts) space (record { part = p; cells = cs } ∷ es)) ≡ text_lines (record { part = p; cells = cs } ∷ es)
+unfolding lines_left text_lines
+joined_part newline cs es ih t ts space h = ap (λ (k : Bool). cond k (t ∷ ts) [] ∷ map directive_line (lines_left false [] true es)) h
 joined_part white cs es ih t ts space h = ih t ts true h
 joined_part comment cs es ih t ts space h = ih t ts true h
 joined_part open_comment cs es ih t ts space h = ih t ts true h
 joined_part (token k) cs es ih t ts space h = ih t _ false h
 
-text_joined : (es : List Element) (t : Token) (ts : List Token) (space : Bool) → spells_hash t.text ≡ false → map directive_line (joined true (t ∷ ts) space es) ≡ text_lines es
-unfolding joined text_lines
+text_joined : (es : List Element) (t : Token) (ts : List Token) (space : Bool) → spells_hash t.text ≡ false → map directive_line (lines_left true (t ∷ ts) space es) ≡ text_lines es
+unfolding lines_left text_lines
 text_joined [] t ts space h = ap (λ (k : Bool). cond k (t ∷ ts) [] ∷ []) h
 text_joined (e ∷ es) t ts space h = joined_part e.part e.cells es (text_joined es) t ts space h
 
@@ -169,11 +169,11 @@ no_words (w ∷ ws) h = absurd (let e : true ≡ false = sym h ∙ begun_stays (
 text_begun : (text : List ℕ) (g : Gathering) (k : Kind) (cells : List Cell) (es : List Element) → Outlined text g → begins_line g.before ≡ true → spells_hash (bytes cells) ≡ false
     → directives_alone (file_with text g (record { part = token k; cells = cells } ∷ es))
     ≡ record { lines = seen_lines text g.places.items 0 g.ends.items ++ (text_file es).lines; unended = or_else g.unended (text_file es).unended }
-unfolding joined unended_line
+unfolding lines_left unended_line
 text_begun text g k cells es o first other =
     ap (λ (ls : List (List Token)). record { lines = ls; unended = or_else g.unended (unended_line es) })
     (map-append directive_line (seen text g) _
-    ∙ (λ i. o.lines i ++ map directive_line (joined true (o.none first i ++ (record { kind = k; text = bytes cells; line = line_of cells; space = g.space } ∷ [])) false es))
+    ∙ (λ i. o.lines i ++ map directive_line (lines_left true (o.none first i ++ (record { kind = k; text = bytes cells; line = line_of cells; space = g.space } ∷ [])) false es))
     ∙ ap (λ (ls : List (List Token)). seen text g ++ ls) (text_joined es _ [] false other))
 
 or_assoc : (a b c : Option ℕ) → or_else (or_else a b) c ≡ or_else a (or_else b c)
@@ -195,13 +195,13 @@ text_behind : (text : List ℕ) (old new : Gathering) (unended : Option ℕ) (es
 text_behind text old new unended es g o none e =
     let now = text_ended text old new unended g none e in
     let blank : List (List Token) = [] ∷ [] in
-    let others = map directive_line (joined false [] true es) in
+    let others = map directive_line (lines_left false [] true es) in
     (λ i. record {
-      lines = map directive_line (now.0 i ++ joined (e.begun i) (now.1 i) (e.space i) es);
+      lines = map directive_line (now.0 i ++ lines_left (e.begun i) (now.1 i) (e.space i) es);
       unended = or_else (e.first i) (unended_line es);
     })
     ∙ (λ i. record {
-      lines = map-append directive_line (seen text old ++ blank) (joined false [] true es) i;
+      lines = map-append directive_line (seen text old ++ blank) (lines_left false [] true es) i;
       unended = or_assoc old.unended unended (unended_line es) i;
     })
     ∙ ap (λ (ls : List (List Token)). record { lines = ls ++ others; unended = or_else old.unended (or_else unended (unended_line es)) })

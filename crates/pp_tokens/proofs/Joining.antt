@@ -3,7 +3,7 @@ use Rattle.std.specs.Prelude.{◌≡◌, Bool, true, false, cond, List, [], ◌�
 use Rattle.std.proofs.Common.{sym, ◌∙◌, ap, append_assoc}
 use Rattle.std.proofs.lemmas.List.{append-nil}
 use Rattle.pp_tokens.specs.declared.token.Token.{Token}
-use Rattle.pp_tokens.specs.parts.Gathered.{joined}
+use Rattle.pp_tokens.specs.parts.Gathered.{lines_left}
 use Rattle.pp_tokens.specs.Phases.{Cell}
 use Rattle.pp_tokens.specs.Lines.{Part, newline, white, comment, open_comment, token, Element, cut_at_newlines, onto_first, line_tokens}
 
@@ -33,9 +33,9 @@ abbrev element : Part → List Cell → Element
 element p cs = record { part = p; cells = cs }
 
 joined_step : (p : Part) (cs : List Cell) (begun : Bool) (current : List Token) (space : Bool) (es : List Element)
-    → ((begun' : Bool) (current' : List Token) (space' : Bool) → joined begun' current' space' es ≡ onto begun' current' space' (cut_at_newlines es))
-    → joined begun current space (element p cs ∷ es) ≡ onto begun current space (cut_at_newlines (element p cs ∷ es))
-unfolding joined cut_at_newlines line_tokens
+    → ((begun' : Bool) (current' : List Token) (space' : Bool) → lines_left begun' current' space' es ≡ onto begun' current' space' (cut_at_newlines es))
+    → lines_left begun current space (element p cs ∷ es) ≡ onto begun current space (cut_at_newlines (element p cs ∷ es))
+unfolding lines_left cut_at_newlines line_tokens
 joined_step newline cs begun current space es ih =
     ap (λ (ls : List (List Token)). current ∷ ls) (ih false [] true ∙ fresh_line (cut_at_newlines es))
     ∙ ap (λ (l : List Token). l ∷ map (line_tokens true) (cut_at_newlines es)) (sym (append-nil current))
@@ -45,11 +45,11 @@ joined_step white cs begun current space es ih = ih true current true ∙ on_whi
 joined_step comment cs begun current space es ih = ih true current true ∙ on_white begun space current (element comment cs) (cut_at_newlines es) (λ l. refl)
 joined_step open_comment cs begun current space es ih = ih true current true ∙ on_white begun space current (element open_comment cs) (cut_at_newlines es) (λ l. refl)
 
-joined_is : (begun : Bool) (current : List Token) (space : Bool) (es : List Element) → joined begun current space es ≡ onto begun current space (cut_at_newlines es)
-unfolding joined cut_at_newlines
+joined_is : (begun : Bool) (current : List Token) (space : Bool) (es : List Element) → lines_left begun current space es ≡ onto begun current space (cut_at_newlines es)
+unfolding lines_left cut_at_newlines
 joined_is begun current space [] = refl
 joined_is begun current space (e ∷ es) = joined_step e.part e.cells begun current space es (λ b c s. joined_is b c s es)
 
 -- the lines of all elements, from the start
-pub lines_joined : (es : List Element) → map (line_tokens true) (cut_at_newlines es) ≡ joined false [] true es
+pub lines_joined : (es : List Element) → map (line_tokens true) (cut_at_newlines es) ≡ lines_left false [] true es
 lines_joined es = sym (joined_is false [] true es ∙ fresh_line (cut_at_newlines es))

@@ -15,7 +15,7 @@ use Rattle.pp_tokens.specs.Lines.{Part, newline, white, comment, open_comment, t
 use Rattle.pp_tokens.specs.parts.Seen.{seen_lines, seen_file, last_end, Ascends, EachWithin}
 use Rattle.pp_tokens.specs.Grammar.{is_white}
 use Rattle.pp_tokens.specs.parts.Text.{after_word, is_due, opens_header}
-use Rattle.pp_tokens.specs.parts.Gathered.{newlines, joined, present_tokens, file_with, lines_with, present_with, before_with, IsGathered, IsPart, GathersNothing, EndsLine, EndsLastLine, AddsToken, AddsGap, Gathers}
+use Rattle.pp_tokens.specs.parts.Gathered.{newlines, lines_left, present_tokens, file_with, lines_with, present_with, before_with, IsGathered, IsPart, GathersNothing, EndsLine, EndsLastLine, AddsToken, AddsGap, Gathers}
 use Rattle.pp_tokens.proofs.Reading.{cut_off, next_element, drop_one_more, first_stands, some_length}
 use Rattle.pp_tokens.proofs.LinedRests.{lined_bytes, lined_past, cut_bytes, cut_line}
 use Rattle.pp_tokens.proofs.TextLemmas.{white_byte, white_first, no_delimiter}
@@ -70,7 +70,7 @@ abbrev element : Part → List Cell → Element
 element p cs = record { part = p; cells = cs }
 
 pub line_gathered : (text spelling : List ℕ) (line : ℕ) (old new : Gathering) → IsGathered text old → EndsLine old new → Gathers text old new newline spelling line
-unfolding joined unended_line
+unfolding lines_left unended_line
 line_gathered text spelling line old new g e =
     let places = old.places.items in
     let ends = old.ends.items in
@@ -85,13 +85,13 @@ line_gathered text spelling line old new g e =
           (let none : drop (last_end 0 ended) places ≡ [] = rw (last_of_more 0 ends (length places)) (all_dropped places) in
           rw (e.places, e.ends, e.unended, e.begun, e.space, line_more text places 0 ends g.ascends, none)
           (ap (λ (ls : List (List Token)). record { lines = ls; unended = or_else old.unended (unended_line es) })
-          (append_assoc (seen_lines text places 0 ends) (present_tokens text old ∷ []) (joined false [] true es))));
+          (append_assoc (seen_lines text places 0 ends) (present_tokens text old ∷ []) (lines_left false [] true es))));
     }
 
 pub token_gathered : (text : List ℕ) (place : Place) (old new : Gathering) → IsGathered text old → place.start + place.length ≤ length text → place.space ≡ old.space
     → AddsToken old new place (take place.length (drop place.start text))
     → Gathers text old new (token place.kind) (take place.length (drop place.start text)) place.line
-unfolding joined unended_line
+unfolding lines_left unended_line
 token_gathered text place old new g fits spaced e =
     let places = old.places.items in
     let ends = old.ends.items in
@@ -111,7 +111,7 @@ token_gathered text place old new g fits spaced e =
           rw (e.places, e.ends, e.unended, e.begun, e.space, same_lines text places place 0 ends g.ascends, token_more text places place (last_end 0 ends) last.1)
           (λ i. record {
             lines = seen_lines text places 0 ends
-                ++ joined true (present_tokens text old ++ (record { kind = place.kind; text = sym same i; line = sym is i; space = spaced i } ∷ [])) false es;
+                ++ lines_left true (present_tokens text old ++ (record { kind = place.kind; text = sym same i; line = sym is i; space = spaced i } ∷ [])) false es;
             unended = or_else old.unended (unended_line es);
           });
     }
@@ -134,7 +134,7 @@ some_first (Some y) p x = refl
 
 gap_file : (text : List ℕ) (part : Part) (unended : Option ℕ) (line : ℕ) (old new : Gathering) → IsGap part unended line → AddsGap old new unended → (cells : List Cell) (es : List Element) → line_of cells ≡ line
     → file_with text new es ≡ file_with text old (element part cells ∷ es)
-unfolding joined unended_line
+unfolding lines_left unended_line
 gap_file text newline unended line old new gap e cells es is = absurd gap
 gap_file text (token k) unended line old new gap e cells es is = absurd gap
 gap_file text white unended line old new gap e cells es is =
@@ -265,7 +265,7 @@ or_none (Some x) = refl
 
 pub lex_end : (view : LexedFile → LexedFile) (text splices : List ℕ) (old new : Gathering) (at base : ℕ) → length text ≤ at → IsGathered text old → LexState view text splices old at base → EndsLastLine old new
     → (view (seen_file text new.places.items new.ends.items new.unended) ≡ view (file_of (elements zero [] (lined splices 0 1 text)))) × IsGathered text new
-unfolding joined unended_line elements lined
+unfolding lines_left unended_line elements lined
 lex_end view text splices old new at base past g state e =
     (sym (state.file ∙ ap view (gathered ∙ sym seen)), record { ascends = rw (e.places, e.ends) (ascends old.begun); within = rw e.places g.within })
   where

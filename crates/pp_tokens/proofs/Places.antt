@@ -6,7 +6,7 @@ use Rattle.std.proofs.lemmas.List.{map-append, drop-append-le, take-append-le, l
 use Rattle.std.proofs.lemmas.Option.{slice_get-map, slice_get_past}
 use Rattle.pp_tokens.specs.declared.lexer.Place.{Place}
 use Rattle.pp_tokens.specs.declared.token.Token.{Token}
-use Rattle.pp_tokens.specs.parts.Seen.{token_at, seen_lines, last_end, Ascends, EachWithin}
+use Rattle.pp_tokens.specs.parts.Seen.{token_of_place, seen_lines, last_end, Ascends, EachWithin}
 
 pub ascends_last : (from : ℕ) (ends : List ℕ) (last : ℕ) → Ascends from ends last → (from ≤ last_end from ends) × (last_end from ends ≤ last)
 unfolding last_end Ascends
@@ -51,20 +51,20 @@ same_lines text places p from (end ∷ ends) (low, h) =
 
 -- the line that ends with the last place
 pub line_more : (text : List ℕ) (places : List Place) (from : ℕ) (ends : List ℕ) → Ascends from ends (length places)
-    → seen_lines text places from (ends ++ (length places ∷ [])) ≡ seen_lines text places from ends ++ (map (token_at text) (drop (last_end from ends) places) ∷ [])
+    → seen_lines text places from (ends ++ (length places ∷ [])) ≡ seen_lines text places from ends ++ (map (token_of_place text) (drop (last_end from ends) places) ∷ [])
 unfolding seen_lines Ascends last_end
 line_more text places from [] h =
     let size : length places - from ≡ length (drop from places) = sym (length-drop from places) in
     let all : take (length places - from) (drop from places) ≡ drop from places = ap (λ n. take n (drop from places)) size ∙ take-length (drop from places) in
     rw all refl
 line_more text places from (end ∷ ends) (low, h) =
-    ap (λ (ls : List (List Token)). map (token_at text) (take (end - from) (drop from places)) ∷ ls) (line_more text places end ends h)
+    ap (λ (ls : List (List Token)). map (token_of_place text) (take (end - from) (drop from places)) ∷ ls) (line_more text places end ends h)
 
 -- the tokens of the line that hasn't ended, with a place more
 pub token_more : (text : List ℕ) (places : List Place) (p : Place) (from : ℕ) → from ≤ length places
-    → map (token_at text) (drop from (places ++ (p ∷ []))) ≡ map (token_at text) (drop from places) ++ (token_at text p ∷ [])
+    → map (token_of_place text) (drop from (places ++ (p ∷ []))) ≡ map (token_of_place text) (drop from places) ++ (token_of_place text p ∷ [])
 token_more text places p from le =
-    ap (map (token_at text)) (drop-append-le from places (p ∷ []) le) ∙ map-append (token_at text) (drop from places) (p ∷ [])
+    ap (map (token_of_place text)) (drop-append-le from places (p ∷ []) le) ∙ map-append (token_of_place text) (drop from places) (p ∷ [])
 
 -- THE TOKEN AT A PLACE OF A LINE
 
@@ -82,7 +82,7 @@ abbrev pub places_of : List Place → ℕ → List ℕ → ℕ → List Place
 places_of places from ends line = take (get_or ends line 0 - start_of from ends line) (drop (start_of from ends line) places)
 
 pub line_at : (text : List ℕ) (places : List Place) (from : ℕ) (ends : List ℕ) (line : ℕ) → line < length ends
-    → slice_get (seen_lines text places from ends) line ≡ Some (map (token_at text) (places_of places from ends line))
+    → slice_get (seen_lines text places from ends) line ≡ Some (map (token_of_place text) (places_of places from ends line))
 unfolding seen_lines
 line_at text places from [] line h = absurd (omega arith)
 line_at text places from (end ∷ ends) zero h = refl
@@ -132,21 +132,21 @@ range_is places ends line start end h below e s =
     (omega (arith, at.0, same, s), omega (arith, at.1, same), same)
 
 pub tokens_at : (text : List ℕ) (places : List Place) (ends : List ℕ) (line start end : ℕ) → line < length ends → end ≡ get_or ends line 0 → start ≡ get_or (0 ∷ ends) line 0
-    → slice_get (seen_lines text places 0 ends) line ≡ Some (map (token_at text) (take (end - start) (drop start places)))
-tokens_at text places ends line start end below e s = line_at text places 0 ends line below ∙ (λ i. Some (map (token_at text) (take (sym e i - sym s i) (drop (sym s i) places))))
+    → slice_get (seen_lines text places 0 ends) line ≡ Some (map (token_of_place text) (take (end - start) (drop start places)))
+tokens_at text places ends line start end below e s = line_at text places 0 ends line below ∙ (λ i. Some (map (token_of_place text) (take (sym e i - sym s i) (drop (sym s i) places))))
 
-pub stretch_length : (text : List ℕ) (places : List Place) (start end : ℕ) → start ≤ end → end ≤ length places → length (map (token_at text) (take (end - start) (drop start places))) ≡ end - start
+pub stretch_length : (text : List ℕ) (places : List Place) (start end : ℕ) → start ≤ end → end ≤ length places → length (map (token_of_place text) (take (end - start) (drop start places))) ≡ end - start
 stretch_length text places start end low high =
-    length-map (take (end - start) (drop start places)) (token_at text) ∙ length-take-le (end - start) (drop start places) (omega (arith, low, high, length-drop start places))
+    length-map (take (end - start) (drop start places)) (token_of_place text) ∙ length-take-le (end - start) (drop start places) (omega (arith, low, high, length-drop start places))
 
 -- the token at a place within a line
 pub token_within : (text : List ℕ) (places : List Place) (start end place : ℕ) (p : Place) → place < end - start → slice_get places (start + place) ≡ Some p
-    → slice_get (map (token_at text) (take (end - start) (drop start places))) place ≡ Some (token_at text p)
+    → slice_get (map (token_of_place text) (take (end - start) (drop start places))) place ≡ Some (token_of_place text p)
 token_within text places start end place p below is =
-    slice_get-map (token_at text) (take (end - start) (drop start places)) place
-    ∙ ap (option_map (token_at text)) (stretch_at places start (end - start) place below ∙ is)
+    slice_get-map (token_of_place text) (take (end - start) (drop start places)) place
+    ∙ ap (option_map (token_of_place text)) (stretch_at places start (end - start) place below ∙ is)
 
 pub token_past : (text : List ℕ) (places : List Place) (start end place : ℕ) → start ≤ end → end ≤ length places → end - start ≤ place
-    → slice_get (map (token_at text) (take (end - start) (drop start places))) place ≡ None
+    → slice_get (map (token_of_place text) (take (end - start) (drop start places))) place ≡ None
 token_past text places start end place low high past =
-    slice_get_past (map (token_at text) (take (end - start) (drop start places))) place (omega (arith, stretch_length text places start end low high, past))
+    slice_get_past (map (token_of_place text) (take (end - start) (drop start places))) place (omega (arith, stretch_length text places start end low high, past))

@@ -3,10 +3,10 @@ use Rattle.std.specs.Prelude.{◌≡◌, ℕ, ◌+◌, ◌≤◌, ◌<◌, Bool,
 use Rattle.std.proofs.Common.{sym, ◌∙◌, ap, append_assoc, subst, arith}
 use Rattle.std.proofs.lemmas.List.{append-nil, length-append, drop-append-le, drop-drop, drop_all, take-append-drop, take-append-le}
 use Rattle.pp_tokens.specs.declared.source.Piece.TheVariants.{Byte, Splice}
-use Rattle.pp_tokens.specs.Phases.{Cell, cell, ended, with_newlines, numbered, without_trigraphs, spliced, source_text}
+use Rattle.pp_tokens.specs.Phases.{Cell, cell, newline_ended, with_newlines, numbered, without_trigraphs, spliced, source_text}
 use Rattle.pp_tokens.specs.Lined.{lined}
 use Rattle.pp_tokens.specs.parts.Seen.{Ascends}
-use Rattle.pp_tokens.specs.parts.Pieces.{characters, source_from, line_behind, IsRun, IsFront}
+use Rattle.pp_tokens.specs.parts.Pieces.{characters, source_from, line_behind, FrontStays, IsFront}
 use Rattle.pp_tokens.proofs.LinedText.{line_behind-append, line_behind-add, next_line, lined_more, lined_splice}
 use Rattle.pp_tokens.proofs.FrontPieces.{source_end}
 
@@ -18,7 +18,7 @@ line_now text splices = line_behind 1 text + length splices
 pub record SourceState (trigraphs : Bool) (body text splices rest : List ℕ) : Type 0 where
   whole : lined splices 0 1 text ++ source_from trigraphs (line_now text splices) rest ≡ source_text trigraphs body
 
-pub source_start : (trigraphs : Bool) (body lines : List ℕ) → ended body ≡ lines ++ (10 ∷ []) → SourceState trigraphs body [] [] (lines ++ (10 ∷ []))
+pub source_start : (trigraphs : Bool) (body lines : List ℕ) → newline_ended body ≡ lines ++ (10 ∷ []) → SourceState trigraphs body [] [] (lines ++ (10 ∷ []))
 unfolding source_text source_from characters lined line_behind
 source_start trigraphs body lines is = record { whole = ap (source_from trigraphs 1) (sym is) }
 
@@ -70,7 +70,7 @@ source_done trigraphs body text splices rest is state =
     sym (append-nil (lined splices 0 1 text)) ∙ ap (λ (cs : List Cell). lined splices 0 1 text ++ cs) (sym none) ∙ state.whole
 
 pub empty_source : (trigraphs : Bool) (body : List ℕ) → length body ≡ 0 → lined [] 0 1 [] ≡ source_text trigraphs body
-unfolding source_text ended with_newlines numbered without_trigraphs spliced lined
+unfolding source_text newline_ended with_newlines numbered without_trigraphs spliced lined
 empty_source true [] none = refl
 empty_source false [] none = refl
 empty_source trigraphs (b ∷ bs) none = absurd (omega arith)
@@ -79,7 +79,7 @@ empty_source trigraphs (b ∷ bs) none = absurd (omega arith)
 
 -- a run of bytes at a place
 pub source_run_at : (trigraphs : Bool) (body text splices lines rest kept behind : List ℕ) (at run : ℕ) → at ≤ length lines → rest ≡ drop at lines → run ≤ length rest
-    → kept ≡ take run rest → behind ≡ drop run rest → Ascends 0 splices (length text) → IsRun trigraphs (rest ++ (10 ∷ [])) run
+    → kept ≡ take run rest → behind ≡ drop run rest → Ascends 0 splices (length text) → FrontStays trigraphs (rest ++ (10 ∷ [])) run
     → SourceState trigraphs body text splices (drop at (lines ++ (10 ∷ []))) → SourceState trigraphs body (text ++ kept) splices (behind ++ (10 ∷ []))
 source_run_at trigraphs body text splices lines rest kept behind at run within is fits front back ascends stays state =
     let left : drop at (lines ++ (10 ∷ [])) ≡ rest ++ (10 ∷ []) = drop-append-le at lines (10 ∷ []) within ∙ ap (λ (l : List ℕ). l ++ (10 ∷ [])) (sym is) in

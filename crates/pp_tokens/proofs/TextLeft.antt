@@ -9,7 +9,7 @@ use Rattle.std.proofs.lemmas.Bool.{and_parts}
 use Rattle.pp_tokens.specs.Phases.{Cell, bytes}
 use Rattle.pp_tokens.specs.Lined.{lined, spliced_up_to}
 use Rattle.pp_tokens.specs.Lines.{Part, newline, white, comment, open_comment, token, LexedFile, header_due, words_after, spells_hash, line_of, unended_line, first_part, elements, Stands}
-use Rattle.pp_tokens.specs.parts.Gathered.{newlines, joined, is_long}
+use Rattle.pp_tokens.specs.parts.Gathered.{newlines, lines_left, is_long}
 use Rattle.pp_tokens.specs.parts.TextLines.{is_ordinary, text_lines, text_file, text_left, file_behind}
 use Rattle.pp_tokens.proofs.Reading.{Front, next_element, drop_one_more, first_stands, some_length}
 use Rattle.pp_tokens.proofs.LinedRests.{lined_bytes, lined_past, cut_line}
@@ -212,12 +212,12 @@ open_is_rest (b ∷ bs) n some is = open_front (b ∷ bs) n (subst (Front false 
 
 pub nothing_left : (splices : List ℕ) (at base : ℕ) (xs : List ℕ) → xs ≡ []
     → text_left (lined splices at base xs) ≡ file_behind None (elements zero [] (lined splices at base xs))
-unfolding lined elements text_lines joined unended_line
+unfolding lined elements text_lines lines_left unended_line
 nothing_left splices at base [] none = refl
 nothing_left splices at base (b ∷ bs) none = absurd (cc)
 
 pub comment_left : (line : ℕ) (splices : List ℕ) (at base other : ℕ) (xs : List ℕ) → xs ≡ []
     → left_behind open_comment line (lined splices at base xs) ≡ file_behind (Some line) (elements zero [] (lined splices at other xs))
-unfolding lined elements text_lines joined unended_line
+unfolding lined elements text_lines lines_left unended_line
 comment_left line splices at base other [] none = refl
 comment_left line splices at base other (b ∷ bs) none = absurd (cc)

@@ -17,10 +17,10 @@ abbrev pub bytes : List Cell → List ℕ
 bytes = map (λ c. c.byte)
 
 -- A last line without a line feed gets one; an empty body has no line (5.1.1.2 paragraph 2).
-unfoldable pub ended : List ℕ → List ℕ
-ended [] = []
-ended (b ∷ []) = if b == ascii.newline then b ∷ [] else b ∷ ascii.newline ∷ []
-ended (b ∷ c ∷ bs) = b ∷ ended (c ∷ bs)
+unfoldable pub newline_ended : List ℕ → List ℕ
+newline_ended [] = []
+newline_ended (b ∷ []) = if b == ascii.newline then b ∷ [] else b ∷ ascii.newline ∷ []
+newline_ended (b ∷ c ∷ bs) = b ∷ newline_ended (c ∷ bs)
 
 -- a carriage return right before a newline is part of it (phase 1)
 unfoldable pub with_newlines : List ℕ → List ℕ
@@ -36,9 +36,16 @@ numbered line (b ∷ bs) = cell b line ∷ numbered (if b == ascii.newline then 
 -- what `??` and this byte stand for (5.2.1.1)
 abbrev pub trigraph : ℕ → Option ℕ
 trigraph b =
-    if b == ascii.equals then Some ascii.hash else (if b == ascii.open_parenthesis then Some ascii.open_bracket else (if b == ascii.slash then Some ascii.backslash
-    else (if b == ascii.close_parenthesis then Some ascii.close_bracket else (if b == ascii.apostrophe then Some ascii.caret else (if b == ascii.less then Some ascii.open_brace
-    else (if b == ascii.exclamation then Some ascii.bar else (if b == ascii.greater then Some ascii.close_brace else (if b == ascii.minus then Some ascii.tilde else None))))))))
+    if b == ascii.equals then Some ascii.hash
+    else (if b == ascii.open_parenthesis then Some ascii.open_bracket
+    else (if b == ascii.slash then Some ascii.backslash
+    else (if b == ascii.close_parenthesis then Some ascii.close_bracket
+    else (if b == ascii.apostrophe then Some ascii.caret
+    else (if b == ascii.less then Some ascii.open_brace
+    else (if b == ascii.exclamation then Some ascii.bar
+    else (if b == ascii.greater then Some ascii.close_brace
+    else (if b == ascii.minus then Some ascii.tilde
+    else None))))))))
 
 -- the character that a trigraph of these three bytes stands for
 abbrev pub trigraph_of : ℕ → ℕ → ℕ → Option ℕ
@@ -65,5 +72,5 @@ spliced (c ∷ d ∷ cs) = if (c.byte == ascii.backslash) && (d.byte == ascii.ne
 -- is spliced away, and a carriage return there is part of the newline. Comments stand in it as they are.
 unfoldable pub source_text : Bool → List ℕ → List Cell
 source_text trigraphs body =
-    let cells = numbered 1 (with_newlines (ended body)) in
+    let cells = numbered 1 (with_newlines (newline_ended body)) in
     spliced (if trigraphs then without_trigraphs cells else cells)

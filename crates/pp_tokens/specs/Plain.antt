@@ -3,6 +3,7 @@
 use Rattle.std.specs.Prelude.{ℕ, Bool, true, not, ◌&&◌, ◌||◌, List, [], ◌∷◌, ◌++◌, ◌-◌, length, take, drop, if◌then◌else◌, nat_le, ◌==◌, nat_eq, codes, bytes_eq}
 use Rattle.std.specs.List.{list_all, list_any, starts_with}
 use Rattle.base_types.specs.Ascii as ascii
+use Rattle.base_types.specs.Limits.{name_limit}
 use Rattle.pp_tokens.specs.Grammar.{is_digit}
 
 -- a letter, a digit or `_`
@@ -24,7 +25,7 @@ is_name_byte b = is_word_byte b || ((b == ascii.dot) || (b == ascii.minus))
 -- A simple name: 1 to 255 letters, digits, `_`, `.` and `-`, with no `-` in front, and neither `.` nor `..`.
 unfoldable pub is_simple_name : List ℕ → Bool
 is_simple_name name =
-    (nat_le 1 (length name) && nat_le (length name) 255)
+    (nat_le 1 (length name) && nat_le (length name) name_limit)
     && (list_all is_name_byte name
     && (not (starts_with nat_eq name (codes "-"))
     && (not (bytes_eq name (codes ".")) && not (bytes_eq name (codes "..")))))

@@ -16,6 +16,6 @@ abbrev pub rest_of : Tokens → List Token
 rest_of tokens = take (tokens.end - tokens.at) (drop tokens.at (all_tokens tokens.lexed.now))
 
 -- the bytes of a spelling, whoever owns them
-abbrev pub spelled : Spelling → List ℕ
-spelled (Lent text) = text.now
-spelled (Owned text) = text.value
+abbrev pub bytes_of_spelling : Spelling → List ℕ
+bytes_of_spelling (Lent text) = text.now
+bytes_of_spelling (Owned text) = text.value

@@ -5,15 +5,20 @@
 // all lines in one list; its spelling is a slice of the text, and its line is found by the newlines and splices before it. No token takes
 // memory of its own, and time is linear in the body, since a quote or a delimiter without a partner is looked for once a line
 // (`unpaired.rt`). What holds between two parts stands in specs/parts/Gathered.antt.
+//
+// `gather_directives` keeps the tokens of directives alone (6.10 paragraph 2; `directives_alone` in specs/DirectiveLines.antt). It goes as
+// `gather` does up to the first token of a line of text, and from there to the end of that line by `text_line.rt`, which passes over its
+// tokens. What is left of a file from there on stands in specs/parts/TextLines.antt.
 ghost use Rattle.std.specs.Prelude.{◌≡◌, ◌≤◌, ◌+◌, ◌∷◌, [], None, zero, length, take, drop, get_or, IfOk, slice_get, option_map, option_and_then, take_while};
 ghost use Rattle.std.specs.List.{flat_map};
 ghost use Rattle.std.specs.Option.{option_map_or};
+ghost use Rattle.base_types.specs.Limits.{body_limit};
 ghost use Rattle.pp_tokens.specs.parts.Gathered.{newlines, GathersNothing, EndsLine, AddsToken, AddsGap, EndsLastLine, EndsTextLine, IsGathered, IsPart, Gathers};
 ghost use Rattle.pp_tokens.specs.Grammar.{is_white};
 ghost use Rattle.pp_tokens.specs.Lined.{lined, spliced_up_to, Rising};
 ghost use Rattle.pp_tokens.specs.Lines.{all_tokens, elements, file_of, lexed};
 ghost use Rattle.pp_tokens.specs.DirectiveLines.{directives_alone};
-ghost use Rattle.pp_tokens.specs.parts.Seen.{seen_file, token_at};
+ghost use Rattle.pp_tokens.specs.parts.Seen.{seen_file, token_of_place};
 ghost use Rattle.pp_tokens.specs.parts.Text.{part_told};
 ghost use Rattle.pp_tokens.specs.Tokens.{token_seen};
 
@@ -98,7 +103,7 @@ impl Gathering {
     }
 
     fn end_line(&mut self) -> Result<(), AllocError>
-        requires { length self.old.places.items ≤ 16777217 }
+        requires { length self.old.places.items ≤ body_limit + 1 }
         ensures { IfOk result (λ u. EndsLine self.old self.new) }
     {
         self.ends.push(self.places.len() as u32)?;
@@ -138,7 +143,7 @@ impl Gathering {
         size: usize,
         line: u32,
     ) -> Result<(), AllocError>
-        requires small { length text.now ≤ 16777217 }
+        requires small { length text.now ≤ body_limit + 1 }
         requires within { at + size ≤ length text.now }
         requires few { length self.old.places.items ≤ at }
         requires gathered { IsGathered text.now self.old }
@@ -169,7 +174,7 @@ impl Gathering {
 
     // A line of text is finished, with the line of a comment on it that never ends.
     fn end_text(&mut self, comment: Option<u32>) -> Result<(), AllocError>
-        requires { length self.old.places.items ≤ 16777217 }
+        requires { length self.old.places.items ≤ body_limit + 1 }
         ensures { IfOk result (λ u. EndsTextLine self.old self.new comment) }
     {
         self.add_gap(comment);
@@ -178,7 +183,7 @@ impl Gathering {
 
     // The last line needs no newline.
     fn end_last_line(&mut self) -> Result<(), AllocError>
-        requires { length self.old.places.items ≤ 16777217 }
+        requires { length self.old.places.items ≤ body_limit + 1 }
         ensures { IfOk result (λ u. EndsLastLine self.old self.new) }
     {
         if self.begun { self.end_line() } else { Ok(()) }
@@ -222,7 +227,7 @@ pub fn newlines(what: What, part: &[u8]) -> usize
 
 // What is gathered of a whole text.
 fn gather(alloc: Global, text: &[u8], splices: &[u32]) -> Result<Gathering, AllocError>
-    requires small { length text.now + length splices.now ≤ 16777217 }
+    requires small { length text.now + length splices.now ≤ body_limit + 1 }
     requires rising { Rising 0 splices.now }
     ensures file { IfOk result (λ g. seen_file text.now g.places.items g.ends.items g.unended ≡ file_of (elements zero [] (lined splices.now 0 1 text.now))) }
     ensures gathered { IfOk result (λ g. IsGathered text.now g) }
@@ -253,7 +258,7 @@ fn gather(alloc: Global, text: &[u8], splices: &[u32]) -> Result<Gathering, Allo
 /// The tokens of a file's body, of at most 16 MiB, with trigraphs read where that is asked for (ISO C 5.1.1.2,
 /// phases 1 to 3). Time is linear in the body; the only error is want of memory.
 pub fn lex(alloc: Global, body: &[u8], trigraphs: bool) -> Result<Lexed, AllocError>
-    requires small { length body.now ≤ 16777216 }
+    requires small { length body.now ≤ body_limit }
     ensures { IfOk result (λ l. l ≡ lexed trigraphs body.now) }
 {
     let SourceText { text, splices } = read_source(alloc, body, trigraphs)?;
@@ -273,7 +278,7 @@ pub fn lex(alloc: Global, body: &[u8], trigraphs: bool) -> Result<Lexed, AllocEr
 
 // What is gathered of a whole text's directives alone.
 fn gather_directives(alloc: Global, text: &[u8], splices: &[u32]) -> Result<Gathering, AllocError>
-    requires small { length text.now + length splices.now ≤ 16777217 }
+    requires small { length text.now + length splices.now ≤ body_limit + 1 }
     requires rising { Rising 0 splices.now }
     ensures file { IfOk result (λ g. seen_file text.now g.places.items g.ends.items g.unended ≡ directives_alone (file_of (elements zero [] (lined splices.now 0 1 text.now)))) }
     ensures gathered { IfOk result (λ g. IsGathered text.now g) }
@@ -312,7 +317,7 @@ fn gather_directives(alloc: Global, text: &[u8], splices: &[u32]) -> Result<Gath
 /// The directives of a file's body, of at most 16 MiB: its logical lines as `lex` gives them, but those that begin with no `#`
 /// are empty (ISO C 6.10 paragraph 2). Time is linear in the body, and less than `lex` takes; the only error is want of memory.
 pub fn lex_directives(alloc: Global, body: &[u8], trigraphs: bool) -> Result<Lexed, AllocError>
-    requires small { length body.now ≤ 16777216 }
+    requires small { length body.now ≤ body_limit }
     ensures { IfOk result (λ l. l ≡ directives_alone (lexed trigraphs body.now)) }
 {
     let SourceText { text, splices } = read_source(alloc, body, trigraphs)?;
@@ -345,7 +350,7 @@ fn line_start(ends: &[u32], line: usize) -> usize
 // The token at a place of a text.
 fn token_of(text: &[u8], place: Place) -> TokenRef<'_>
     requires { place.start + place.length ≤ length text.now }
-    ensures { token_seen result ≡ token_at text.now place }
+    ensures { token_seen result ≡ token_of_place text.now place }
 {
     let (_, behind) = text.split_at(place.start as usize);
     let (text, _) = behind.split_at(place.length as usize);

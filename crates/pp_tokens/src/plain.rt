@@ -5,6 +5,7 @@ ghost use Rattle.pp_tokens.specs.Plain.{is_word_byte, is_text_mark, is_text_byte
 
 use crate::class::is_digit;
 use crate::comment::line_length;
+use base_types::limits::NAME_LIMIT;
 
 // Whether a byte is a letter, a digit or `_`.
 fn is_word_byte(b: u8) -> bool
@@ -58,7 +59,7 @@ pub fn is_simple_name(name: &[u8]) -> bool
     ensures { result ≡ is_simple_name name.now }
 {
     1 <= name.len()
-        && name.len() <= 255
+        && name.len() <= NAME_LIMIT
         && has_name_bytes(name)
         && name[0] != b'-'
         && name != b".".as_slice()

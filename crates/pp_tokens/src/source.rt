@@ -2,10 +2,11 @@
 ghost use Rattle.std.specs.Prelude.{◌≡◌, ℕ, ◌+◌, ◌≤◌, ◌<◌, ◌∷◌, ◌++◌, [], length, take, drop, not, true, IfOk, IsSome};
 ghost use Rattle.std.specs.List.{list_all};
 ghost use Rattle.base_types.specs.Ascii as ascii;
+ghost use Rattle.base_types.specs.Limits.{body_limit};
 ghost use Rattle.memchr.specs.Find.{IsFirstByte};
 ghost use Rattle.pp_tokens.specs.Lined.{lined, Rising};
-ghost use Rattle.pp_tokens.specs.Phases.{ended, trigraph, source_text};
-ghost use Rattle.pp_tokens.specs.parts.Pieces.{newline_length, front_trigraph, front_character, is_kept, IsRun, IsFront};
+ghost use Rattle.pp_tokens.specs.Phases.{newline_ended, trigraph, source_text};
+ghost use Rattle.pp_tokens.specs.parts.Pieces.{newline_length, front_trigraph, front_character, is_kept, FrontStays, IsFront};
 
 use memchr::{memchr2, memchr3};
 use std::alloc::{AllocError, Global};
@@ -30,7 +31,7 @@ enum Piece {
 // A body up to the newline that ends it, which needn't stand there.
 fn without_last_newline(body: &[u8]) -> &[u8]
     requires { 0 < length body.now }
-    ensures ended { ended body.now ≡ result.now ++ (ascii.newline ∷ []) }
+    ensures ended { newline_ended body.now ≡ result.now ++ (ascii.newline ∷ []) }
     ensures within { length result.now ≤ length body.now }
 {
     let (front, last) = body.split_at(body.len() - 1);
@@ -58,7 +59,7 @@ fn is_kept(b: u8, trigraphs: bool) -> bool
 // Whether the byte at a place is sure to be a byte of the text: one that always is, or a backslash that no newline follows.
 fn stays(bytes: &[u8], at: usize, trigraphs: bool) -> bool
     requires { at < length bytes.now }
-    ensures { result ≡ true → IsRun trigraphs (drop at bytes.now ++ (ascii.newline ∷ [])) 1 }
+    ensures { result ≡ true → FrontStays trigraphs (drop at bytes.now ++ (ascii.newline ∷ [])) 1 }
 {
     if is_kept(bytes[at], trigraphs) {
         return true;
@@ -74,7 +75,7 @@ fn stays(bytes: &[u8], at: usize, trigraphs: bool) -> bool
 fn short_run(rest: &[u8], bound: usize, trigraphs: bool) -> usize
     requires { bound ≤ length rest.now }
     ensures within { result ≤ bound }
-    ensures run { IsRun trigraphs (rest.now ++ (ascii.newline ∷ [])) result }
+    ensures run { FrontStays trigraphs (rest.now ++ (ascii.newline ∷ [])) result }
 {
     for at in 0..bound {
         if !stays(rest, at, trigraphs) {
@@ -98,7 +99,7 @@ fn long_run(rest: &[u8], trigraphs: bool) -> usize
 // How many bytes at the front are sure to be bytes of the text. The start of a search costs more than a look at a few bytes.
 fn run_length(rest: &[u8], trigraphs: bool) -> usize
     ensures within { result ≤ length rest.now }
-    ensures run { IsRun trigraphs (rest.now ++ (ascii.newline ∷ [])) result }
+    ensures run { FrontStays trigraphs (rest.now ++ (ascii.newline ∷ [])) result }
 {
     let bound = rest.len().min(16);
     let run = short_run(rest, bound, trigraphs);
@@ -190,10 +191,10 @@ fn front_piece(rest: &[u8], trigraphs: bool) -> (Piece, usize)
 /// Reads a body of at most 16 MiB, with trigraphs replaced where that is asked for. A missing last newline is added. Time is
 /// linear in the body; the only error is want of memory.
 pub fn read_source(alloc: Global, body: &[u8], trigraphs: bool) -> Result<SourceText, AllocError>
-    requires { length body.now ≤ 16777216 }
+    requires { length body.now ≤ body_limit }
     ensures source { IfOk result (λ s. lined s.splices.items 0 1 s.text.items ≡ source_text trigraphs body.now) }
     ensures rising { IfOk result (λ s. Rising 0 s.splices.items) }
-    ensures small { IfOk result (λ s. length s.text.items + length s.splices.items ≤ 16777217) }
+    ensures small { IfOk result (λ s. length s.text.items + length s.splices.items ≤ body_limit + 1) }
 {
     let mut splices = Vec::new(alloc);
     if body.is_empty() {

@@ -1,9 +1,10 @@
 // Where a line of text ends (ISO C 6.10 paragraph 2). Of its tokens none is kept, so only what may end a line or hide a
 // newline is read as a part: literals and comments. All other bytes are stepped over one by one, wherever tokens begin.
 ghost use Rattle.std.specs.Prelude.{◌≡◌, ◌+◌, ◌≤◌, length, drop, take_while};
+ghost use Rattle.base_types.specs.Limits.{body_limit};
 ghost use Rattle.pp_tokens.specs.Lined.{spliced_up_to, Rising};
 ghost use Rattle.pp_tokens.specs.Lines.{spells_hash};
-ghost use Rattle.pp_tokens.specs.parts.TextLines.{is_ordinary, is_token, begins_line, begins_text, EndsText};
+ghost use Rattle.pp_tokens.specs.parts.TextLines.{is_ordinary, is_token_part, begins_line, begins_text, EndsText};
 ghost use Rattle.pp_tokens.specs.parts.Text.{part_told};
 ghost use Rattle.pp_tokens.specs.parts.Unpaired.{KnowsUnpaired};
 
@@ -23,7 +24,7 @@ pub struct LineEnd {
 }
 
 fn is_token(what: What) -> bool
-    ensures { result ≡ is_token (part_told what) }
+    ensures { result ≡ is_token_part (part_told what) }
 {
     matches!(what, What::Token(_))
 }
@@ -67,7 +68,7 @@ pub fn line_end(
     passed: usize,
     unpaired: &mut Unpaired,
 ) -> LineEnd
-    requires small { length text.now + length splices.now ≤ 16777217 }
+    requires small { length text.now + length splices.now ≤ body_limit + 1 }
     requires rising { Rising 0 splices.now }
     requires within { from ≤ length text.now }
     requires counted { line ≤ from + 1 }

@@ -1,7 +1,7 @@
 // A preprocessing token whose spelling is lent or owned.
 ghost use Rattle.std.specs.Prelude.{◌≡◌, IfOk};
 ghost use Rattle.pp_tokens.specs.Marks.{is_identifier, is_literal, is_mark};
-ghost use Rattle.pp_tokens.specs.Tokens.{token_seen, spelled};
+ghost use Rattle.pp_tokens.specs.Tokens.{token_seen, bytes_of_spelling};
 
 use crate::token::{Kind, Token, TokenRef};
 use base_types::Bytes;
@@ -28,11 +28,11 @@ pub struct TokenCow<'a> {
 
 impl<'a> Model for TokenCow<'a> {
     ghost use Rattle.pp_tokens.specs.declared.token.Token.{Token};
-    ghost use Rattle.pp_tokens.specs.Tokens.{spelled};
+    ghost use Rattle.pp_tokens.specs.Tokens.{bytes_of_spelling};
 
     ghost Value = { Token };
 
-    ghost view = { λ t. record { kind = t.kind; text = spelled t.spelling; line = t.line; space = t.space } };
+    ghost view = { λ t. record { kind = t.kind; text = bytes_of_spelling t.spelling; line = t.line; space = t.space } };
 }
 
 impl<'a> TokenCow<'a> {
@@ -155,7 +155,7 @@ impl<'a> TokenCow<'a> {
 }
 
 fn shared<'a>(spelling: &Spelling<'a>) -> Result<Spelling<'a>, AllocError>
-    ensures { IfOk result (λ s. spelled s ≡ spelled spelling.now) }
+    ensures { IfOk result (λ s. bytes_of_spelling s ≡ bytes_of_spelling spelling.now) }
 {
     match spelling {
         Spelling::Lent(text) => Ok(Spelling::Lent(text)),

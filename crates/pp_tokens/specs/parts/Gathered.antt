@@ -12,7 +12,7 @@ use Rattle.pp_tokens.specs.declared.lexer.Place.{Place}
 use Rattle.pp_tokens.specs.declared.lexer.Gathering.{Gathering}
 use Rattle.pp_tokens.specs.Phases.{Cell, bytes}
 use Rattle.pp_tokens.specs.Lines.{Part, newline, white, comment, open_comment, token, Element, LexedFile, line_of, unended_line, or_else, part_of}
-use Rattle.pp_tokens.specs.parts.Seen.{token_at, seen_lines, last_end, Ascends, EachWithin}
+use Rattle.pp_tokens.specs.parts.Seen.{token_of_place, seen_lines, last_end, Ascends, EachWithin}
 use Rattle.pp_tokens.specs.parts.Text.{after_word}
 
 -- how many newlines stand in a text
@@ -33,23 +33,23 @@ is_long (token k) = false
 
 -- The lines behind those that are finished: current has the tokens of the present line so far, begun tells
 -- whether anything stands on it yet, and space whether white space stands before the next token.
-unfoldable pub joined : Bool → List Token → Bool → List Element → List (List Token)
-joined begun current space [] = cond begun (current ∷ []) []
-joined begun current space (e ∷ es) =
+unfoldable pub lines_left : Bool → List Token → Bool → List Element → List (List Token)
+lines_left begun current space [] = cond begun (current ∷ []) []
+lines_left begun current space (e ∷ es) =
     elim e.part [
-      | newline ↦ current ∷ joined false [] true es
-      | token k ↦ joined true (current ++ (record { kind = k; text = bytes e.cells; line = line_of e.cells; space = space } ∷ [])) false es
-      | _ ↦ joined true current true es
+      | newline ↦ current ∷ lines_left false [] true es
+      | token k ↦ lines_left true (current ++ (record { kind = k; text = bytes e.cells; line = line_of e.cells; space = space } ∷ [])) false es
+      | _ ↦ lines_left true current true es
     ]
 
 -- the tokens so far of the line that isn't finished
 abbrev pub present_tokens : List ℕ → Gathering → List Token
-present_tokens text g = map (token_at text) (drop (last_end 0 g.ends.items) g.places.items)
+present_tokens text g = map (token_of_place text) (drop (last_end 0 g.ends.items) g.places.items)
 
 -- the file, where these elements are what is left of it
 abbrev pub file_with : List ℕ → Gathering → List Element → LexedFile
 file_with text g es = record {
-  lines = seen_lines text g.places.items 0 g.ends.items ++ joined g.begun (present_tokens text g) g.space es;
+  lines = seen_lines text g.places.items 0 g.ends.items ++ lines_left g.begun (present_tokens text g) g.space es;
   unended = or_else g.unended (unended_line es);
 }
 

@@ -48,8 +48,8 @@ line_behind line [] = line
 line_behind line (b ∷ bs) = line_behind (if b == ascii.newline then line + 1 else line) bs
 
 -- the first bytes of the rest, as many as this, stay as they are, on whichever line they begin
-abbrev pub IsRun : Bool → List ℕ → ℕ → Type 0
-IsRun trigraphs rest n =
+abbrev pub FrontStays : Bool → List ℕ → ℕ → Type 0
+FrontStays trigraphs rest n =
     (line : ℕ) → source_from trigraphs line rest
     ≡ numbered line (take n rest) ++ source_from trigraphs (line_behind line (take n rest)) (drop n rest)
 

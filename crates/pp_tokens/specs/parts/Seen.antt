@@ -6,13 +6,13 @@ use Rattle.pp_tokens.specs.declared.token.Token.{Token}
 use Rattle.pp_tokens.specs.Lines.{LexedFile}
 
 -- the token at a place of the text
-abbrev pub token_at : List ℕ → Place → Token
-token_at text p = record { kind = p.kind; text = take p.length (drop p.start text); line = p.line; space = p.space }
+abbrev pub token_of_place : List ℕ → Place → Token
+token_of_place text p = record { kind = p.kind; text = take p.length (drop p.start text); line = p.line; space = p.space }
 
 -- the lines, of which the first begins at the place with this number
 unfoldable pub seen_lines : List ℕ → List Place → ℕ → List ℕ → List (List Token)
 seen_lines text places from [] = []
-seen_lines text places from (end ∷ ends) = map (token_at text) (take (end - from) (drop from places)) ∷ seen_lines text places end ends
+seen_lines text places from (end ∷ ends) = map (token_of_place text) (take (end - from) (drop from places)) ∷ seen_lines text places end ends
 
 abbrev pub seen_file : List ℕ → List Place → List ℕ → Option ℕ → LexedFile
 seen_file text places ends unended = record { lines = seen_lines text places 0 ends; unended = unended }

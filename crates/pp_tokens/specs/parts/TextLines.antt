@@ -10,7 +10,7 @@ use Rattle.pp_tokens.specs.Phases.{Cell}
 use Rattle.pp_tokens.specs.Lined.{lined}
 use Rattle.pp_tokens.specs.Lines.{Part, newline, token, Element, LexedFile, elements, or_else, spells_hash, unended_line}
 use Rattle.pp_tokens.specs.DirectiveLines.{directive_line}
-use Rattle.pp_tokens.specs.parts.Gathered.{joined}
+use Rattle.pp_tokens.specs.parts.Gathered.{lines_left}
 
 -- a byte that ends no line, and neither begins nor ends a comment or a literal
 abbrev pub is_ordinary : ℕ → Bool
@@ -19,7 +19,7 @@ is_ordinary b = not ((b == ascii.newline) || ((b == ascii.quote) || ((b == ascii
 -- the lines from a line of text on
 unfoldable pub text_lines : List Element → List (List Token)
 text_lines [] = [] ∷ []
-text_lines (e ∷ es) = elim e.part [ newline ↦ [] ∷ map directive_line (joined false [] true es) | _ ↦ text_lines es ]
+text_lines (e ∷ es) = elim e.part [ newline ↦ [] ∷ map directive_line (lines_left false [] true es) | _ ↦ text_lines es ]
 
 -- the file from a line of text on
 abbrev pub text_file : List Element → LexedFile
@@ -32,7 +32,7 @@ text_left cells = text_file (elements zero (codes "x" ∷ []) cells)
 -- the file from the end of a line of text on, where this is the line of a comment that never ends
 abbrev pub file_behind : Option ℕ → List Element → LexedFile
 file_behind comment es = record {
-  lines = [] ∷ map directive_line (joined false [] true es);
+  lines = [] ∷ map directive_line (lines_left false [] true es);
   unended = or_else comment (unended_line es);
 }
 
@@ -47,9 +47,9 @@ pub record EndsText (text splices : List ℕ) (at base : ℕ) (end : LineEnd) : 
 abbrev pub begins_line : Before → Bool
 begins_line before = elim before [ Nothing ↦ true | _ ↦ false ]
 
-abbrev pub is_token : Part → Bool
-is_token part = elim part [ token k ↦ true | _ ↦ false ]
+abbrev pub is_token_part : Part → Bool
+is_token_part part = elim part [ token k ↦ true | _ ↦ false ]
 
 -- this part is the first token of a line of text (6.10 paragraph 2)
 abbrev pub begins_text : Before → Part → List ℕ → Bool
-begins_text before part word = begins_line before && (is_token part && not (spells_hash word))
+begins_text before part word = begins_line before && (is_token_part part && not (spells_hash word))

@@ -1,6 +1,6 @@
 use Rattle.std.proofs.Common.{◌≤◌, ◌++◌, ◌∷◌, [], List, ℕ, length, subst, sym, arith}
 use Rattle.std.proofs.lemmas.List.{drop-append-le}
-use Rattle.pp_tokens.specs.parts.Pieces.{IsRun}
+use Rattle.pp_tokens.specs.parts.Pieces.{FrontStays}
 use Rattle.pp_tokens.proofs.Runs.{run_none, run_behind}
 use Rattle.pp_tokens.proofs.source.short_run.Goals as goal
 
@@ -13,4 +13,4 @@ loop-at-preserved c =
     let at = c.loop-at.at in
     let within : at ≤ length rest = omega (arith, c.requires, c.loop-at-test.true) in
     run_behind c.args.trigraphs (rest ++ (10 ∷ [])) at 1 c.loop-at.invariant
-    (subst (λ (l : List ℕ). IsRun c.args.trigraphs l 1) (sym (drop-append-le at rest (10 ∷ []) within)) (c.stays.ensures c.if-not-stays.false))
+    (subst (λ (l : List ℕ). FrontStays c.args.trigraphs l 1) (sym (drop-append-le at rest (10 ∷ []) within)) (c.stays.ensures c.if-not-stays.false))

@@ -3,7 +3,7 @@ use Rattle.std.specs.Option.{option_and_then}
 use Rattle.std.proofs.lemmas.Option.{slice_get_read}
 use Rattle.pp_tokens.specs.declared.token.Token.{Token}
 use Rattle.pp_tokens.specs.Lines.{LexedFile}
-use Rattle.pp_tokens.specs.parts.Seen.{token_at}
+use Rattle.pp_tokens.specs.parts.Seen.{token_of_place}
 use Rattle.pp_tokens.proofs.Places.{range_is, tokens_at, line_past, within_at, token_within, token_past}
 use Rattle.pp_tokens.proofs.lexer.Lexed.token.Goals as goal
 
@@ -70,7 +70,7 @@ returns c =
     let p = c.index-2.result.now in
     let found : slice_get places (c.line_start-start.result + c.args.place) ≡ Some p =
     slice_get_read places (length places) (c.line_start-start.result + c.args.place) p refl place_below c.index-2.ensures in
-    ap (λ (t : Token). Some t) (c.token_of.ensures ∙ ap (λ (l : List ℕ). token_at l p) c.deref-2.ensures.value)
+    ap (λ (t : Token). Some t) (c.token_of.ensures ∙ ap (λ (l : List ℕ). token_of_place l p) c.deref-2.ensures.value)
     ∙ sym (ap (option_and_then (λ (ts : List Token). slice_get ts c.args.place)) (tokens_at text places ends c.args.line c.line_start-start.result c.index.result.now below range.2 start)
     ∙ token_within text places c.line_start-start.result c.index.result.now c.args.place p c.if-index-start.false found)
     ∙ ap (λ (f : LexedFile). option_and_then (λ (ts : List Token). slice_get ts c.args.place) (slice_get f.lines c.args.line)) c.self.view_is

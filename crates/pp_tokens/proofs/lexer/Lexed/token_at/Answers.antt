@@ -2,7 +2,7 @@ use Rattle.std.proofs.Common.{sym, ◌∙◌, ap, arith, length, ◌≡◌, ◌<
 use Rattle.std.proofs.lemmas.Option.{slice_get_read}
 use Rattle.pp_tokens.specs.declared.token.Token.{Token}
 use Rattle.pp_tokens.specs.Lines.{LexedFile, all_tokens}
-use Rattle.pp_tokens.specs.parts.Seen.{token_at}
+use Rattle.pp_tokens.specs.parts.Seen.{token_of_place}
 use Rattle.pp_tokens.proofs.Places.{within_at}
 use Rattle.pp_tokens.proofs.FlatPlaces.{all_are, numbered, none_numbered}
 use Rattle.pp_tokens.proofs.lexer.Lexed.token_at.Goals as goal
@@ -41,6 +41,6 @@ returns c =
     let is = end_is i.ends.items c.deref.result.now c.len.result c.line_start.result c.deref.ensures.value (c.len.ensures ∙ i.ends.ok.0) c.line_start.ensures in
     let below : c.args.number < length i.places.items = omega (arith, (all_are i.text.items i.places.items i.ends.items c.line_start.result c.self.invariant.0 is).1, c.if-number-line_start.false) in
     let found = slice_get_read i.places.items (length i.places.items) c.args.number c.index.result.now refl below c.index.ensures in
-    ap (λ (t : Token). Some t) (c.token_of.ensures ∙ ap (λ (l : List ℕ). token_at l c.index.result.now) c.deref-2.ensures.value)
+    ap (λ (t : Token). Some t) (c.token_of.ensures ∙ ap (λ (l : List ℕ). token_of_place l c.index.result.now) c.deref-2.ensures.value)
     ∙ sym (numbered i.text.items i.places.items i.ends.items c.line_start.result c.args.number c.index.result.now c.self.invariant.0 is c.if-number-line_start.false found)
     ∙ ap (λ (f : LexedFile). slice_get (all_tokens f) c.args.number) c.self.view_is
