@@ -4,13 +4,13 @@ use Rattle.std.proofs.Common.{sym, ◌∙◌, ap, inl, inr, append_assoc}
 use Rattle.std.proofs.lemmas.List.{append-nil}
 use Rattle.directive_scan.specs.declared.directive.Piece.{Piece}
 use Rattle.directive_scan.proofs.Outlines.{past_head}
-use Rattle.directive_scan.specs.Groups.{Role, single, opening, elif_line, else_line, endif_line, Group, nothing, one, conditional, Branches, ended, branch, group_pieces, branches_pieces, Front, outside, inside, past_pieces, front_pieces, Outline, whole, stray, after_else, unended, joined, closed_branches, closed, IsGroup, IsBranches, IsPast, IsFront, last_is_else, innermost, BelongsInside, HasOutline, inner_piece, outer_piece, next_piece, outline_from, outline}
+use Rattle.directive_scan.specs.Groups.{Role, single, opening, elif_line, else_line, endif_line, Group, nothing, one, conditional, Branches, ended, branch, group_pieces, branches_pieces, Front, outside, inside, past_pieces, front_pieces, Outline, whole, stray, after_else, unended, joined_groups, closed_branches, closed, IsGroup, IsBranches, IsPast, IsFront, last_is_else, innermost, BelongsInside, HasOutline, inner_piece, outer_piece, next_piece, outline_from, outline}
 
 -- FRONTS, ONE BEHIND THE OTHER
 
 -- a front with a group more in its last group
 abbrev into : Front → Group → Front
-into (outside h) g = outside (joined h g)
+into (outside h) g = outside (joined_groups h g)
 into (inside b o past f) g = inside b o past (into f g)
 
 -- a front with one more open conditional in its last group
@@ -20,16 +20,16 @@ opened (inside b o qs f) p past g = inside b o qs (opened f p past g)
 
 -- a front with another in its last group
 abbrev behind : Front → Front → Front
-behind (outside h) (outside g) = outside (joined h g)
-behind (outside h) (inside g p past f) = inside (joined h g) p past f
+behind (outside h) (outside g) = outside (joined_groups h g)
+behind (outside h) (inside g p past f) = inside (joined_groups h g) p past f
 behind (inside b o past e) f = inside b o past (behind e f)
 
-joined_nothing : (g : Group) → joined g nothing ≡ g
+joined_nothing : (g : Group) → joined_groups g nothing ≡ g
 joined_nothing nothing = refl
 joined_nothing (one p g) = ap (one p) (joined_nothing g)
 joined_nothing (conditional p g bs after) = ap (conditional p g bs) (joined_nothing after)
 
-joined_joined : (g h k : Group) → joined (joined g h) k ≡ joined g (joined h k)
+joined_joined : (g h k : Group) → joined_groups (joined_groups g h) k ≡ joined_groups g (joined_groups h k)
 joined_joined nothing h k = refl
 joined_joined (one p g) h k = ap (one p) (joined_joined g h k)
 joined_joined (conditional p g bs after) h k = ap (conditional p g bs) (joined_joined after h k)
@@ -38,11 +38,11 @@ into_nothing : (f : Front) → into f nothing ≡ f
 into_nothing (outside g) = ap outside (joined_nothing g)
 into_nothing (inside b o past f) = ap (inside b o past) (into_nothing f)
 
-into_into : (f : Front) (g h : Group) → into (into f g) h ≡ into f (joined g h)
+into_into : (f : Front) (g h : Group) → into (into f g) h ≡ into f (joined_groups g h)
 into_into (outside k) g h = ap outside (joined_joined k g h)
 into_into (inside b o past f) g h = ap (inside b o past) (into_into f g h)
 
-into_opened : (f : Front) (o : Piece) (past : List (Group × Piece)) (g h : Group) → into (opened f o past g) h ≡ opened f o past (joined g h)
+into_opened : (f : Front) (o : Piece) (past : List (Group × Piece)) (g h : Group) → into (opened f o past g) h ≡ opened f o past (joined_groups g h)
 into_opened (outside k) o past g h = refl
 into_opened (inside b p qs f) o past g h = ap (inside b p qs) (into_opened f o past g h)
 
@@ -55,7 +55,7 @@ behind_nothing (outside g) = refl
 behind_nothing (inside g o past f) = refl
 
 behind_opened : (e : Front) (g : Group) (o : Piece) (past : List (Group × Piece)) (f : Front) → behind (opened (into e g) o past nothing) f ≡ behind e (inside g o past f)
-behind_opened (outside h) g o past f = ap (inside (joined h g) o past) (behind_nothing f)
+behind_opened (outside h) g o past f = ap (inside (joined_groups h g) o past) (behind_nothing f)
 behind_opened (inside b p qs e) g o past f = ap (inside b p qs) (behind_opened e g o past f)
 
 closed_branches_more : (header : Piece) (past : List (Group × Piece)) (g : Group) (p : Piece) (h : Group) (bs : Branches)

@@ -3,10 +3,10 @@ use Rattle.std.specs.Prelude.{◌≡◌, Bool, true, false, cond, List, [], ◌�
 use Rattle.std.proofs.Common.{sym, ◌∙◌, ap, inl, inr, subst, append_assoc}
 use Rattle.std.proofs.lemmas.List.{append-nil}
 use Rattle.directive_scan.specs.declared.directive.Piece.{Piece}
-use Rattle.directive_scan.specs.Groups.{Role, single, opening, elif_line, else_line, endif_line, Group, nothing, one, conditional, Branches, ended, group_pieces, branches_pieces, Front, outside, inside, past_pieces, front_pieces, Outline, stray, after_else, unended, joined, closed_branches, closed, IsGroup, IsBranches, IsPast, IsFront, last_is_else, innermost, BelongsInside, HasOutline, inner_piece, outer_piece, next_piece, outline_from, outline}
+use Rattle.directive_scan.specs.Groups.{Role, single, opening, elif_line, else_line, endif_line, Group, nothing, one, conditional, Branches, ended, group_pieces, branches_pieces, Front, outside, inside, past_pieces, front_pieces, Outline, stray, after_else, unended, joined_groups, closed_branches, closed, IsGroup, IsBranches, IsPast, IsFront, last_is_else, innermost, BelongsInside, HasOutline, inner_piece, outer_piece, next_piece, outline_from, outline}
 
 -- two groups, one behind the other
-joined_pieces : (g h : Group) → group_pieces (joined g h) ≡ group_pieces g ++ group_pieces h
+joined_pieces : (g h : Group) → group_pieces (joined_groups g h) ≡ group_pieces g ++ group_pieces h
 unfolding group_pieces
 joined_pieces nothing h = refl
 joined_pieces (one p g) h = ap (λ (r : List Piece). p ∷ r) (joined_pieces g h)
@@ -48,7 +48,7 @@ open_more g o past r s =
     ap (λ (t : List Piece). group_pieces g ++ (o ∷ t)) (sym (append_assoc (past_pieces past) r s)) ∙ sym (append_assoc (group_pieces g) (o ∷ (past_pieces past ++ r)) s)
 
 ended_pieces : (before : Group) (o : Piece) (past : List (Group × Piece)) (g : Group) (p : Piece)
-    → group_pieces (joined before (closed o past g (ended p))) ≡ open_pieces before o past (group_pieces g) ++ (p ∷ [])
+    → group_pieces (joined_groups before (closed o past g (ended p))) ≡ open_pieces before o past (group_pieces g) ++ (p ∷ [])
 unfolding group_pieces
 ended_pieces before o past g p =
     joined_pieces before (closed o past g (ended p))
@@ -56,7 +56,7 @@ ended_pieces before o past g p =
     ∙ open_more before o past (group_pieces g) (p ∷ [])
 
 module _ (role : Piece → Role) where
-  joined_group : (g h : Group) → IsGroup role g → IsGroup role h → IsGroup role (joined g h)
+  joined_group : (g h : Group) → IsGroup role g → IsGroup role h → IsGroup role (joined_groups g h)
   unfolding IsGroup
   joined_group nothing h p q = q
   joined_group (one l g) h p q = (p.0, joined_group g h p.1 q)

@@ -12,7 +12,7 @@ use Rattle.directive_scan.specs.declared.operand.ConditionPart.TheVariants.{Writ
 use Rattle.directive_scan.specs.declared.stage.Sort.{Sort as SortRead}
 use Rattle.directive_scan.specs.declared.stage.Stage.{Stage as StageRead}
 use Rattle.directive_scan.specs.declared.stage.Inner.{Inner}
-use Rattle.directive_scan.specs.Operands.{Sort, asks, defines, opens, closes, plain, sort_of, Stage, outside, behind_defined, behind_opening, wanted, within, Parts, part_before, token_before, at_end, parts_from, parts_of, targets_of}
+use Rattle.directive_scan.specs.Operands.{Sort, asks, defines, opens, closes, plain, sort_of, Stage, outside, behind_defined, behind_opening, wanted, within, Parts, part_before, token_before, parts_at_end, parts_from, parts_of, targets_of}
 use Rattle.directive_scan.specs.parts.PartsSoFar.{sort_told, is_asking, is_opening, stage_told, so_far, inner_before}
 
 -- parts, and those behind them
@@ -98,15 +98,15 @@ pub at_token : (parts : List ConditionPart) (stage : Stage) (line : List Token) 
 at_token parts stage line i t below is =
     sym (at_drop_more (so_far parts stage) line i t below ∙ ap (λ (x : Token). so_far parts stage (x ∷ drop (i + 1) line)) (sym is))
 
-past_all : (stage : Stage) (line : List Token) (i : ℕ) → length line ≤ i → parts_from stage (drop i line) ≡ at_end stage
+past_all : (stage : Stage) (line : List Token) (i : ℕ) → length line ≤ i → parts_from stage (drop i line) ≡ parts_at_end stage
 unfolding parts_from
 past_all stage line i past = at_drop_all (parts_from stage) line i past
 
-pub all_read : (parts : List ConditionPart) (stage : Stage) (line : List Token) (i : ℕ) → length line ≤ i → at_end stage ≡ Some []
+pub all_read : (parts : List ConditionPart) (stage : Stage) (line : List Token) (i : ℕ) → length line ≤ i → parts_at_end stage ≡ Some []
     → Some parts ≡ so_far parts stage (drop i line)
 all_read parts stage line i past e = ap Some (sym (append-nil parts)) ∙ ap (behind parts) (sym (past_all stage line i past ∙ e))
 
-pub left_open : (parts : List ConditionPart) (stage : Stage) (line : List Token) (i : ℕ) → length line ≤ i → at_end stage ≡ None
+pub left_open : (parts : List ConditionPart) (stage : Stage) (line : List Token) (i : ℕ) → length line ≤ i → parts_at_end stage ≡ None
     → None ≡ so_far parts stage (drop i line)
 left_open parts stage line i past e = ap (behind parts) (sym (past_all stage line i past ∙ e))
 
@@ -123,8 +123,8 @@ no_probe : (t : Token) → is_word (codes "__has_include") t ≡ false → is_as
 unfolding sort_of
 no_probe t e = not_asking (is_word (codes "__has_include") t) (is_word (codes "defined") t) (is_open t) (is_close t) e
 
-goes_on : (s : Stage) (k : Sort) → at_end s ≡ Some [] → is_asking k ≡ false
-    → (to : Stage) × (at_end to ≡ Some []) × ((next : Stage → Parts) (t : Token) → token_before next t k s ≡ part_before (Written t) (next to))
+goes_on : (s : Stage) (k : Sort) → parts_at_end s ≡ Some [] → is_asking k ≡ false
+    → (to : Stage) × (parts_at_end to ≡ Some []) × ((next : Stage → Parts) (t : Token) → token_before next t k s ≡ part_before (Written t) (next to))
 goes_on outside defines e a = (behind_defined, refl, λ next t. refl)
 goes_on outside opens e a = (outside, refl, λ next t. refl)
 goes_on outside closes e a = (outside, refl, λ next t. refl)
@@ -143,7 +143,7 @@ goes_on behind_opening asks e a = absurd (cc)
 goes_on (wanted name) k e a = absurd (cc)
 goes_on (within name tokens n) k e a = absurd (cc)
 
-all_written : (s : Stage) (line : List Token) → at_end s ≡ Some [] → list_any (is_word (codes "__has_include")) line ≡ false → parts_from s line ≡ Some (map Written line)
+all_written : (s : Stage) (line : List Token) → parts_at_end s ≡ Some [] → list_any (is_word (codes "__has_include")) line ≡ false → parts_from s line ≡ Some (map Written line)
 unfolding parts_from
 all_written s [] e probeless = e
 all_written s (t ∷ ts) e probeless =

@@ -7,8 +7,8 @@ use Rattle.directive_scan.specs.declared.directive.Piece.{Piece}
 use Rattle.directive_scan.specs.Directives.{onto_run}
 
 -- the tokens of a logical line, none behind the last one
-abbrev pub line_at : LexedFile → ℕ → List Token
-line_at file line = unwrap_or (slice_get file.lines line) []
+abbrev pub tokens_of_line : LexedFile → ℕ → List Token
+tokens_of_line file line = unwrap_or (slice_get file.lines line) []
 
 -- the physical line of the `#` of a directive; none where the logical line is text (6.10 paragraph 2)
 unfoldable pub hash_of : List Token → Option ℕ
@@ -17,6 +17,6 @@ hash_of (t ∷ ts) = if spells_hash t.text then Some t.line else None
 
 -- the pieces of a file: those of the lines that were gone through, of which the last ones may be a run that goes on,
 -- and those of the other lines
-abbrev pub joined : List Piece → Option (List Token) → List Piece → List Piece
-joined pieces None others = pieces ++ others
-joined pieces (Some run) others = pieces ++ onto_run run others
+abbrev pub gathered_pieces : List Piece → Option (List Token) → List Piece → List Piece
+gathered_pieces pieces None others = pieces ++ others
+gathered_pieces pieces (Some run) others = pieces ++ onto_run run others

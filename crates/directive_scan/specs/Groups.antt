@@ -80,10 +80,10 @@ pub data Outline : Type 0 where
   unended : Piece → Outline
 
 -- two groups, one behind the other
-abbrev pub joined : Group → Group → Group
-joined nothing h = h
-joined (one p g) h = one p (joined g h)
-joined (conditional p g bs after) h = conditional p g bs (joined after h)
+abbrev pub joined_groups : Group → Group → Group
+joined_groups nothing h = h
+joined_groups (one p g) h = one p (joined_groups g h)
+joined_groups (conditional p g bs after) h = conditional p g bs (joined_groups after h)
 
 -- a branch, by its line, then the groups ended so far, the last group, and what follows that
 abbrev pub closed_branches : Piece → List (Group × Piece) → Group → Branches → Branches
@@ -151,15 +151,15 @@ module _ (role : Piece → Role) where
 
   -- a piece more in the last group of the conditional opened last, or what is wrong with that piece
   abbrev pub inner_piece : Group → Piece → List (Group × Piece) → Group → Piece → Role → Outline ⊎ Front
-  inner_piece before o past g p single = inr (inside before o past (outside (joined g (one p nothing))))
+  inner_piece before o past g p single = inr (inside before o past (outside (joined_groups g (one p nothing))))
   inner_piece before o past g p opening = inr (inside before o past (inside g p [] (outside nothing)))
   inner_piece before o past g p elif_line = if last_is_else past then inl (after_else p) else inr (inside before o (past ++ (g, p) ∷ []) (outside nothing))
   inner_piece before o past g p else_line = if last_is_else past then inl (after_else p) else inr (inside before o (past ++ (g, p) ∷ []) (outside nothing))
-  inner_piece before o past g p endif_line = inr (outside (joined before (closed o past g (ended p))))
+  inner_piece before o past g p endif_line = inr (outside (joined_groups before (closed o past g (ended p))))
 
   -- a piece more outside any conditional, or what is wrong with it
   abbrev pub outer_piece : Group → Piece → Role → Outline ⊎ Front
-  outer_piece g p single = inr (outside (joined g (one p nothing)))
+  outer_piece g p single = inr (outside (joined_groups g (one p nothing)))
   outer_piece g p opening = inr (inside g p [] (outside nothing))
   outer_piece g p elif_line = inl (stray p)
   outer_piece g p else_line = inl (stray p)

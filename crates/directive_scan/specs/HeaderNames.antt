@@ -16,7 +16,7 @@ between text = take (length text - 2) (drop 1 text)
 
 -- the token is a string literal without a prefix (6.4.5)
 abbrev pub is_plain_string : Token → Bool
-is_plain_string t = is_string t && starts_with nat_eq t.text (34 ∷ [])
+is_plain_string t = is_string t && starts_with nat_eq t.text (codes "\"")
 
 -- one space where white space stands before the token, unless it is the first
 abbrev pub space_before : Bool → Token → List ℕ

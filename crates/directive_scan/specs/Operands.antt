@@ -93,15 +93,15 @@ token_before next t closes (within name ts (suc n)) = next (within name (ts ++ t
 token_before next t closes (within name ts zero) = probe_before name (operand_of ts) (next outside)
 
 -- a line ends outside of operands
-abbrev pub at_end : Stage → Parts
-at_end outside = Some []
-at_end behind_defined = Some []
-at_end behind_opening = Some []
-at_end (wanted name) = None
-at_end (within name ts n) = None
+abbrev pub parts_at_end : Stage → Parts
+parts_at_end outside = Some []
+parts_at_end behind_defined = Some []
+parts_at_end behind_opening = Some []
+parts_at_end (wanted name) = None
+parts_at_end (within name ts n) = None
 
 unfoldable pub parts_from : Stage → List Token → Parts
-parts_from stage [] = at_end stage
+parts_from stage [] = parts_at_end stage
 parts_from stage (t ∷ ts) = token_before (λ next. parts_from next ts) t (sort_of t) stage
 
 -- The line of a condition, with each operand of `__has_include` in its place: `(`, a header name, `)`, or `(`, at least one token with

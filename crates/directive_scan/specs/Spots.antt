@@ -16,7 +16,7 @@ use Rattle.directive_scan.specs.declared.spots.Spot.{Spot}
 use Rattle.directive_scan.specs.declared.spots.Spot.TheVariants as spot
 use Rattle.directive_scan.specs.declared.directive.Directive.{Directive}
 use Rattle.directive_scan.specs.Directives.{directive_of}
-use Rattle.directive_scan.specs.Gathered.{line_at, joined}
+use Rattle.directive_scan.specs.Gathered.{tokens_of_line, gathered_pieces}
 use Rattle.directive_scan.specs.Groups.{Role, single, opening, elif_line, else_line, endif_line, directive_role}
 
 -- the role that a line's kind in the nesting is
@@ -29,7 +29,7 @@ role_told (nesting.Branch name.Endif) = endif_line
 
 -- the directive on a logical line
 abbrev pub directive_on : LexedFile → ℕ → Directive
-directive_on file line = directive_of (drop 1 (line_at file line))
+directive_on file line = directive_of (drop 1 (tokens_of_line file line))
 
 -- how many tokens stand on the lines before one
 abbrev pub tokens_before : LexedFile → ℕ → ℕ
@@ -62,7 +62,7 @@ piece_seen (lent.Line at line) = piece.Line at (directive_seen line)
 
 -- the pieces of a file: those of the spots so far, a run that goes on from a token up to a line, and those of the other lines
 abbrev pub so_far : LexedFile → List Spot → Option ℕ → ℕ → List Piece → List Piece
-so_far file spots run line others = joined (map (piece_at file) spots) (option_map (λ from. tokens_between file from (tokens_before file line)) run) others
+so_far file spots run line others = gathered_pieces (map (piece_at file) spots) (option_map (λ from. tokens_between file from (tokens_before file line)) run) others
 
 -- a run begins no later than a line
 abbrev pub BeginsBefore : LexedFile → Option ℕ → ℕ → Type 0

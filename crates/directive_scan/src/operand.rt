@@ -2,7 +2,7 @@
 ghost use Rattle.std.specs.Prelude.{◌≡◌, Some, None, if◌then◌else◌, ◌++◌, ◌∷◌, [], codes, IfOk, OnOk};
 ghost use Rattle.std.specs.List.{list_any};
 ghost use Rattle.pp_tokens.specs.Marks.{is_word};
-ghost use Rattle.directive_scan.specs.Operands.{at_end, parts_of, operands_of, targets_of};
+ghost use Rattle.directive_scan.specs.Operands.{parts_at_end, parts_of, operands_of, targets_of};
 ghost use Rattle.directive_scan.specs.parts.PartsSoFar.{stage_told};
 
 use crate::directive::Target;
@@ -84,7 +84,7 @@ pub fn parts_of(alloc: Global, line: &[Token]) -> Result<Option<List<ConditionPa
 
 // Whether a line may end at a stage: outside of operands.
 fn may_end(stage: &Stage) -> bool
-    ensures { at_end (stage_told stage.now) ≡ if result then Some [] else None }
+    ensures { parts_at_end (stage_told stage.now) ≡ if result then Some [] else None }
 {
     match stage {
         Stage::Outside => true,
