@@ -1,6 +1,7 @@
 -- Integer constants and character constants of controlling expressions (ISO C 6.4.4.1, 6.4.4.4, 6.10.1 paragraph 4).
 use Rattle.std.specs.Prelude.{ℕ, ◌+◌, ◌-◌, ◌*◌, ◌^◌, Bool, true, false, not, ◌&&◌, ◌||◌, ◌==◌, List, [], ◌∷◌, length, take, drop, if◌then◌else◌, nat_le, nat_lt, Option, Some, None, Result, Ok, Err}
 use Rattle.std.specs.List.{list_any, list_all, take_while}
+use Rattle.base_types.specs.Ascii as ascii
 use Rattle.cond_eval.specs.declared.num.Num.{Num}
 use Rattle.cond_eval.specs.declared.num.CondError.{CondError}
 use Rattle.cond_eval.specs.declared.num.CondError.TheVariants.{NotInteger, TooWide}
@@ -14,9 +15,9 @@ modulus = 2 ^ 64
 -- what a digit stands for; 16 where a byte is none
 abbrev pub digit_value : ℕ → ℕ
 digit_value b =
-    if nat_le 48 b && nat_le b 57 then b - 48
-    else (if nat_le 97 b && nat_le b 102 then b - 87
-    else (if nat_le 65 b && nat_le b 70 then b - 55 else 16))
+    if nat_le ascii.zero_digit b && nat_le b ascii.nine_digit then b - ascii.zero_digit
+    else (if nat_le ascii.lower_a b && nat_le b ascii.lower_f then b - 87
+    else (if nat_le ascii.upper_a b && nat_le b ascii.upper_f then b - 55 else 16))
 
 abbrev pub is_digit_in : ℕ → ℕ → Bool
 is_digit_in base b = nat_lt (digit_value b) base
@@ -28,10 +29,10 @@ value_behind base n (b ∷ bs) = value_behind base (n * base + digit_value b) bs
 
 -- the letters of suffixes
 abbrev pub is_u : ℕ → Bool
-is_u b = b == 117 || b == 85
+is_u b = b == ascii.lower_u || b == ascii.upper_u
 
 abbrev pub is_l : ℕ → Bool
-is_l b = b == 108 || b == 76
+is_l b = b == ascii.lower_l || b == ascii.upper_l
 
 -- a suffix: `u`, and `l` or two `l` side by side, each in either case and in any order
 abbrev pub is_suffix : List ℕ → Bool
@@ -49,8 +50,8 @@ pub record Spelled : Type 0 where
 -- a constant that begins with `0`, by the next byte
 abbrev pub behind_zero : List ℕ → ℕ → List ℕ → Spelled
 behind_zero text b bs =
-    if b == 120 || b == 88 then record { base = 16; rest = bs }
-    else (if b == 98 || b == 66 then record { base = 2; rest = bs } else record { base = 8; rest = text })
+    if b == ascii.lower_x || b == ascii.upper_x then record { base = 16; rest = bs }
+    else (if b == ascii.lower_b || b == 66 then record { base = 2; rest = bs } else record { base = 8; rest = text })
 
 abbrev pub spelled_by : List ℕ → Spelled
 spelled_by [] = record { base = 10; rest = [] }
@@ -83,23 +84,23 @@ number_value text = number_spelled (spelled_by text)
 -- what stands between the quotes
 abbrev pub between_quotes : List ℕ → List ℕ
 between_quotes text =
-    let quoted = drop (length (take_while (λ b. not (b == 39)) text)) text in
+    let quoted = drop (length (take_while (λ b. not (b == ascii.apostrophe)) text)) text in
     take (length quoted - 2) (drop 1 quoted)
 
 -- the simple escapes: the letter behind the `\`, and the character
 abbrev pub simple_escape : ℕ → Option ℕ
 simple_escape b =
-    if b == 39 then Some 39
-    else (if b == 34 then Some 34
-    else (if b == 63 then Some 63
-    else (if b == 92 then Some 92
-    else (if b == 97 then Some 7
-    else (if b == 98 then Some 8
-    else (if b == 102 then Some 12
-    else (if b == 110 then Some 10
-    else (if b == 114 then Some 13
-    else (if b == 116 then Some 9
-    else (if b == 118 then Some 11 else None))))))))))
+    if b == ascii.apostrophe then Some ascii.apostrophe
+    else (if b == ascii.quote then Some ascii.quote
+    else (if b == ascii.question then Some ascii.question
+    else (if b == ascii.backslash then Some ascii.backslash
+    else (if b == ascii.lower_a then Some 7
+    else (if b == ascii.lower_b then Some 8
+    else (if b == ascii.lower_f then Some ascii.form_feed
+    else (if b == ascii.lower_n then Some ascii.newline
+    else (if b == ascii.lower_r then Some ascii.carriage_return
+    else (if b == ascii.lower_t then Some ascii.tab
+    else (if b == ascii.lower_v then Some ascii.vertical_tab else None))))))))))
 
 -- one to three octal digits
 abbrev pub octal_escape : List ℕ → Option ℕ
@@ -115,13 +116,13 @@ hexadecimal_escape digits =
 abbrev pub escape : List ℕ → Option ℕ
 escape [] = None
 escape (b ∷ []) = elim (simple_escape b) [ Some c ↦ Some c | None ↦ octal_escape (b ∷ []) ]
-escape (b ∷ c ∷ bs) = if b == 120 then hexadecimal_escape (c ∷ bs) else octal_escape (b ∷ c ∷ bs)
+escape (b ∷ c ∷ bs) = if b == ascii.lower_x then hexadecimal_escape (c ∷ bs) else octal_escape (b ∷ c ∷ bs)
 
 -- the one character between quotes
 abbrev pub character : List ℕ → Option ℕ
 character [] = None
-character (b ∷ []) = if b == 92 then None else Some b
-character (b ∷ c ∷ bs) = if b == 92 then escape (c ∷ bs) else None
+character (b ∷ []) = if b == ascii.backslash then None else Some b
+character (b ∷ c ∷ bs) = if b == ascii.backslash then escape (c ∷ bs) else None
 
 -- a character of the basic set is an int of its code
 abbrev pub character_coded : Option ℕ → Result Num CondError

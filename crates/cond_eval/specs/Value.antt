@@ -1,5 +1,6 @@
 -- The value of a controlling expression, or the first thing that is wrong with it (ISO C 6.6, 6.10.1).
 use Rattle.std.specs.Prelude.{◌≡◌, ℕ, Bool, List, [], ◌∷◌, if◌then◌else◌, nat_lt, Option, Some, None, Result, Ok, Err}
+use Rattle.base_types.specs.Limits.{condition_depth_limit}
 use Rattle.pp_tokens.specs.declared.token.Token.{Token}
 use Rattle.cond_eval.specs.declared.num.Num.{Num}
 use Rattle.cond_eval.specs.declared.num.CondError.{CondError}
@@ -20,18 +21,14 @@ unfoldable pub lexemes_of : List Token → Result (List Lexeme) CondError
 lexemes_of [] = Ok []
 lexemes_of (t ∷ ts) = in_front (lexeme_of t) (lexemes_of ts)
 
--- how deep expressions in parentheses, unary and conditional ones may nest
-abbrev pub deepest : ℕ
-deepest = 200
-
 abbrev pub number_or_zero_divisor : Bool → Option ℕ → Result Num CondError
 number_or_zero_divisor unsigned None = Err ZeroDivisor
 number_or_zero_divisor unsigned (Some bits) = Ok (record { bits = bits; unsigned = unsigned })
 
--- then the grammar, the depth, and at last the evaluation
+-- then the grammar; the depth, to which expressions in parentheses, unary and conditional ones count; and at last the evaluation
 abbrev pub value_in : Option Expression → Result Num CondError
 value_in None = Err Syntax
-value_in (Some e) = if nat_lt deepest (depth e) then Err TooDeep else number_or_zero_divisor (is_unsigned e) (bits_of e)
+value_in (Some e) = if nat_lt condition_depth_limit (depth e) then Err TooDeep else number_or_zero_divisor (is_unsigned e) (bits_of e)
 
 abbrev pub value_read : Result (List Lexeme) CondError → Result Num CondError
 value_read (Err e) = Err e

@@ -1,6 +1,7 @@
 // Character constants (ISO C 6.4.4.4).
 ghost use Rattle.std.specs.Prelude.{◌≡◌, ◌-◌, ◌==◌, ◌≤◌, not, length, take, drop, Some, ◌<◌, [], ◌∷◌};
 ghost use Rattle.std.specs.List.{take_while, list_all};
+ghost use Rattle.base_types.specs.Ascii as ascii;
 ghost use Rattle.cond_eval.specs.Constants.{between_quotes, simple_escape, octal_escape, hexadecimal_escape, escape, character, character_coded, character_value, is_digit_in, value_behind};
 
 use crate::number::{is_digit_in, value_of_digits};
@@ -16,7 +17,7 @@ fn between_quotes(text: &[u8]) -> &[u8]
 
 // How many bytes stand before the first quote.
 fn before_quote(text: &[u8]) -> usize
-    ensures count { result ≡ length (take_while (λ b. not (b == 39)) text.now) }
+    ensures count { result ≡ length (take_while (λ b. not (b == ascii.apostrophe)) text.now) }
     ensures within { result ≤ length text.now }
 {
     text.iter().take_while(|b| **b != b'\'').count()

@@ -7,12 +7,10 @@ ghost use Rattle.cond_eval.specs.parts.Seen.{seen_constant, seen_enclosed, seen_
 use crate::arithmetic::{binary_bits, binary_unsigned, unary_bits, unary_unsigned};
 use crate::operator::{Binary, Unary};
 use crate::{CondError, Num};
-
-// How deep expressions in parentheses, unary and conditional ones may nest.
-const DEEPEST: u8 = 200;
+use base_types::limits::CONDITION_DEPTH_LIMIT;
 
 // The bits of its value, none where an operand that is evaluated divides by 0; whether its type is unsigned; and how deep it
-// nests, where 201 stands for any more.
+// nests, where one above the limit stands for any more.
 #[derive(Clone, Copy, Debug)]
 pub struct Seen {
     pub bits: Option<u64>,
@@ -24,10 +22,10 @@ pub struct Seen {
 fn deeper(depth: u8) -> u8
     ensures { result ≡ deeper depth }
 {
-    if depth < DEEPEST + 1 {
+    if depth < CONDITION_DEPTH_LIMIT + 1 {
         depth + 1
     } else {
-        DEEPEST + 1
+        CONDITION_DEPTH_LIMIT + 1
     }
 }
 
@@ -178,7 +176,7 @@ pub fn seen_conditional(condition: Seen, then: Seen, other: Seen) -> Seen
 pub fn judged(seen: Seen) -> Result<Num, CondError>
     ensures { result ≡ checked_value seen }
 {
-    if DEEPEST < seen.depth {
+    if CONDITION_DEPTH_LIMIT < seen.depth {
         return Err(CondError::TooDeep);
     }
     match seen.bits {

@@ -1,5 +1,6 @@
 -- What the code keeps of an expression. No public contract rests on it.
 use Rattle.std.specs.Prelude.{◌≡◌, ℕ, ◌+◌, min, max, Bool, ◌||◌, List, [], ◌∷◌, ◌++◌, Option, Some, None, Result, Ok, Err, option_map, option_and_then, nat_lt, nat_le, false, if◌then◌else◌}
+use Rattle.base_types.specs.Limits.{condition_depth_limit}
 use Rattle.cond_eval.specs.declared.num.Num.{Num}
 use Rattle.cond_eval.specs.declared.num.CondError.{CondError}
 use Rattle.cond_eval.specs.declared.num.CondError.TheVariants.{TooDeep, Memory, Syntax}
@@ -12,14 +13,14 @@ use Rattle.cond_eval.specs.Making.{Making}
 use Rattle.cond_eval.specs.Arithmetic.{unary_bits, unary_unsigned, binary_unsigned}
 use Rattle.cond_eval.specs.Expressions.{Expression, depth, is_unsigned, bits_of, evaluated, one_of}
 use Rattle.cond_eval.specs.Reading.{ReadSoFar, due, read, wrong, binding_of_open}
-use Rattle.cond_eval.specs.Value.{deepest, number_or_zero_divisor}
+use Rattle.cond_eval.specs.Value.{number_or_zero_divisor}
 
--- a depth as it is kept: one above the deepest stands for all above it
+-- a depth as it is kept: one above the limit stands for all above it
 abbrev pub capped : ℕ → ℕ
-capped n = min n 201
+capped n = min n (condition_depth_limit + 1)
 
 abbrev pub deeper : ℕ → ℕ
-deeper n = min (n + 1) 201
+deeper n = min (n + 1) (condition_depth_limit + 1)
 
 -- an expression's bits, its type and its depth
 abbrev pub seen_of : Expression → Seen
@@ -64,7 +65,7 @@ progress_of ps (Some s) = read (record { around = ps; value = s })
 
 -- a value, of what is known of an expression
 abbrev pub checked_value : Seen → Result Num CondError
-checked_value s = if nat_lt deepest s.depth then Err TooDeep else number_or_zero_divisor s.unsigned s.bits
+checked_value s = if nat_lt condition_depth_limit s.depth then Err TooDeep else number_or_zero_divisor s.unsigned s.bits
 
 -- whether something that binds so tightly ends the operand of what stands open last
 abbrev pub ends_first : ℕ → List (Pending Seen) → Bool
