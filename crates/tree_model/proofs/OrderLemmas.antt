@@ -14,7 +14,8 @@ use Rattle.std.proofs.Math.Seq.{append_snoc}
 use Rattle.std.specs.Cmp.Lexicographic.{slice_cmp}
 use Rattle.std.proofs.Math.Bool.{and-false, and-true}
 use lib.Pointwise.{pointwise}
-use Rattle.tree_model.specs.Paths.{Text, Path, slash, spelled, path_of}
+use Rattle.base_types.specs.Ascii.{slash}
+use Rattle.tree_model.specs.Paths.{Text, Path, spelled, path_of}
 use Rattle.tree_model.specs.Trees.{by_bytes}
 use Rattle.tree_model.specs.declared.entry.Entry.{Entry}
 use Rattle.tree_model.specs.declared.mem_tree.MirrorError.{MirrorError}

@@ -9,7 +9,8 @@ use Rattle.std.proofs.lemmas.List.Folds.{list_all-append, list_all_more}
 use Rattle.std.proofs.lemmas.Bool.{eqb-true, eqb-false, eq-eqb, lt-ltb, ltb-true, leb-true, le-leb, and_parts, and_from, or_parts, not-true, not_from_false, false_from_ne_true}
 use lib.Pointwise.{pointwise}
 use Rattle.base_types.specs.Members.{Member}
-use Rattle.tree_model.specs.Paths.{Text, Path, slash, dot, spelled, spelled_below, names_of, IsName, IsCanonical, IsSpelling, is_name, is_file_name_byte, is_dots, is_canonical, is_spelling, path_of, parent, parent_spelling, child_of}
+use Rattle.base_types.specs.Ascii.{slash, dot}
+use Rattle.tree_model.specs.Paths.{Text, Path, spelled, spelled_below, names_of, IsName, IsCanonical, IsSpelling, is_name, is_file_name_byte, is_dots, is_canonical, is_spelling, path_of, parent, parent_spelling, child_of}
 
 -- TESTS
 

@@ -4,7 +4,8 @@ use Rattle.std.proofs.lemmas.Bool.{lt-leb, le-leb, ne_eqb}
 use Rattle.std.specs.Option.{option_map}
 use Rattle.std.specs.List.{onto_first}
 use Rattle.std.proofs.lemmas.List.{append-nil}
-use Rattle.tree_model.specs.Paths.{Text, Path, slash, parent, child_of, is_canonical}
+use Rattle.base_types.specs.Ascii.{slash}
+use Rattle.tree_model.specs.Paths.{Text, Path, parent, child_of, is_canonical}
 use Rattle.tree_model.specs.Trees.{FileTree, entry_at, node_at, node_of_entry, IsTree}
 use Rattle.tree_model.specs.Walk.{Look, components, Component, Stay, Up, Down, component_of, start, End, Nowhere, AtDir, AtFile, Walked, through, walk_ended, file_end, entered, taken, walk_with, walk, but_last, last_of, first_nodes, located_at, located_in, last_looked_up, can_locate, located_by}
 use Rattle.tree_model.specs.parts.Steps.{GoesOn, followed, onward, end_of}

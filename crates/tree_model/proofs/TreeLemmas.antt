@@ -12,7 +12,8 @@ use lib.Pointwise.{pointwise}
 use Rattle.base_types.specs.Members.{Member}
 use Rattle.tree_model.specs.Paths.{Text, Path, spelled, is_canonical, IsCanonical}
 use Rattle.tree_model.specs.Entries.{Entries, is_dir, has_parent, parents_stand, is_increasing, below, makes_tree, entry_fits, links_fit, body_fits, bodies_fit, IsLinkText, mirror_error}
-use Rattle.tree_model.specs.Trees.{path_cmp, tree_of, entry_at, by_bytes, entry_body, body_limit, BodiesAreSmall, IsTree}
+use Rattle.base_types.specs.Limits.{body_limit}
+use Rattle.tree_model.specs.Trees.{path_cmp, tree_of, entry_at, by_bytes, entry_body, BodiesAreSmall, IsTree}
 use Rattle.tree_model.specs.declared.mem_tree.MirrorError.TheVariants as why
 use Rattle.tree_model.specs.declared.entry.Entry.{Entry}
 use Rattle.tree_model.specs.declared.entry.Entry.TheVariants.{Dir, File, Link}

@@ -2,7 +2,8 @@
 -- a node that it met.
 use Rattle.std.proofs.Common.{◌≡◌, ℕ, zero, suc, ◌-◌, ◌≤◌, List, [], ◌∷◌, ◌++◌, refl, sym, ◌∙◌, ap, subst, ◌⊎◌, inl, inr, Option, Some, None, Bool, true, false, cond, ◌==◌, ◌&&◌, is_some, IsSome, arith}
 use Rattle.base_types.specs.Members.{Member}
-use Rattle.tree_model.specs.Paths.{Text, Path, parent, slash, dot}
+use Rattle.base_types.specs.Ascii.{slash, dot}
+use Rattle.tree_model.specs.Paths.{Text, Path, parent}
 use Rattle.tree_model.specs.Trees.{FileTree, entry_at, body_at, entry_body, IsTree}
 use Rattle.tree_model.specs.Frame.{LocatedHolds}
 use Rattle.tree_model.specs.declared.entry.Entry.{Entry}

@@ -1,7 +1,8 @@
 -- The bytes of files.
 use Rattle.std.specs.Prelude.{[], length, Option, None, Some, cond, nat_le, unwrap_or}
 use Rattle.tree_model.specs.Paths.{Text, Path}
-use Rattle.tree_model.specs.Trees.{FileTree, body_at, body_limit}
+use Rattle.base_types.specs.Limits.{body_limit}
+use Rattle.tree_model.specs.Trees.{FileTree, body_at}
 
 -- the bytes of the file at a path, none where no file is
 abbrev pub body_at_path : FileTree → Path → Text

@@ -4,6 +4,7 @@ use Rattle.std.specs.List.{list_any, list_all}
 use Rattle.std.specs.Ordering.{nat_cmp, is_lt}
 use Rattle.std.specs.Cmp.Lexicographic.{slice_cmp}
 use lib.Pointwise.{pointwise}
+use Rattle.base_types.specs.Limits.{body_limit, path_limit}
 use Rattle.tree_model.specs.Paths.{Text, Path, spelled, path_of, is_canonical}
 use Rattle.tree_model.specs.declared.entry.Entry.{Entry}
 use Rattle.tree_model.specs.declared.entry.Entry.TheVariants.{Dir, File, Link}
@@ -64,7 +65,7 @@ mirror_error es = if is_increasing es then (if parents_stand [] es then None els
 
 -- 1 to 4,095 bytes, none of them 0
 abbrev pub is_link_text : Text → Bool
-is_link_text text = nat_lt 0 (length text) && (nat_lt (length text) 4096 && not (list_any (λ byte. byte == 0) text))
+is_link_text text = nat_lt 0 (length text) && (nat_lt (length text) path_limit && not (list_any (λ byte. byte == 0) text))
 
 abbrev pub IsLinkText : Text → Type 0
 IsLinkText text = IsTrue (is_link_text text)
@@ -81,7 +82,7 @@ links_fit es = list_all (λ e. entry_fits e.1) es
 -- a file has at most as many bytes as are read
 abbrev pub body_fits : Entry → Bool
 body_fits Dir = true
-body_fits (File body) = nat_le (length body) 16777216
+body_fits (File body) = nat_le (length body) body_limit
 body_fits (Link text) = true
 
 abbrev pub bodies_fit : Entries → Bool

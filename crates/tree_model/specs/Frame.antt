@@ -1,5 +1,6 @@
 -- Laws of walks.
 use Rattle.std.specs.Prelude.{◌≡◌, ◌⊎◌, ℕ, List, [], ◌∷◌, ◌++◌, Some, None, IsSome}
+use Rattle.base_types.specs.Limits.{link_limit}
 use Rattle.base_types.specs.Members.{Member}
 use Rattle.tree_model.specs.Paths.{Text, Path}
 use Rattle.tree_model.specs.Trees.{FileTree, entry_at, body_at, entry_body, IsTree, Sub}
@@ -30,7 +31,7 @@ pub record LocatedLeads (look : Look) (dir : Path) (text : Text) (l : Located) :
   pub file : IsSome (entry_body (look l.real))
   pub up : Path
   pub below : l.place ≡ last_of (components text) ∷ up
-  pub leads : (walk look 40 up (last_of (components text) ∷ [])).end ≡ AtFile l.real
+  pub leads : (walk look link_limit up (last_of (components text) ∷ [])).end ≡ AtFile l.real
 
 -- it holds of each file that a text locates
 abbrev pub LeadsOfLocated : Type 0
@@ -47,7 +48,7 @@ pub record LocatedHolds (tree : FileTree) (text : Text) (l : Located) : Type 0 w
   pub below : l.place ≡ last_of (components text) ∷ up
   pub dir : entry_at tree up ≡ Some Dir
   pub dir_walked : (up ≡ []) ⊎ Member up l.walked
-  pub leads : (walk (entry_at tree) 40 up (last_of (components text) ∷ [])).end ≡ AtFile l.real
+  pub leads : (walk (entry_at tree) link_limit up (last_of (components text) ∷ [])).end ≡ AtFile l.real
 
 -- it holds of each file that a text locates from a directory of a tree
 abbrev pub HoldsOfLocated : Type 0
@@ -72,7 +73,7 @@ last_looked look name (AtFile real) = []
 -- the paths looked up for a text
 unfoldable pub looked_for : Look → Path → Text → List Path
 looked_for look dir text =
-    let walked = walk look 40 (start dir text) (but_last (components text)) in
+    let walked = walk look link_limit (start dir text) (but_last (components text)) in
     walked.looked ++ last_looked look (last_of (components text)) walked.end
 
 -- lookups that agree at the paths looked up for a text locate the same file

@@ -3,6 +3,8 @@ use Rattle.std.specs.Prelude.{◌≡◌, ◌⊎◌, ℕ, ◌≤◌, List, [], �
 use Rattle.std.specs.List.{slice_split, AllByRecursion, list_all}
 use Rattle.std.specs.Bool.{Decides}
 use lib.Pointwise.{pointwise, pointwise_decides, bytes_decides}
+use Rattle.base_types.specs.Ascii.{slash, dot}
+use Rattle.base_types.specs.Limits.{name_limit, path_limit}
 use Rattle.base_types.specs.Members.{Member}
 
 -- bytes of a file, a name or a text
@@ -12,12 +14,6 @@ Text = List ℕ
 -- a path is its names, the innermost first: the root has none, and the parent is the tail
 abbrev pub Path : Type 0
 Path = List Text
-
-abbrev pub slash : ℕ
-slash = 47
-
-abbrev pub dot : ℕ
-dot = 46
 
 -- the spelling: `/` for the root, else each name after a `/`
 abbrev pub spelled_below : Path → Text
@@ -35,7 +31,7 @@ names_of text = reverse (filter (λ part. nat_lt 0 (length part)) (slice_split (
 -- a name has 1 to 255 bytes, no `/`, no byte 0, and is neither `.` nor `..`
 pub record IsName (name : Text) : Type 0 where
   pub some : 1 ≤ length name
-  pub short : length name ≤ 255
+  pub short : length name ≤ name_limit
   pub no_slash : Member slash name → ⊥
   pub no_zero : Member 0 name → ⊥
   pub no_dot : name ≡ dot ∷ [] → ⊥
@@ -44,7 +40,7 @@ pub record IsName (name : Text) : Type 0 where
 -- names, and a spelling of at most 4,096 bytes
 pub record IsCanonical (path : Path) : Type 0 where
   pub names : AllByRecursion IsName path
-  pub short : length (spelled path) ≤ 4096
+  pub short : length (spelled path) ≤ path_limit
 
 -- a text is the spelling of a canonical path
 abbrev pub IsSpelling : Text → Type 0
@@ -59,15 +55,15 @@ is_dots name = pointwise nat_eq name (dot ∷ []) || pointwise nat_eq name (dot 
 
 -- the test of a name
 abbrev pub is_name : Text → Bool
-is_name name = nat_lt 0 (length name) && (nat_le (length name) 255 && (list_all is_file_name_byte name && not (is_dots name)))
+is_name name = nat_lt 0 (length name) && (nat_le (length name) name_limit && (list_all is_file_name_byte name && not (is_dots name)))
 
 -- the test of a canonical path
 abbrev pub is_canonical : Path → Bool
-is_canonical path = list_all is_name path && nat_le (length (spelled path)) 4096
+is_canonical path = list_all is_name path && nat_le (length (spelled path)) path_limit
 
 -- the test of a text that spells a canonical path: its names are names, and spelled again they are the text
 abbrev pub is_spelling : Text → Bool
-is_spelling text = list_all is_name (names_of text) && (nat_le (length text) 4096 && pointwise nat_eq (spelled (names_of text)) text)
+is_spelling text = list_all is_name (names_of text) && (nat_le (length text) path_limit && pointwise nat_eq (spelled (names_of text)) text)
 
 -- the canonical path that a text spells, if it spells one
 unfoldable pub path_of : Text → Option Path

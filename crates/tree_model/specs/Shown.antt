@@ -1,11 +1,12 @@
 -- Paths as diagnostics and line markers show them.
 use Rattle.std.specs.Prelude.{ℕ, List, [], ◌∷◌, if◌then◌else◌, ◌==◌, codes}
 use Rattle.std.specs.List.{flat_map}
+use Rattle.base_types.specs.Ascii as ascii
 use Rattle.tree_model.specs.Paths.{Text, Path, spelled}
 
 -- a byte as it is shown in a name: `\`, `"` and a newline are escaped
 abbrev pub shown_byte : ℕ → Text
-shown_byte b = if b == 92 then codes "\\\\" else (if b == 34 then codes "\\\"" else (if b == 10 then codes "\\n" else b ∷ []))
+shown_byte b = if b == ascii.backslash then codes "\\\\" else (if b == ascii.quote then codes "\\\"" else (if b == ascii.newline then codes "\\n" else b ∷ []))
 
 unfoldable pub shown : Text → Text
 shown text = flat_map shown_byte text

@@ -12,6 +12,7 @@ use lib.Pointwise.{pointwise}
 use Rattle.std.specs.List.{AllByRecursion}
 use Rattle.std.specs.Option.{unwrap_or}
 use Rattle.std.proofs.Props.{props}
+use Rattle.base_types.specs.Limits.{body_limit}
 use Rattle.tree_model.specs.Paths.{Text, Path, IsName, IsCanonical, spelled}
 use Rattle.tree_model.specs.Entries.{Entries, IsLinkText}
 use Rattle.tree_model.specs.declared.entry.Entry.{Entry}
@@ -80,10 +81,6 @@ node_at tree path = option_map node_of_entry (entry_at tree path)
 
 abbrev pub body_at : FileTree → Path → Option Text
 body_at tree path = entry_body (entry_at tree path)
-
--- the greatest length of a file's body that is read
-abbrev pub body_limit : ℕ
-body_limit = 16777216
 
 abbrev pub NodeFits : Node → Type 0
 NodeFits node.Dir = Unit {0}

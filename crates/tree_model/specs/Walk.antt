@@ -1,7 +1,9 @@
 -- Walks through a tree, as in POSIX pathname resolution (4.13), and the files that texts locate.
 use Rattle.std.specs.Prelude.{ℕ, zero, suc, List, [], ◌∷◌, ◌++◌, length, Option, Some, None, Bool, true, false, cond, ◌==◌, nat_le, nat_eq, ◌&&◌, not}
 use Rattle.std.specs.List.{slice_split}
-use Rattle.tree_model.specs.Paths.{Text, Path, slash, dot, parent}
+use Rattle.base_types.specs.Ascii.{slash, dot}
+use Rattle.base_types.specs.Limits.{link_limit, path_limit}
+use Rattle.tree_model.specs.Paths.{Text, Path, parent}
 use Rattle.tree_model.specs.Trees.{FileTree, entry_at}
 use Rattle.tree_model.specs.declared.walk.Located.{Located}
 use Rattle.tree_model.specs.declared.entry.Entry.{Entry}
@@ -118,7 +120,7 @@ last_looked_up look name nodes (AtFile real) = None
 -- no text longer than 4,096 bytes locates a file, and none that is empty or ends with `/`, whose
 -- last component is empty
 abbrev pub can_locate : Text → Bool
-can_locate text = nat_le (length text) 4096 && not (nat_eq (length (last_of (components text))) 0)
+can_locate text = nat_le (length text) path_limit && not (nat_eq (length (last_of (components text))) 0)
 
 -- the nodes that a walk stands at before its first component: the directory it starts from, and the root
 -- where the text begins with `/`
@@ -136,7 +138,7 @@ first_nodes dir text = dir ∷ root_if (is_absolute text)
 -- the file that a text locates from a directory, with at most 40 links walked
 unfoldable pub located_by : Look → Path → Text → Option Located
 located_by look dir text =
-    let walked = walk look 40 (start dir text) (but_last (components text)) in
+    let walked = walk look link_limit (start dir text) (but_last (components text)) in
     cond (can_locate text) (last_looked_up look (last_of (components text)) (first_nodes dir text ++ walked.nodes) walked.end) None
 
 -- the file that a text locates from a directory of a tree

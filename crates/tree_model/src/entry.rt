@@ -2,11 +2,13 @@
 ghost use Rattle.std.specs.Prelude.{◌≡◌, ◌<◌, length, IfOk, OnErr, IsErrOf, Err, IsTrue, Some};
 ghost use Rattle.tree_model.specs.Paths.{Text};
 ghost use Rattle.tree_model.specs.Trees as trees;
-ghost use Rattle.tree_model.specs.Trees.{body_limit, entry_body, is_link, IsBody};
+ghost use Rattle.base_types.specs.Limits.{body_limit};
+ghost use Rattle.tree_model.specs.Trees.{entry_body, is_link, IsBody};
 ghost use Rattle.tree_model.specs.declared.entry.Node.TheVariants.{Link};
 
 use crate::TreeError;
 use base_types::Bytes;
+use base_types::limits::BODY_LIMIT;
 use std::alloc::Global;
 
 /// A node of a tree, with what is in it.
@@ -27,9 +29,6 @@ pub enum Node {
     /// A symbolic link with its text.
     Link(Bytes),
 }
-
-/// The greatest length of a file's body that is read.
-const BODY_LIMIT: usize = 16_777_216;
 
 impl Entry {
     /// The node without a file's bytes. A link's text is copied: `Memory` alone is an error, and only of a link.

@@ -7,8 +7,10 @@ ghost use Rattle.std.specs.Ordering.{nat_cmp};
 ghost use Rattle.std.specs.Cmp.{partial_equiv_from_equiv};
 ghost use Rattle.std.specs.Cmp.Lexicographic.{slice_cmp, lists_equiv, nat_list_eq_equiv};
 ghost use Rattle.tree_model.specs.Paths as paths;
-ghost use Rattle.tree_model.specs.Paths.{slash, spelled, spelled_below, path_of, parent_spelling, child_of, is_same_path, is_same_path-Decides, IsCanonical};
+ghost use Rattle.base_types.specs.Ascii.{slash};
+ghost use Rattle.tree_model.specs.Paths.{spelled, spelled_below, path_of, parent_spelling, child_of, is_same_path, is_same_path-Decides, IsCanonical};
 
+use base_types::limits::{NAME_LIMIT, PATH_LIMIT};
 use std::alloc::{AllocError, Global};
 use std::cmp::Ordering;
 use std::hash::{Hash, Hasher};
@@ -31,12 +33,6 @@ impl Model for CanonPath {
 
     ghost invariant = { λ p. IsSpelling p.bytes.items };
 }
-
-/// The greatest length of a path's spelling.
-const PATH_LIMIT: usize = 4096;
-
-/// The greatest length of a component.
-const NAME_LIMIT: usize = 255;
 
 // A byte may stand in a name.
 fn is_name_byte(b: u8) -> bool

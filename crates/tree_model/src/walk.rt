@@ -8,13 +8,14 @@ ghost use Rattle.std.specs.Prelude.{◌≡◌, ◌≤◌, ℕ, [], ◌∷◌, �
 ghost use Rattle.std.specs.List.{position};
 ghost use Rattle.std.specs.Option.{option_map, ForSome};
 ghost use Rattle.base_types.specs.Causes.{HasCause};
-ghost use Rattle.tree_model.specs.Paths.{slash};
+ghost use Rattle.base_types.specs.Ascii.{slash};
 ghost use Rattle.tree_model.specs.Trees.{FileTree, entry_at};
 ghost use Rattle.tree_model.specs.Walk as walks;
 ghost use Rattle.tree_model.specs.Walk.{Look, components, but_last, last_of, component_of, entered, located_in, walk, walk_ended, is_absolute};
 ghost use Rattle.tree_model.specs.parts.Steps.{GoesOn, components_left, asked, onward, followed, end_of};
 
 use crate::{CanonPath, Node, Tree, TreeError};
+use base_types::limits::{LINK_LIMIT, PATH_LIMIT};
 use base_types::{Bytes, List};
 use std::alloc::{AllocError, Global};
 
@@ -56,12 +57,6 @@ fn copies(alloc: Global, paths: &[CanonPath]) -> Result<List<CanonPath>, AllocEr
     }
     Ok(copies)
 }
-
-// The greatest length of a text that locates a file.
-const TEXT_LIMIT: usize = 4096;
-
-// The greatest number of links that are walked for a text.
-const LINK_LIMIT: u32 = 40;
 
 // What a component asks for: to stay, to go up, or to go down to a name.
 #[derive(Clone, Copy)]
@@ -367,7 +362,7 @@ pub fn locate<T: Tree>(
     ensures no_read { T.reads tree.new ≡ T.reads tree.old }
 {
     let (head, name) = cut_last(text);
-    if text.len() > TEXT_LIMIT || name.is_empty() {
+    if text.len() > PATH_LIMIT || name.is_empty() {
         return Ok(None);
     }
     let mut walked = first_nodes(alloc, dir, text)?;

@@ -7,13 +7,13 @@ use Rattle.tree_model.specs.Walk.{components, last_of, first_nodes, walk, start,
 use Rattle.tree_model.specs.parts.Steps.{GoesOn, components_left, end_of}
 use Rattle.tree_model.proofs.StepLemmas.{if_each, refused, from_dir, from_elsewhere, begun}
 use Rattle.tree_model.proofs.walk.locate.Goals as goal
-use Rattle.tree_model.proofs.walk.locate.Goals.{then-text-gt-TEXT_LIMIT-via-then-text-gt-TEXT_LIMIT, then-text-gt-TEXT_LIMIT-via-else-text-gt-TEXT_LIMIT+then-is_empty}
+use Rattle.tree_model.proofs.walk.locate.Goals.{then-text-gt-PATH_LIMIT-via-then-text-gt-PATH_LIMIT, then-text-gt-PATH_LIMIT-via-else-text-gt-PATH_LIMIT+then-is_empty}
 
-pub returns-then-text-gt-TEXT_LIMIT-clause-found : goal.returns-then-text-gt-TEXT_LIMIT-clause-found
-returns-then-text-gt-TEXT_LIMIT-clause-found g c =
-    let why : (4096 < length c.args.text.now) ⊎ (length (last_of (components c.args.text.now)) ≡ 0) = elim c.then-text-gt-TEXT_LIMIT.branch [
-      | then-text-gt-TEXT_LIMIT-via-then-text-gt-TEXT_LIMIT w ↦ inl w.if-text-gt-TEXT_LIMIT.true
-      | then-text-gt-TEXT_LIMIT-via-else-text-gt-TEXT_LIMIT+then-is_empty w ↦ inr (sym (ap length c.cut_last.ensures.name) ∙ eqb-true (length c.cut_last.result.1.now) 0 (sym w.if-is_empty.ensures))
+pub returns-then-text-gt-PATH_LIMIT-clause-found : goal.returns-then-text-gt-PATH_LIMIT-clause-found
+returns-then-text-gt-PATH_LIMIT-clause-found g c =
+    let why : (4096 < length c.args.text.now) ⊎ (length (last_of (components c.args.text.now)) ≡ 0) = elim c.then-text-gt-PATH_LIMIT.branch [
+      | then-text-gt-PATH_LIMIT-via-then-text-gt-PATH_LIMIT w ↦ inl w.if-text-gt-PATH_LIMIT.true
+      | then-text-gt-PATH_LIMIT-via-else-text-gt-PATH_LIMIT+then-is_empty w ↦ inr (sym (ap length c.cut_last.ensures.name) ∙ eqb-true (length c.cut_last.result.1.now) 0 (sym w.if-is_empty.ensures))
     ] in
     if_each (g.T.Tree.told c.args.tree.now) _ (λ told is. refused (entry_at told) c.args.dir.now c.args.text.now why)
 
@@ -24,7 +24,7 @@ returns-in-Dir-clause-found g c =
     (λ found h. if_each (g.T.Tree.told c.args.tree.now) _ (λ told is.
     h told (c.in_ok-last.ensures.same ∙ is)
     ∙ from_dir (entry_at told) c.args.dir.now c.args.text.now head c.cut_last.result.1.now c.walk_on.new.walked c.in-Dir.last c.in-Dir.links
-    c.if-text-gt-TEXT_LIMIT.false
+    c.if-text-gt-PATH_LIMIT.false
     (λ z. eqb-false (length c.cut_last.result.1.now) 0 (sym c.if-is_empty.ensures) (ap length c.cut_last.ensures.name ∙ z))
     c.cut_last.ensures.head c.cut_last.ensures.name
     (subst (λ s. GoesOn (first_nodes c.args.dir.now c.args.text.now) (walk (entry_at told) 40 (start c.args.dir.now c.args.text.now) head) c.walk_on.new.walked (walk_ended (end_of s))) c.in-Dir.is

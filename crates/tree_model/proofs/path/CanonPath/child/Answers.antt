@@ -1,5 +1,6 @@
 use Rattle.std.proofs.Common.{length, arith, sym, ◌∙◌, ap, List, ℕ, ◌∷◌, ◌++◌, take}
-use Rattle.tree_model.specs.Paths.{IsCanonical, slash}
+use Rattle.base_types.specs.Ascii.{slash}
+use Rattle.tree_model.specs.Paths.{IsCanonical}
 use Rattle.tree_model.proofs.PathLemmas.{child-canonical, child_some, spelling_of, stem_taken, spells}
 use Rattle.tree_model.proofs.path.CanonPath.child.Goals as goal
 
