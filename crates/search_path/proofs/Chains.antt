@@ -1,7 +1,8 @@
 -- The chain's candidates by their places.
 use Rattle.std.proofs.Common.{◌≡◌, ◌<◌, ◌≤◌, ◌+◌, ◌++◌, ◌∷◌, [], ℕ, zero, suc, List, length, get_or, drop, map, refl, sym, ◌∙◌, ap, arith, add-one, None, Some, Option}
 use Rattle.std.specs.List.{enumerate_from}
-use Rattle.tree_model.specs.Paths.{Text, Path, slash}
+use Rattle.base_types.specs.Ascii.{slash}
+use Rattle.tree_model.specs.Paths.{Text, Path}
 use Rattle.tree_model.specs.Trees.{FileTree}
 use Rattle.tree_model.specs.Walk.{locate}
 use Rattle.tree_model.specs.declared.walk.Located.{Located}

@@ -2,7 +2,8 @@
 -- GCC's: the directory of the file that asks, then the chain, which is the directories of quoted names and then those of all.
 use Rattle.std.specs.Prelude.{ℕ, ◌+◌, List, [], ◌∷◌, ◌++◌, length, drop, map, Option, Some, None, cond, IsSome}
 use Rattle.std.specs.List.{enumerate_from}
-use Rattle.tree_model.specs.Paths.{Text, Path, slash, parent}
+use Rattle.base_types.specs.Ascii.{slash}
+use Rattle.tree_model.specs.Paths.{Text, Path, parent}
 use Rattle.tree_model.specs.Trees.{FileTree}
 use Rattle.tree_model.specs.Walk.{is_absolute, locate}
 use Rattle.tree_model.specs.declared.walk.Located.{Located}

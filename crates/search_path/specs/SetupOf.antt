@@ -1,6 +1,7 @@
 -- What a job's words say of its searches, as contracts see it.
 use Rattle.std.specs.Prelude.{Bool, List, cond, ◌∷◌, ◌++◌}
-use Rattle.tree_model.specs.Paths.{Text, slash}
+use Rattle.base_types.specs.Ascii.{slash}
+use Rattle.tree_model.specs.Paths.{Text}
 use Rattle.tree_model.specs.Walk.{is_absolute}
 
 -- the working directory, the directories of quoted names, those of all names, and whether trigraphs are read

@@ -6,7 +6,8 @@
 ghost use Rattle.std.specs.Prelude.{◌≡◌, ◌<◌, ◌+◌, ◌++◌, ◌∷◌, [], length, get_or, None, IfOk, IfSome, OnOk, IsErrOf, List};
 ghost use Rattle.std.specs.Option.{ForSome};
 ghost use Rattle.base_types.specs.Causes.{HasCause};
-ghost use Rattle.tree_model.specs.Paths.{Text, slash};
+ghost use Rattle.base_types.specs.Ascii.{slash};
+ghost use Rattle.tree_model.specs.Paths.{Text};
 ghost use Rattle.tree_model.specs.Walk as walks;
 ghost use Rattle.search_path.specs.SetupOf as setups;
 ghost use Rattle.search_path.specs.SetupOf.{SetupData};

@@ -1,5 +1,5 @@
 use Rattle.std.proofs.Common.{rules, ◌<◌, ◌≤◌, ◌++◌, ◌∷◌, length, sym, ◌∙◌, ap, arith, length-append}
-use Rattle.tree_model.specs.Paths.{slash}
+use Rattle.base_types.specs.Ascii.{slash}
 use Rattle.search_path.specs.SetupOf.{absolute}
 use Rattle.search_path.specs.declared.asking.Found.TheVariants.{Chain}
 use Rattle.search_path.proofs.Chains.{chain-ends, chain-hit, chain-goes-on, same-hit}
