@@ -3,6 +3,7 @@ ghost use Rattle.std.specs.Prelude.{◌≡◌, ◌≤◌, ◌+◌, ◌*◌, leng
 ghost use Rattle.std.specs.List.{IsDistinct};
 ghost use Rattle.std.specs.Ordering.{nat_cmp, eq_by_cmp};
 ghost use Rattle.std.specs.Cmp.Lexicographic.{slice_cmp};
+ghost use Rattle.base_types.specs.Limits.{list_limit};
 ghost use Rattle.tree_model.specs.Paths.{spelled};
 ghost use Rattle.tree_model.specs.Entries.{bodies_fit, links_fit, makes_tree};
 ghost use Rattle.tree_gen.specs.Generated as made;
@@ -28,7 +29,7 @@ pub fn generate(alloc: Global, sources: u32) -> Result<(Vec<(CanonPath, Entry)>,
     ensures bodies { IfOk result (λ got. IsTrue (bodies_fit got.0.items)) }
     ensures count { IfOk result (λ got. length got.0.items ≡ 3 + 5 * sources) }
     ensures list { IfOk result (λ got. got.1 ≡ made.job_lines sources) }
-    ensures short { IfOk result (λ got. length got.1 ≤ 16777216) }
+    ensures short { IfOk result (λ got. length got.1 ≤ list_limit) }
 {
     parents_make_trees();
     let entries = in_order(nodes(alloc, sources)?)?;
