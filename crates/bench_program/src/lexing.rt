@@ -2,7 +2,8 @@
 use crate::outcome::not_done;
 use crate::tokens::{Difference, first_difference, joined};
 use anyhow::{Result, ensure};
-use command_line::{BODY_LIMIT, read_body};
+use base_types::limits::BODY_LIMIT;
+use command_line::read_body;
 use pp_tokens::{Lexed, TokenRef, lex};
 use std::alloc::Global;
 use std::io;

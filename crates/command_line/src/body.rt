@@ -1,15 +1,14 @@
 // The bodies of the host's files.
 ghost use Rattle.std.specs.Prelude.{◌≤◌, length, IfOk};
+ghost use Rattle.base_types.specs.Limits.{body_limit};
 ghost use Rattle.command_line.specs.Read.{IsSmallFile};
 
 use anyhow::{Result, bail};
+use base_types::limits::BODY_LIMIT;
 use std::alloc::Global;
 use std::fs::{self, File, OpenFile};
 use std::io::{self, ErrorKind, Read};
 use std::rt::Files;
-
-/// The most bytes that the lexer takes.
-pub const BODY_LIMIT: usize = 16_777_216;
 
 /// What there is to read at a path.
 #[derive(Drop)]
@@ -50,7 +49,7 @@ pub fn read_seen<R: Files + AllocGlobal>(rt: &R, path: &str) -> io::Result<FileB
 
 // Reads what is said to have so many bytes: to the end, or until there is more than the limit.
 fn read_to_limit<F: Read + Drop>(alloc: Global, file: F, said: usize) -> io::Result<FileBody>
-    requires { said ≤ 16777216 }
+    requires { said ≤ body_limit }
     ensures { IfOk result IsSmallFile }
 {
     let mut file = file;
@@ -81,7 +80,7 @@ fn read_once<F: Read>(file: &mut F, room: &mut [u8]) -> io::Result<usize>
 /// The body of a file. The error says that what stands at the path is no file, that it has more than 16 MiB, or why the host
 /// didn't read it; want of memory is one of the host's errors.
 pub fn read_body<R: Files + AllocGlobal>(rt: &R, path: &str) -> Result<Vec<u8>>
-    ensures { IfOk result (λ body. length body.items ≤ 16777216) }
+    ensures { IfOk result (λ body. length body.items ≤ body_limit) }
 {
     match read_file(rt, path)? {
         FileBody::NoFile => bail!("not a file"),

@@ -6,6 +6,6 @@ mod body;
 mod ending;
 mod words;
 
-pub use body::{BODY_LIMIT, FileBody, read_body, read_file, read_seen};
+pub use body::{FileBody, read_body, read_file, read_seen};
 pub use ending::{ended, failure_status, tell, tell_failure, wrong_words};
 pub use words::{refuse, show, words_of};

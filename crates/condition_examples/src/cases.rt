@@ -1,7 +1,7 @@
 // Cases as lines.
 ghost use Rattle.std.specs.Prelude.{◌≤◌, length};
 
-use command_line::BODY_LIMIT;
+use base_types::limits::BODY_LIMIT;
 use cond_eval::{CondError, Num, value};
 use pp_tokens::{Token, lex};
 use std::alloc::{AllocError, Global};

@@ -1,6 +1,6 @@
 // Cases as lines.
 use crate::expansion::{Way, expansion_of};
-use command_line::BODY_LIMIT;
+use base_types::limits::BODY_LIMIT;
 use std::alloc::{AllocError, Global};
 use std::io::{self, ErrorKind};
 

@@ -1,8 +1,8 @@
 // Cases: the body of each, and what it asks for.
 use crate::results::{add_counts, add_header, add_nesting, add_pieces, add_tokens};
 use crate::table::Table;
+use base_types::limits::BODY_LIMIT;
 use bstr::ByteVec;
-use command_line::BODY_LIMIT;
 use pp_tokens::{Lexed, is_plain, is_simple_name, lex, lex_directives, single_token};
 use std::alloc::Global;
 use std::io::{self, ErrorKind};
