@@ -1,10 +1,10 @@
 -- The daemons that an object in memory starts: none runs, and each is the same host.
-use Rattle.std.specs.Prelude.{ℕ, List, [], ◌∷◌, map}
+use Rattle.std.specs.Prelude.{ℕ, List, codes, map}
 use Rattle.io_edges.specs.declared.wire.Host.{Host}
 
 -- the word localhost
 abbrev pub localhost_name : List ℕ
-localhost_name = 108 ∷ 111 ∷ 99 ∷ 97 ∷ 108 ∷ 104 ∷ 111 ∷ 115 ∷ 116 ∷ []
+localhost_name = codes "localhost"
 
 -- localhost at the port 3632, which takes one request at a time
 abbrev pub localhost : Host

@@ -2,6 +2,7 @@
 ghost use Rattle.std.specs.Prelude.{◌≡◌, ◌≤◌, ◌<◌, ℕ, List, ◌∷◌, [], ◌++◌, Bool, true, false, IfOk, OnOk, OnErr, length, drop, IsErrOf};
 ghost use Rattle.base_types.specs.Calls.{FailsAsListed};
 ghost use Rattle.base_types.specs.Causes.{HasCause, raised};
+ghost use Rattle.base_types.specs.Limits.{slot_limit};
 ghost use Rattle.io_edges.specs.Daemons.{localhost, starts_of, local_hosts};
 
 use crate::wire::Host;
@@ -38,7 +39,7 @@ pub trait Spawner {
         ensures running { IfOk result (λ host. running self.new ≡ running self.old ++ host ∷ []) }
         ensures asked { OnOk result (asked self.new ≡ false) }
         ensures low { IfOk result (λ host. 0 < host.limit) }
-        ensures high { IfOk result (λ host. host.limit ≤ 64) }
+        ensures high { IfOk result (λ host. host.limit ≤ slot_limit) }
         ensures begun_err { OnErr result (begun self.new ≡ begun self.old) }
         ensures running_err { OnErr result (running self.new ≡ running self.old) }
         ensures asked_err { OnErr result (asked self.new ≡ asked self.old) }
@@ -114,7 +115,7 @@ impl Spawner for MemSpawner {
         ensures asked { OnOk result (⟦<MemSpawner as Spawner>⟧.asked self.new ≡ false) }
         ensures host { IfOk result (λ host. host ≡ localhost) }
         ensures low { IfOk result (λ host. 0 < host.limit) }
-        ensures high { IfOk result (λ host. host.limit ≤ 64) }
+        ensures high { IfOk result (λ host. host.limit ≤ slot_limit) }
         ensures begun_err { OnErr result (⟦<MemSpawner as Spawner>⟧.begun self.new ≡ ⟦<MemSpawner as Spawner>⟧.begun self.old) }
         ensures running_err { OnErr result (⟦<MemSpawner as Spawner>⟧.running self.new ≡ ⟦<MemSpawner as Spawner>⟧.running self.old) }
         ensures asked_err { OnErr result (⟦<MemSpawner as Spawner>⟧.asked self.new ≡ ⟦<MemSpawner as Spawner>⟧.asked self.old) }
