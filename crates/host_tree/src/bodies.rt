@@ -1,8 +1,9 @@
 // The bodies of files that were read before.
 ghost use Rattle.std.specs.Prelude.{◌≤◌, length, IfSome};
+ghost use Rattle.base_types.specs.Limits.{body_limit};
 
 use base_types::Bytes;
-use command_line::BODY_LIMIT;
+use base_types::limits::BODY_LIMIT;
 use std::alloc::{AllocError, Global};
 use std::collections::HashMap;
 use tree_model::CanonPath;
@@ -31,7 +32,7 @@ impl Bodies {
 
     /// A copy of the body that is remembered of a path, where there is one and memory for the copy.
     pub fn recall(&self, path: &CanonPath) -> Option<Bytes>
-        ensures { IfSome result (λ body. length body ≤ 16777216) }
+        ensures { IfSome result (λ body. length body ≤ body_limit) }
     {
         let body = self.known.get(path)?;
         if body.len() > BODY_LIMIT {
