@@ -106,6 +106,9 @@ question = 63
 abbrev pub upper_a : ℕ
 upper_a = 65
 
+abbrev pub upper_b : ℕ
+upper_b = 66
+
 abbrev pub upper_d : ℕ
 upper_d = 68
 
@@ -123,6 +126,9 @@ upper_m = 77
 
 abbrev pub upper_p : ℕ
 upper_p = 80
+
+abbrev pub upper_r : ℕ
+upper_r = 82
 
 abbrev pub upper_u : ℕ
 upper_u = 85

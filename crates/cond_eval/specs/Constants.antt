@@ -51,12 +51,12 @@ pub record Spelled : Type 0 where
 abbrev pub behind_zero : List ℕ → ℕ → List ℕ → Spelled
 behind_zero text b bs =
     if b == ascii.lower_x || b == ascii.upper_x then record { base = 16; rest = bs }
-    else (if b == ascii.lower_b || b == 66 then record { base = 2; rest = bs } else record { base = 8; rest = text })
+    else (if b == ascii.lower_b || b == ascii.upper_b then record { base = 2; rest = bs } else record { base = 8; rest = text })
 
 abbrev pub spelled_by : List ℕ → Spelled
 spelled_by [] = record { base = 10; rest = [] }
 spelled_by (a ∷ []) = record { base = 10; rest = a ∷ [] }
-spelled_by (a ∷ b ∷ bs) = if a == 48 then behind_zero (a ∷ b ∷ bs) b bs else record { base = 10; rest = a ∷ b ∷ bs }
+spelled_by (a ∷ b ∷ bs) = if a == ascii.zero_digit then behind_zero (a ∷ b ∷ bs) b bs else record { base = 10; rest = a ∷ b ∷ bs }
 
 -- a constant of a value: unsigned by its suffix, or because no signed type holds it
 abbrev pub number_valued : Bool → ℕ → Result Num CondError

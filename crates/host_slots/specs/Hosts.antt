@@ -17,11 +17,11 @@ abbrev pub is_space : ℕ → Bool
 is_space b = (b == ascii.space) || (nat_le ascii.tab b && nat_le b ascii.carriage_return)
 
 abbrev pub is_digit : ℕ → Bool
-is_digit b = nat_le 48 b && nat_le b 57
+is_digit b = nat_le ascii.zero_digit b && nat_le b ascii.nine_digit
 
 -- a letter, a digit, `.` or `-`
 abbrev pub is_host_name_byte : ℕ → Bool
-is_host_name_byte b = (nat_le 97 b && nat_le b 122) || ((nat_le 65 b && nat_le b 90) || (is_digit b || (nat_le 45 b && nat_le b 46)))
+is_host_name_byte b = (nat_le ascii.lower_a b && nat_le b ascii.lower_z) || ((nat_le ascii.upper_a b && nat_le b ascii.upper_z) || (is_digit b || (nat_le ascii.minus b && nat_le b ascii.dot)))
 
 abbrev pub is_one_of : Text → ℕ → Bool
 is_one_of marks b = list_any (λ mark. b == mark) marks
@@ -76,10 +76,10 @@ host_with_limit name port (Some limit) rest = if are_options rest then Ok (recor
 
 abbrev pub host_with_port : Text → Option ℕ → Text → Result Host HostError
 host_with_port name None rest = Err refused.Port
-host_with_port name (Some port) rest = host_with_limit name port (number_behind_mark 47 (codes ",") (default_limit name) slot_limit rest) (rest_at 47 (codes ",") rest)
+host_with_port name (Some port) rest = host_with_limit name port (number_behind_mark ascii.slash (codes ",") (default_limit name) slot_limit rest) (rest_at ascii.slash (codes ",") rest)
 
 abbrev pub host_with_name : Text → Text → Result Host HostError
-host_with_name name rest = if is_host_name name then host_with_port name (number_behind_mark 58 (codes "/,") 3632 65535 rest) (rest_at 58 (codes "/,") rest) else Err refused.Name
+host_with_name name rest = if is_host_name name then host_with_port name (number_behind_mark ascii.colon (codes "/,") 3632 65535 rest) (rest_at ascii.colon (codes "/,") rest) else Err refused.Name
 
 -- The host of a word: the name ends at the first `:`, `/` or `,`, the port at the first `/` or `,` behind it, the limit at the
 -- first `,` behind that. What is wrong further left comes first.
