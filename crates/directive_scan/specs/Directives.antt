@@ -37,24 +37,33 @@ unfoldable pub pragma_of : List Token → Directive
 pragma_of [] = directive.Pragma []
 pragma_of (t ∷ ts) = if bytes_eq t.text (codes "once") then directive.Once else directive.Pragma (t ∷ ts)
 
+-- the directives by their names: what each is, by the tokens behind its name (6.10)
+abbrev pub directives : List (List ℕ × (List Token → Directive))
+directives =
+    (codes "include", λ ts. directive.Include (target_of ts))
+    ∷ (codes "include_next", λ ts. directive.Next (target_of ts))
+    ∷ (codes "define", λ ts. directive.Define ts)
+    ∷ (codes "undef", λ ts. directive.Undef ts)
+    ∷ (codes "if", λ ts. directive.If ts)
+    ∷ (codes "ifdef", λ ts. directive.Ifdef ts)
+    ∷ (codes "ifndef", λ ts. directive.Ifndef ts)
+    ∷ (codes "elif", λ ts. directive.Elif ts)
+    ∷ (codes "else", λ ts. directive.Else)
+    ∷ (codes "endif", λ ts. directive.Endif)
+    ∷ (codes "line", λ ts. directive.Line ts)
+    ∷ (codes "error", λ ts. directive.Error ts)
+    ∷ (codes "warning", λ ts. directive.Warning)
+    ∷ (codes "pragma", pragma_of)
+    ∷ []
+
+-- the directive with a name, by the rows of such a table; unknown where none has the name
+abbrev pub named_in : List (List ℕ × (List Token → Directive)) → List ℕ → List Token → Directive
+named_in [] name ts = directive.Unknown
+named_in (row ∷ rows) name ts = if bytes_eq name row.0 then row.1 ts else named_in rows name ts
+
 -- a directive, by its name and the tokens behind that (6.10)
 unfoldable pub directive_named : List ℕ → List Token → Directive
-directive_named name ts =
-    if bytes_eq name (codes "include") then directive.Include (target_of ts)
-    else (if bytes_eq name (codes "include_next") then directive.Next (target_of ts)
-    else (if bytes_eq name (codes "define") then directive.Define ts
-    else (if bytes_eq name (codes "undef") then directive.Undef ts
-    else (if bytes_eq name (codes "if") then directive.If ts
-    else (if bytes_eq name (codes "ifdef") then directive.Ifdef ts
-    else (if bytes_eq name (codes "ifndef") then directive.Ifndef ts
-    else (if bytes_eq name (codes "elif") then directive.Elif ts
-    else (if bytes_eq name (codes "else") then directive.Else
-    else (if bytes_eq name (codes "endif") then directive.Endif
-    else (if bytes_eq name (codes "line") then directive.Line ts
-    else (if bytes_eq name (codes "error") then directive.Error ts
-    else (if bytes_eq name (codes "warning") then directive.Warning
-    else (if bytes_eq name (codes "pragma") then pragma_of ts
-    else directive.Unknown)))))))))))))
+directive_named = named_in directives
 
 -- a directive, by the tokens behind its `#` (6.10, 6.10.7)
 unfoldable pub directive_of : List Token → Directive
