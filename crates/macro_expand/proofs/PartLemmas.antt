@@ -11,7 +11,7 @@ use Rattle.macro_defs.specs.Arguments.{argument_named}
 use Rattle.macro_defs.proofs.Fronts.{front_at}
 use Rattle.pp_tokens.specs.Marks.{is_punctuator, is_open, is_close, is_comma, is_hash, is_pasting, Mark, Opening, Closing, Comma, Hash, Pasting, NoMark, mark_of}
 use Rattle.macro_expand.specs.declared.replace.Part.{Part as KeptPart}
-use Rattle.macro_expand.specs.Replacement.{BodyPart, Plain, Argument, Spelling, Join, parts_after, is_join, is_alone, stands_alone}
+use Rattle.macro_expand.specs.Replacement.{BodyPart, Plain, Argument, Spelling, Join, parts_after, one_joins, is_join, is_alone, stands_alone}
 use Rattle.macro_expand.specs.parts.Parts.{operand_part, body_part, object_part, begins_spelling, Marks}
 use Rattle.macro_expand.specs.Seen.{part_seen, parts_seen}
 
@@ -121,39 +121,43 @@ named-at names [] i t below is = absurd (omega (arith, below))
 named-at names (u ∷ body) zero t below is = ap (λ v. argument_named names (without_line v)) (sym is)
 named-at names (u ∷ body) (suc i) t below is = named-at names body i t (omega (arith, below)) is
 
--- The loop over a list: `parts` were read, and a `#` stands right before the token at `i`, or none.
+-- The loop over a list: `parts` were read, `joined` says that the last is a `##`, and a `#` stands right before the token at `i`, or none.
 module _ (names : List (List ℕ)) (body : List Token) (i : ℕ) (t : Token) (below : i < length body) (is : t ≡ get_or body i t)
-    (hash : Option Bool) (parts : List KeptPart) (whole : List BodyPart)
-    (keeps : parts_seen parts ++ parts_after hash names (map without_line (drop i body)) ≡ whole) where
-  here : parts_seen parts ++ parts_after hash names (without_line t ∷ map without_line (drop (i + 1) body)) ≡ whole
-  here = ap (λ ts. parts_seen parts ++ parts_after hash names (map without_line ts)) (sym (front_at body i t below is)) ∙ keeps
+    (hash : Option Bool) (joined : Bool) (parts : List KeptPart) (whole : List BodyPart)
+    (keeps : parts_seen parts ++ one_joins joined (parts_after hash names (map without_line (drop i body))) ≡ whole) where
+  here : parts_seen parts ++ one_joins joined (parts_after hash names (without_line t ∷ map without_line (drop (i + 1) body))) ≡ whole
+  here = ap (λ ts. parts_seen parts ++ one_joins joined (parts_after hash names (map without_line ts))) (sym (front_at body i t below is)) ∙ keeps
 
   unlined : (hash : Option Bool) → begins_spelling hash (without_line t) ≡ begins_spelling hash t
   unlined None = refl
   unlined (Some space) = refl
 
-  pub read-hash : begins_spelling hash t ≡ true → parts_seen parts ++ parts_after (Some t.space) names (map without_line (drop (i + 1) body)) ≡ whole
+  pub read-hash : begins_spelling hash t ≡ true → parts_seen parts ++ one_joins joined (parts_after (Some t.space) names (map without_line (drop (i + 1) body))) ≡ whole
   read-hash h =
-      ap (λ ps. parts_seen parts ++ ps) (sym (parts_after-hash hash names (without_line t) (map without_line (drop (i + 1) body)) (unlined hash ∙ h))) ∙ here
+      ap (λ ps. parts_seen parts ++ one_joins joined ps) (sym (parts_after-hash hash names (without_line t) (map without_line (drop (i + 1) body)) (unlined hash ∙ h)))
+      ∙ here
 
-  pub read-part : (p : KeptPart) (next : List KeptPart) → begins_spelling hash t ≡ false → part_seen p ≡ body_part hash (without_line t) (argument_named names (without_line t)) →
-      next ≡ parts ++ p ∷ [] → parts_seen next ++ parts_after None names (map without_line (drop (i + 1) body)) ≡ whole
-  read-part p next h seen made =
-      ap (λ ps. parts_seen ps ++ rest) made
-      ∙ ap (λ ps. ps ++ rest) (map-append part_seen parts (p ∷ []))
-      ∙ append_assoc (parts_seen parts) (part_seen p ∷ []) rest
-      ∙ ap (λ q. parts_seen parts ++ q ∷ rest) seen
-      ∙ ap (λ ps. parts_seen parts ++ ps) (sym (parts_after-part hash names (without_line t) (map without_line (drop (i + 1) body)) (unlined hash ∙ h)))
+  pub read-part : (p : KeptPart) (next : List KeptPart) (now : Bool) → begins_spelling hash t ≡ false →
+      part_seen p ≡ body_part hash (without_line t) (argument_named names (without_line t)) →
+      parts_seen next ≡ parts_seen parts ++ (if joined && is_join (Some (part_seen p)) then [] else part_seen p ∷ []) → now ≡ is_join (Some (part_seen p)) →
+      parts_seen next ++ one_joins now (parts_after None names (map without_line (drop (i + 1) body))) ≡ whole
+  unfolding one_joins
+  read-part p next now h seen made last =
+      ap (λ ps. ps ++ one_joins now rest) made
+      ∙ append_assoc (parts_seen parts) (if joined && is_join (Some (part_seen p)) then [] else part_seen p ∷ []) (one_joins now rest)
+      ∙ ap (λ b. parts_seen parts ++ ((if joined && is_join (Some (part_seen p)) then [] else part_seen p ∷ []) ++ one_joins b rest)) last
+      ∙ ap (λ q. parts_seen parts ++ one_joins joined (q ∷ rest)) seen
+      ∙ ap (λ ps. parts_seen parts ++ one_joins joined ps) (sym (parts_after-part hash names (without_line t) (map without_line (drop (i + 1) body)) (unlined hash ∙ h)))
       ∙ here
     where
       rest : List BodyPart
       rest = parts_after None names (map without_line (drop (i + 1) body))
 
-pub read-done : (names : List (List ℕ)) (body : List Token) (i : ℕ) (hash : Option Bool) (parts : List BodyPart) (whole : List BodyPart) → length body ≤ i →
-    parts ++ parts_after hash names (map without_line (drop i body)) ≡ whole → parts ≡ whole
-unfolding parts_after
-read-done names body i hash parts whole past keeps =
-    sym (append-nil parts) ∙ ap (λ ts. parts ++ parts_after hash names (map without_line ts)) (sym (drop_of_length-le body past)) ∙ keeps
+pub read-done : (names : List (List ℕ)) (body : List Token) (i : ℕ) (hash : Option Bool) (joined : Bool) (parts : List BodyPart) (whole : List BodyPart) → length body ≤ i →
+    parts ++ one_joins joined (parts_after hash names (map without_line (drop i body))) ≡ whole → parts ≡ whole
+unfolding parts_after one_joins
+read-done names body i hash joined parts whole past keeps =
+    sym (append-nil parts) ∙ ap (λ ts. parts ++ one_joins joined (parts_after hash names (map without_line ts))) (sym (drop_of_length-le body past)) ∙ keeps
 
 -- Arguments that stand alone (6.10.3.1).
 

@@ -1,8 +1,9 @@
 -- How a replacement's pieces are made, part by part, and joined.
-use Rattle.std.proofs.Common.{◌≡◌, ℕ, Vec, Global, IfOk, IfErr, ◌+◌, ◌<◌, ◌≤◌, List, [], ◌∷◌, ◌++◌, map, length, get_or, drop, ap, sym, ◌∙◌, subst, Option, Some, None, Result, Ok, Err, drop_of_length-le, ◌&&◌, ◌||◌, bytes_eq, Bool, true, false, refl, if◌then◌else◌}
+use Rattle.std.proofs.Common.{◌≡◌, ℕ, Vec, Global, IfOk, IfErr, ◌+◌, ◌<◌, ◌≤◌, List, [], ◌∷◌, ◌++◌, map, length, get_or, drop, ap, sym, ◌∙◌, subst, Option, Some, None, Result, Ok, Err, append-nil, drop_of_length-le, ◌&&◌, ◌||◌, bytes_eq, Bool, true, false, refl, if◌then◌else◌}
 use Rattle.std.specs.List.{list_any}
 use Rattle.std.proofs.lemmas.Bool.{true≢false}
 use mathlib.Core.Path.{fun_ext}
+use Rattle.std.proofs.lemmas.List.{map-append}
 use Rattle.pp_tokens.specs.declared.Token.{Token}
 use Rattle.macro_defs.proofs.Fronts.{front_at}
 use Rattle.macro_expand.specs.declared.marked.Marked.{Marked as Kept}
@@ -10,11 +11,12 @@ use Rattle.macro_expand.specs.declared.replace.Part.{Part as KeptPart}
 use Rattle.macro_expand.specs.declared.outcome.RunError.{RunError}
 use Rattle.macro_expand.specs.declared.outcome.RunError.TheVariants.{Count as CountError, Unclosed as UnclosedError, Paste as PasteError, Deep as DeepError, Work as WorkError, Presumed as PresumedError, Memory}
 use Rattle.macro_expand.specs.Asking.{Failure, Paste}
-use Rattle.macro_expand.specs.Replacement.{Marked, Names, unmarked, with_space, argument_at, is_join, first_body_part, with_name, common_names, BodyPart, Plain, Argument, Spelling, Join, Piece, Real, Arguments, pieces_of_part, pieces_of, joins_made, put_in_for, replacement, object_parts}
+use Rattle.macro_expand.specs.Replacement.{Marked, Names, unmarked, with_space, argument_at, is_join, first_body_part, with_name, common_names, BodyPart, Plain, Argument, Spelling, Join, Piece, Real, Arguments, PasteOperand, operand_tokens, before_joined, stringized, pieces_of_part, pieces_of, joins_made, put_in_for, replacement, object_parts}
 use Rattle.macro_expand.specs.Expansion.{object_replacement, call_replacement}
 use Rattle.macro_expand.specs.Sets.{names_in}
 use Rattle.macro_expand.specs.Seen.{part_seen, parts_seen, marked_of, call_replaced_by, KeepsWritten, Reports, ReportsPaste}
-use Rattle.macro_expand.specs.parts.Parts.{takes_written}
+use Rattle.macro_expand.specs.parts.Parts.{takes_written, joins}
+use Rattle.macro_expand.specs.parts.Pieces.{tokens_of_parts}
 use Rattle.pp_tokens.specs.Marks.{is_comma}
 use Rattle.macro_expand.proofs.StringLemmas.{grows, nothing_left}
 
@@ -37,6 +39,53 @@ unfolding pieces_of
 pieces-done args parts k left out whole past keeps =
     nothing_left out (pieces_of args left (parts_seen (drop k parts))) whole
     (ap (λ ps. pieces_of args left (parts_seen ps)) (drop_of_length-le parts past)) keeps
+
+-- Where no `##` stands in the list, the pieces are the tokens of the parts.
+
+no_first_join : (ps : List BodyPart) → list_any joins ps ≡ false → is_join (first_body_part ps) ≡ false
+no_first_join [] none = refl
+no_first_join (p ∷ ps) none = go (joins p) none
+  where
+    go : (b : Bool) → (b || list_any joins ps) ≡ false → b ≡ false
+    go true is = is
+    go false is = refl
+
+kept_comma : {A : Type 0} (comma join variable empty : Bool) (x y : A) → join ≡ false →
+    (if comma && join && variable && empty then x else y) ≡ y
+kept_comma false join variable empty x y apart = refl
+kept_comma true false variable empty x y apart = refl
+kept_comma true true variable empty x y apart = absurd (true≢false apart)
+
+expanded_alone : {A : Type 0} (left right : Bool) (x y : A) → left ≡ false → right ≡ false → (if left || right then x else y) ≡ y
+expanded_alone false false x y l r = refl
+expanded_alone true right x y l r = absurd (true≢false l)
+expanded_alone false true x y l r = absurd (true≢false r)
+
+pieces_of-unjoined : (args : Arguments) (left : Option BodyPart) (ps : List BodyPart) → is_join left ≡ false → list_any joins ps ≡ false →
+    pieces_of args left ps ≡ map Real (tokens_of_parts args ps)
+unfolding pieces_of
+pieces_of-unjoined args left [] apart none = refl
+pieces_of-unjoined args left (Plain t ∷ ps) apart none =
+    ap (λ q. q ++ pieces_of args (Some (Plain t)) ps) (kept_comma (is_comma t) (is_join (first_body_part ps)) _ _ [] (Real (unmarked t) ∷ []) (no_first_join ps none))
+    ∙ ap (λ q. Real (unmarked t) ∷ q) (pieces_of-unjoined args (Some (Plain t)) ps refl none)
+pieces_of-unjoined args left (Argument i space ∷ ps) apart none =
+    ap (λ q. q ++ pieces_of args (Some (Argument i space)) ps)
+    (expanded_alone (is_join left) (is_join (first_body_part ps)) _ (map Real (with_space space (argument_at i args.expanded))) apart (no_first_join ps none))
+    ∙ ap (λ q. map Real (with_space space (argument_at i args.expanded)) ++ q) (pieces_of-unjoined args (Some (Argument i space)) ps refl none)
+    ∙ sym (map-append Real (with_space space (argument_at i args.expanded)) (tokens_of_parts args ps))
+pieces_of-unjoined args left (Spelling i space ∷ ps) apart none =
+    ap (λ q. Real (stringized space (argument_at i args.written)) ∷ q) (pieces_of-unjoined args (Some (Spelling i space)) ps refl none)
+pieces_of-unjoined args left (Join ∷ ps) apart none = absurd (true≢false none)
+
+joins_made-real : (left : PasteOperand) (ts : List Marked) → joins_made left false (map Real ts) ≡ Ok (operand_tokens left ++ ts)
+unfolding joins_made
+joins_made-real left [] = ap Ok (sym (append-nil (operand_tokens left)))
+joins_made-real left (t ∷ ts) = ap (before_joined left) (joins_made-real (Some t) ts)
+
+pub tokens-made : (args : Arguments) (ps : List BodyPart) (out : List Marked) → list_any joins ps ≡ false → out ≡ tokens_of_parts args ps →
+    joins_made None false (pieces_of args None ps) ≡ Ok out
+tokens-made args ps out none is =
+    ap (joins_made None false) (pieces_of-unjoined args None ps refl none) ∙ joins_made-real None (tokens_of_parts args ps) ∙ ap Ok (sym is)
 
 -- The whole replacement.
 
@@ -71,17 +120,6 @@ no_join (Plain t ∷ ps) none = refl
 no_join (Argument i space ∷ ps) none = refl
 no_join (Spelling i space ∷ ps) none = absurd (true≢false none)
 no_join (Join ∷ ps) none = absurd (true≢false none)
-
-kept_comma : {A : Type 0} (comma join variable empty : Bool) (x y : A) → join ≡ false →
-    (if comma && join && variable && empty then x else y) ≡ y
-kept_comma false join variable empty x y apart = refl
-kept_comma true false variable empty x y apart = refl
-kept_comma true true variable empty x y apart = absurd (true≢false apart)
-
-expanded_alone : {A : Type 0} (left right : Bool) (x y : A) → left ≡ false → right ≡ false → (if left || right then x else y) ≡ y
-expanded_alone false false x y l r = refl
-expanded_alone true right x y l r = absurd (true≢false l)
-expanded_alone false true x y l r = absurd (true≢false r)
 
 pieces_of-unwritten : (written written' expanded : List (List Marked)) (variable : Option ℕ) (left : Option BodyPart) (ps : List BodyPart) →
     is_join left ≡ false → list_any takes_written ps ≡ false →

@@ -5,7 +5,7 @@ ghost use Rattle.macro_defs.specs.MacroDefinition.{without_line};
 ghost use Rattle.pp_tokens.specs.Marks.{is_comma};
 ghost use Rattle.macro_expand.specs.Replacement as spec;
 ghost use Rattle.macro_expand.specs.Replacement.{unmarked, with_space, as_pieces, argument_at, is_variable, is_comma_part, is_join, first_body_part, rest_parts, is_empty_argument, pieces_of_part, pieces_of, Real};
-ghost use Rattle.macro_expand.specs.parts.Pieces.{arguments_seen, spaced_at};
+ghost use Rattle.macro_expand.specs.parts.Pieces.{arguments_seen, spaced_at, tokens_of_part, tokens_of_parts};
 ghost use Rattle.macro_expand.specs.Seen.{marked_of, piece_of, part_seen, parts_seen, lists_of};
 
 use crate::marked::{Marked, Piece};
@@ -113,8 +113,45 @@ fn put<'t>(out: &mut Vec<Piece<'t>>, p: Piece<'t>) -> Result<(), AllocError>
     Ok(())
 }
 
-// Puts in the tokens of an argument, the first with the parameter's space.
+// Puts in a token, as it is.
+fn put_marked<'t>(out: &mut Vec<Marked<'t>>, m: Marked<'t>) -> Result<(), AllocError>
+    ensures { OnOk result (map marked_of out.new.items ≡ map marked_of out.old.items ++ marked_of m.entry ∷ []) }
+{
+    out.push(m)?;
+    Ok(())
+}
+
+// Puts in copies of the tokens of an argument, the first with the parameter's space.
+fn put_copies<'t>(
+    out: &mut Vec<Marked<'t>>,
+    space: bool,
+    tokens: &[Marked<'t>],
+) -> Result<(), AllocError>
+    ensures { OnOk result (map marked_of out.new.items
+        ≡ map marked_of out.old.items ++ with_space space (map marked_of tokens.now)) }
+{
+    let mut first = true;
+    for t in tokens {
+        put_marked(out, copy_at(first, space, t)?)?;
+        first = false;
+    }
+    Ok(())
+}
+
+// Puts in tokens, each as a piece.
+fn put_each<'t>(out: &mut Vec<Piece<'t>>, tokens: Vec<Marked<'t>>) -> Result<(), AllocError>
+    ensures { OnOk result (map piece_of out.new.items
+        ≡ map piece_of out.old.items ++ map Real (map marked_of tokens.entry.items)) }
+{
+    for m in tokens {
+        put(out, Piece::Real(m))?;
+    }
+    Ok(())
+}
+
+// Puts in the tokens of an argument as pieces, the first with the parameter's space.
 fn put_tokens<'t>(
+    alloc: Global,
     out: &mut Vec<Piece<'t>>,
     space: bool,
     tokens: &[Marked<'t>],
@@ -122,16 +159,14 @@ fn put_tokens<'t>(
     ensures { OnOk result (map piece_of out.new.items
         ≡ map piece_of out.old.items ++ map Real (with_space space (map marked_of tokens.now))) }
 {
-    let mut first = true;
-    for t in tokens {
-        put(out, Piece::Real(copy_at(first, space, t)?))?;
-        first = false;
-    }
-    Ok(())
+    let mut copies = Vec::with_capacity(alloc, tokens.len())?;
+    put_copies(&mut copies, space, tokens)?;
+    put_each(out, copies)
 }
 
 // Puts in an argument that stands beside `##`: where it has no tokens, a placemarker.
 fn put_operand<'t>(
+    alloc: Global,
     out: &mut Vec<Piece<'t>>,
     space: bool,
     tokens: &[Marked<'t>],
@@ -142,7 +177,7 @@ fn put_operand<'t>(
     if tokens.is_empty() {
         return put(out, Piece::Placemarker);
     }
-    put_tokens(out, space, tokens)
+    put_tokens(alloc, out, space, tokens)
 }
 
 // Puts in a token of the list. A comma is dropped before `##` and an empty variable argument.
@@ -180,6 +215,7 @@ fn is_behind_comma(before: Option<&Part>) -> bool
 
 // Puts in the argument that a parameter stands for.
 fn put_argument<'t>(
+    alloc: Global,
     out: &mut Vec<Piece<'t>>,
     arguments: &Arguments<'_, 't>,
     before: Option<&Part>,
@@ -191,9 +227,9 @@ fn put_argument<'t>(
         ++ pieces_of_part (arguments_seen arguments.now) (option_map part_seen (option_copied before.entry)) (spec.Argument i space) (parts_seen rest.now)) }
 {
     if is_behind_join(before) || begins_with_join(rest) {
-        return put_operand(out, space, argument_at(arguments.written, i));
+        return put_operand(alloc, out, space, argument_at(arguments.written, i));
     }
-    put_tokens(out, space, argument_at(arguments.expanded, i))
+    put_tokens(alloc, out, space, argument_at(arguments.expanded, i))
 }
 
 // Puts in a `##`, which joins nothing between a comma and the variable argument (GNU).
@@ -226,7 +262,7 @@ fn put_part<'t>(
 {
     match p {
         Part::Plain(t) => put_plain(out, arguments, t, rest),
-        Part::Argument(i, space) => put_argument(out, arguments, before, *i, *space, rest),
+        Part::Argument(i, space) => put_argument(alloc, out, arguments, before, *i, *space, rest),
         Part::Spelling(i, space) => put_spelling(alloc, out, arguments, *i, *space),
         Part::Join => put_join(out, arguments, before, rest),
     }
@@ -263,6 +299,44 @@ pub(crate) fn read_pieces<'t>(
         let (_, rest) = parts.split_at(k + 1);
         put_part(alloc, &mut out, arguments, before, p, rest)?;
         before = Some(p);
+    }
+    Ok(out)
+}
+
+// Puts in the tokens of a part of a list without `##`.
+fn put_tokens_of<'t>(
+    alloc: Global,
+    out: &mut Vec<Marked<'t>>,
+    arguments: &Arguments<'_, 't>,
+    p: &Part<'t>,
+) -> Result<(), AllocError>
+    ensures { OnOk result (map marked_of out.new.items
+        ≡ map marked_of out.old.items ++ tokens_of_part (arguments_seen arguments.now) (part_seen p.now)) }
+{
+    match p {
+        Part::Plain(t) => put_marked(out, plain(t)),
+        Part::Argument(i, space) => put_copies(out, *space, argument_at(arguments.expanded, *i)),
+        Part::Spelling(i, space) => {
+            put_marked(
+                out,
+                stringized(alloc, *space, argument_at(arguments.written, *i))?,
+            )
+        }
+        Part::Join => Ok(()),
+    }
+}
+
+// The tokens of a replacement list without `##`, as nearly all are: no list of pieces is made.
+pub(crate) fn read_tokens<'t>(
+    alloc: Global,
+    parts: &[Part<'t>],
+    arguments: &Arguments<'_, 't>,
+) -> Result<Vec<Marked<'t>>, AllocError>
+    ensures { IfOk result (λ out. map marked_of out.items ≡ tokens_of_parts (arguments_seen arguments.now) (parts_seen parts.now)) }
+{
+    let mut out = Vec::with_capacity(alloc, parts.len())?;
+    for p in parts {
+        put_tokens_of(alloc, &mut out, arguments, p)?;
     }
     Ok(out)
 }

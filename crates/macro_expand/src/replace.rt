@@ -2,19 +2,20 @@
 ghost use Rattle.std.specs.Prelude.{◌≡◌, ◌≤◌, ◌<◌, ℕ, List, Some, None, Ok, Err, map, length, get_or, false, ◌++◌, ◌∷◌, [], ◌&&◌, if◌then◌else◌, IfOk, IfErr, OnOk};
 ghost use Rattle.macro_defs.specs.MacroDefinition.{without_line};
 ghost use Rattle.macro_defs.specs.Arguments.{parameters_in};
-ghost use Rattle.macro_expand.specs.Replacement.{parts_after, body_parts, one_joins, stands_alone, object_parts, is_join, first_body_part, with_name, common_names, replacement};
-ghost use Rattle.macro_expand.specs.parts.Parts.{operand_part, body_part, begins_spelling, object_part, Marks};
+ghost use Rattle.macro_expand.specs.Replacement.{parts_after, body_parts, one_joins, stands_alone, object_parts, is_join, first_body_part, with_name, common_names, replacement, pieces_of, joins_made};
+ghost use Rattle.macro_expand.specs.parts.Parts.{operand_part, body_part, begins_spelling, object_part, joins, Marks};
+ghost use Rattle.std.specs.List.{list_any};
 ghost use Rattle.macro_expand.specs.parts.Pieces.{arguments_seen};
 ghost use Rattle.macro_expand.specs.Sets.{names_in};
 ghost use Rattle.macro_expand.specs.Expansion.{object_replacement, variable_of};
-ghost use Rattle.macro_expand.specs.Seen.{marked_of, lists_of, part_seen, parts_seen, Reports, call_replaced_by};
+ghost use Rattle.macro_expand.specs.Seen.{marked_of, lists_of, part_seen, parts_seen, Reports, ReportsPaste, call_replaced_by};
 
 use crate::call::ReadCall;
 use crate::hide_set::HideSet;
 use crate::marked::Marked;
 use crate::outcome::RunError;
 use crate::paste::join_pieces;
-use crate::pieces::{Arguments, read_pieces};
+use crate::pieces::{Arguments, read_pieces, read_tokens};
 use crate::placing::put_in_for;
 use base_types::Bytes;
 use macro_defs::Definition;
@@ -75,42 +76,23 @@ fn begins_spelling(hash: Option<bool>, t: &Token) -> bool
     }
 }
 
-// What the tokens of a function-like macro's replacement list stand for.
-fn read_each_part<'d>(alloc: Global, d: &'d Definition) -> Result<Vec<Part<'d>>, AllocError>
-    ensures { IfOk result (λ parts. parts_seen parts.items ≡ parts_after None (parameters_in d.now.shape) d.now.body) }
-{
-    let body = d.body();
-    let mut parts = Vec::with_capacity(alloc, body.len())?;
-    let mut hash = None;
-    for (place, t) in body.iter().enumerate() {
-        if begins_spelling(hash, t) {
-            hash = Some(t.space);
-        } else {
-            parts.push(part_at(hash, t, d.parameter_at(place)))?;
-            hash = None;
-        }
-    }
-    Ok(parts)
-}
-
 // The parts of a function-like macro's replacement list, with `##` several times in a row as one.
 pub(crate) fn read_parts<'d>(alloc: Global, d: &'d Definition) -> Result<Vec<Part<'d>>, AllocError>
     ensures { IfOk result (λ parts. parts_seen parts.items ≡ body_parts (parameters_in d.now.shape) d.now.body) }
 {
-    let each = read_each_part(alloc, d)?;
-    with_one_joins(alloc, each.as_slice())
-}
-
-// The parts with each run of joins as one.
-#[tactic(auto, unfolding(crate::specs::Replacement::one_joins))]
-fn with_one_joins<'d>(alloc: Global, each: &[Part<'d>]) -> Result<Vec<Part<'d>>, AllocError>
-    ensures { IfOk result (λ parts. parts_seen parts.items ≡ one_joins false (parts_seen each.now)) }
-{
-    let mut parts = Vec::with_capacity(alloc, each.len())?;
+    let body = d.body();
+    let mut parts = Vec::with_capacity(alloc, body.len())?;
+    let mut hash = None;
     let mut joined = false;
-    for p in each {
-        put_part(&mut parts, joined, *p)?;
-        joined = is_join(p);
+    for (place, t) in body.iter().enumerate() {
+        if begins_spelling(hash, t) {
+            hash = Some(t.space);
+        } else {
+            let p = part_at(hash, t, d.parameter_at(place));
+            put_part(&mut parts, joined, p)?;
+            joined = is_join(&p);
+            hash = None;
+        }
     }
     Ok(parts)
 }
@@ -206,7 +188,38 @@ pub(crate) fn variable_number(params: &[Bytes], variadic: bool) -> Option<usize>
     }
 }
 
-// What a name is replaced by, over the parts of its replacement list and its arguments: their pieces, joined and put in.
+// Whether there is a `##` among the parts.
+fn have_join(parts: &[Part]) -> bool
+    ensures { result ≡ list_any joins (parts_seen parts.now) }
+{
+    for p in parts {
+        if is_join(p) {
+            return true;
+        }
+    }
+    false
+}
+
+// What the parts of a replacement list make of the arguments: their tokens, or where there is a `##`, their pieces joined.
+fn made_of<'d>(
+    alloc: Global,
+    t: &Marked,
+    parts: &[Part<'d>],
+    arguments: &Arguments<'_, 'd>,
+) -> Result<Vec<Marked<'d>>, RunError>
+    ensures ok { IfOk result (λ ts. joins_made None false (pieces_of (arguments_seen arguments.now) None (parts_seen parts.now)) ≡ Ok (map marked_of ts.items)) }
+    ensures err { IfErr result (λ e. ReportsPaste e t.now.token.line
+        (joins_made None false (pieces_of (arguments_seen arguments.now) None (parts_seen parts.now)))) }
+{
+    if have_join(parts) {
+        let pieces = read_pieces(alloc, parts, arguments)?;
+        return join_pieces(alloc, t, pieces);
+    }
+    let made = read_tokens(alloc, parts, arguments)?;
+    Ok(made)
+}
+
+// What a name is replaced by, over the parts of its replacement list and its arguments: what they make, put in.
 fn replaced<'d>(
     alloc: Global,
     t: &Marked,
@@ -219,8 +232,7 @@ fn replaced<'d>(
     ensures err { IfErr result (λ e. Reports e
         (replacement t.now.token (names_in hidden.now) (parts_seen parts.now) (arguments_seen arguments.now))) }
 {
-    let pieces = read_pieces(alloc, parts, arguments)?;
-    let made = join_pieces(alloc, t, pieces)?;
+    let made = made_of(alloc, t, parts, arguments)?;
     let out = put_in_for(alloc, &t.token, hidden, made)?;
     Ok(out)
 }

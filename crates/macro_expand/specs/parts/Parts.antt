@@ -2,7 +2,7 @@
 use Rattle.std.specs.Prelude.{◌≡◌, ◌<◌, ℕ, Bool, true, false, ◌||◌, List, length, get_or, Option, Some, None, if◌then◌else◌}
 use Rattle.pp_tokens.specs.declared.Token.{Token}
 use Rattle.pp_tokens.specs.Marks.{Pasting, mark_of, is_hash}
-use Rattle.macro_expand.specs.Replacement.{BodyPart, Plain, Argument, Spelling, Join, is_alone}
+use Rattle.macro_expand.specs.Replacement.{BodyPart, Plain, Argument, Spelling, Join, is_alone, is_join}
 
 -- a token that is no join, nor a `#` that begins a spelling
 abbrev pub operand_part : Option Bool → Token → Option ℕ → BodyPart
@@ -37,3 +37,7 @@ takes_written (Plain t) = false
 takes_written (Argument i space) = false
 takes_written (Spelling i space) = true
 takes_written Join = true
+
+-- whether a part is a `##`
+abbrev pub joins : BodyPart → Bool
+joins p = is_join (Some p)
