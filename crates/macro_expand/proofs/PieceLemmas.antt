@@ -16,8 +16,9 @@ use Rattle.macro_expand.specs.Expansion.{object_replacement, call_replacement}
 use Rattle.macro_expand.specs.Sets.{names_in}
 use Rattle.macro_expand.specs.Seen.{part_seen, parts_seen, marked_of, call_replaced_by, KeepsWritten, Reports, ReportsPaste}
 use Rattle.macro_expand.specs.parts.Parts.{takes_written, joins}
-use Rattle.macro_expand.specs.parts.Pieces.{tokens_of_parts}
-use Rattle.pp_tokens.specs.Marks.{is_comma}
+use Rattle.macro_expand.specs.parts.Pieces.{tokens_of_part, tokens_of_parts}
+use Rattle.macro_expand.proofs.PartLemmas.{object_part-plain}
+use Rattle.pp_tokens.specs.Marks.{is_comma, is_pasting}
 use Rattle.macro_expand.proofs.StringLemmas.{grows, nothing_left}
 
 -- a turn of the loop: one part more, where `seen` are the parts behind it
@@ -88,6 +89,9 @@ tokens-made args ps out none is =
     ap (joins_made None false) (pieces_of-unjoined args None ps refl none) ∙ joins_made-real None (tokens_of_parts args ps) ∙ ap Ok (sym is)
 
 -- The whole replacement.
+
+abbrev no_arguments : Arguments
+no_arguments = record { written = []; expanded = []; variable = None }
 
 abbrev Joined : Type 0
 Joined = Result (List Marked) (List ℕ × List ℕ)
@@ -160,6 +164,30 @@ unfolding object_replacement
 object-same t body hidden parts h same =
     ap (λ (names : Names). replacement t.token names parts (record { written = []; expanded = []; variable = None })) (fun_ext h)
     ∙ ap (λ ps. replacement t.token (with_name t.token.text (names_in t.hidden)) ps (record { written = []; expanded = []; variable = None })) same
+
+-- where no `##` stands in the body, its tokens are put in
+abbrev Unjoined : List Token → Type 0
+Unjoined body = (list_any joins (object_parts body) ≡ false) × (tokens_of_parts no_arguments (object_parts body) ≡ map unmarked body)
+
+unjoined : (body : List Token) → list_any is_pasting body ≡ false → Unjoined body
+unjoined [] none = (refl, refl)
+unjoined (t ∷ ts) none = go (is_pasting t) refl none (unjoined ts)
+  where
+    go : (b : Bool) → is_pasting t ≡ b → (b || list_any is_pasting ts) ≡ false → (list_any is_pasting ts ≡ false → Unjoined ts) → Unjoined (t ∷ ts)
+    go true is rest others = absurd (true≢false rest)
+    go false is rest others = (
+      ap (λ p. joins p || list_any joins (object_parts ts)) (object_part-plain t is) ∙ (others rest).0,
+      ap (λ p. tokens_of_part no_arguments p ++ tokens_of_parts no_arguments (object_parts ts)) (object_part-plain t is)
+          ∙ ap (λ us. unmarked t ∷ us) (others rest).1,
+    )
+
+pub object-lent : (t : Kept) (body : List Token) (hidden : List (List ℕ)) (out : List Marked) →
+    ((n : List ℕ) → names_in hidden n ≡ (bytes_eq n t.token.text || names_in t.hidden n)) → list_any is_pasting body ≡ false →
+    out ≡ put_in_for t.token (names_in hidden) (map unmarked body) → object_replacement (marked_of t) body ≡ Ok out
+object-lent t body hidden out h none is =
+    sym (object-same t body hidden (object_parts body) h refl)
+    ∙ replacement-made t.token (names_in hidden) (object_parts body) no_arguments (pieces_of no_arguments None (object_parts body)) refl (map unmarked body) out
+    (tokens-made no_arguments (object_parts body) (map unmarked body) (unjoined body none).0 (sym (unjoined body none).1)) is
 
 pub call-same : (t close : Kept) (parts : List BodyPart) (variable : Option ℕ) (written expanded : List (List Marked)) (hidden : List (List ℕ)) →
     ((n : List ℕ) → names_in hidden n ≡ with_name t.token.text (common_names (names_in t.hidden) (names_in close.hidden)) n) →

@@ -1,13 +1,14 @@
 // The tokens of a replacement as they are put in for a name (ISO C 6.10.3 paragraphs 9 and 10, 6.10.3.4).
 ghost use Rattle.std.specs.Prelude.{◌≡◌, map, length, IfOk, IfSome, OnOk};
 ghost use Rattle.macro_expand.specs.Sets.{names_in};
-ghost use Rattle.macro_expand.specs.Replacement.{with_space, put_in_for};
+ghost use Rattle.macro_expand.specs.Replacement.{unmarked, with_space, put_in_for};
+ghost use Rattle.macro_defs.specs.MacroDefinition.{without_line};
 ghost use Rattle.macro_expand.specs.Seen.{marked_of};
 ghost use Rattle.macro_expand.specs.parts.Placing.{placed, HasNamesOfBoth, KnowsUnion};
 
 use crate::hide_set::HideSet;
 use crate::marked::Marked;
-use pp_tokens::TokenCow;
+use pp_tokens::{Token, TokenCow};
 use std::alloc::{AllocError, Global};
 
 // The names of a token, and the same with those that a replacement hides.
@@ -116,6 +117,35 @@ pub(crate) fn put_in_for<'t>(
     let mut last = None;
     for m in made.iter_mut() {
         place(alloc, line, hidden, &mut last, m)?;
+    }
+    Ok(spaced(made, t.space()))
+}
+
+// A token of a replacement list, as it is put in on this line.
+fn lent_at<'t>(line: u32, hidden: &HideSet, u: &'t Token) -> Result<Marked<'t>, AllocError>
+    ensures { IfOk result (λ m. marked_of m ≡ placed line (names_in hidden.now) (unmarked (without_line u.now))) }
+{
+    let mut token = TokenCow::lent(u.as_ref());
+    token.set_line(line);
+    Ok(Marked {
+        token,
+        hidden: hidden.copy()?,
+    })
+}
+
+// The tokens of a replacement list that stand for themselves, as they are put in for `t`.
+pub(crate) fn lend_for<'t>(
+    alloc: Global,
+    t: &TokenCow,
+    hidden: &HideSet,
+    body: &'t [Token],
+) -> Result<Vec<Marked<'t>>, AllocError>
+    ensures { IfOk result (λ ts. map marked_of ts.items ≡ put_in_for t.now (names_in hidden.now) (map unmarked (map without_line body.now))) }
+{
+    let line = t.line();
+    let mut made = Vec::with_capacity(alloc, body.len())?;
+    for u in body {
+        made.push(lent_at(line, hidden, u)?)?;
     }
     Ok(spaced(made, t.space()))
 }

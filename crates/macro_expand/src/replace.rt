@@ -2,6 +2,7 @@
 ghost use Rattle.std.specs.Prelude.{◌≡◌, ◌≤◌, ◌<◌, ℕ, List, Some, None, Ok, Err, map, length, get_or, false, ◌++◌, ◌∷◌, [], ◌&&◌, if◌then◌else◌, IfOk, IfErr, OnOk};
 ghost use Rattle.macro_defs.specs.MacroDefinition.{without_line};
 ghost use Rattle.macro_defs.specs.Arguments.{parameters_in};
+ghost use Rattle.pp_tokens.specs.Marks.{is_pasting};
 ghost use Rattle.macro_expand.specs.Replacement.{parts_after, body_parts, one_joins, stands_alone, object_parts, is_join, first_body_part, with_name, common_names, replacement, pieces_of, joins_made};
 ghost use Rattle.macro_expand.specs.parts.Parts.{operand_part, body_part, begins_spelling, object_part, joins, Marks};
 ghost use Rattle.std.specs.List.{list_any};
@@ -16,7 +17,7 @@ use crate::marked::Marked;
 use crate::outcome::RunError;
 use crate::paste::join_pieces;
 use crate::pieces::{Arguments, read_pieces, read_tokens};
-use crate::placing::put_in_for;
+use crate::placing::{lend_for, put_in_for};
 use base_types::Bytes;
 use macro_defs::Definition;
 use pp_tokens::Token;
@@ -253,6 +254,39 @@ fn hidden_by_call(alloc: Global, t: &Marked, close: &Marked) -> Result<HideSet, 
     common.with(alloc, t.token.text())
 }
 
+// Whether there is a `##` in a body.
+fn has_pasting(body: &[Token]) -> bool
+    ensures { result ≡ list_any is_pasting (map without_line body.now) }
+{
+    for t in body {
+        if t.is_pasting() {
+            return true;
+        }
+    }
+    false
+}
+
+// What the name of an object-like macro is replaced by that has a `##`.
+fn joined_tokens<'d>(
+    alloc: Global,
+    t: &Marked,
+    hidden: &HideSet,
+    body: &'d [Token],
+) -> Result<Vec<Marked<'d>>, RunError>
+    ensures ok { IfOk result (λ ts. replacement t.now.token (names_in hidden.now) (object_parts (map without_line body.now))
+        (record { written = []; expanded = []; variable = None }) ≡ Ok (map marked_of ts.items)) }
+    ensures err { IfErr result (λ e. Reports e (replacement t.now.token (names_in hidden.now) (object_parts (map without_line body.now))
+        (record { written = []; expanded = []; variable = None }))) }
+{
+    let parts = read_object_parts(alloc, body)?;
+    let arguments = Arguments {
+        written: &[],
+        expanded: &[],
+        variable: None,
+    };
+    replaced(alloc, t, hidden, &parts, &arguments)
+}
+
 // What the name of an object-like macro is replaced by.
 pub(crate) fn object_tokens<'d>(
     alloc: Global,
@@ -262,14 +296,13 @@ pub(crate) fn object_tokens<'d>(
     ensures ok { IfOk result (λ ts. object_replacement (marked_of t.now) d.now.body ≡ Ok (map marked_of ts.items)) }
     ensures err { IfErr result (λ e. Reports e (object_replacement (marked_of t.now) d.now.body)) }
 {
-    let parts = read_object_parts(alloc, d.body())?;
+    let body = d.body();
     let hidden = hidden_by_name(alloc, t)?;
-    let arguments = Arguments {
-        written: &[],
-        expanded: &[],
-        variable: None,
-    };
-    replaced(alloc, t, &hidden, &parts, &arguments)
+    if has_pasting(body) {
+        return joined_tokens(alloc, t, &hidden, body);
+    }
+    let made = lend_for(alloc, &t.token, &hidden, body)?;
+    Ok(made)
 }
 
 // What a call is replaced by.
