@@ -4,7 +4,7 @@ use Rattle.std.proofs.lemmas.Bool.{and_parts, and_from, or_cases, both_ways, fal
 use Rattle.std.proofs.lemmas.List.Folds.{list_any-append}
 use Rattle.std.proofs.lemmas.Slice.Eq.{bytes_eq-Decides}
 use Rattle.macro_expand.specs.Sets.{names_in}
-use Rattle.macro_expand.specs.parts.Tries.{name_hash, Tree, Tip, Branch, trie_names, have_bit, next_key, stand_by_keys, hashed, IsOrdered, is_same_name, found, with_leaf, with_new, with_all, with_common, with_all_common, has_all, is_same}
+use Rattle.macro_expand.specs.parts.Tries.{name_hash, Tree, Tip, Branch, trie_names, have_bit, next_key, stand_by_keys, hashed, IsOrdered, is_same_name, found, with_leaf, with_new, with_all, with_common, with_all_common, has_all, is_same, stands_in}
 
 names_in-append : (a b : List (List ℕ)) (n : List ℕ) → names_in (a ++ b) n ≡ (names_in a n || names_in b n)
 names_in-append a b n = list_any-append (bytes_eq n) a b
@@ -372,6 +372,29 @@ is_same-names (Branch n h z o) (Branch m k y p) is =
     first : ((is_same_name n h m k && is_same z y) ≡ true) × (is_same o p ≡ true)
     first = and_parts (is_same_name n h m k && is_same z y) (is_same o p) is
 
+stands_in-names : (s t : Tree) (n : List ℕ) → stands_in s t ≡ true → names_in (trie_names s) n ≡ true → names_in (trie_names t) n ≡ true
+stands_in-names Tip t n all is = absurd (both_ways false refl is)
+stands_in-names (Branch m h z o) Tip n all is = absurd (both_ways false refl all)
+stands_in-names (Branch m h z o) (Branch k j y p) n all is =
+    ap (λ b. b || names_in (trie_names y ++ trie_names p) n) (sym (ap (bytes_eq n) same))
+    ∙ ap (λ b. bytes_eq n m || b) (names_in-append (trie_names y) (trie_names p) n)
+    ∙ go (bytes_eq n m) (names_in (trie_names z) n) (names_in (trie_names o) n) (names_in (trie_names y) n) (names_in (trie_names p) n)
+    (stands_in-names z y n (and_parts (is_same_name m h k j) (stands_in z y) first.0).1) (stands_in-names o p n first.1)
+    (ap (λ b. bytes_eq n m || b) (sym (names_in-append (trie_names z) (trie_names o) n)) ∙ is)
+  where
+    first : ((is_same_name m h k j && stands_in z y) ≡ true) × (stands_in o p ≡ true)
+    first = and_parts (is_same_name m h k j && stands_in z y) (stands_in o p) all
+
+    same : m ≡ k
+    same = same_name m k (and_parts (h == j) (bytes_eq m k) (and_parts (is_same_name m h k j) (stands_in z y) first.0).0).1
+
+    go : (b z o y p : Bool) → (z ≡ true → y ≡ true) → (o ≡ true → p ≡ true) → (b || (z || o)) ≡ true → (b || (y || p)) ≡ true
+    go true z o y p l r is = refl
+    go false true o y p l r is = ap (λ b. b || p) (l refl)
+    go false false true true p l r is = refl
+    go false false true false p l r is = r refl
+    go false false false y p l r is = absurd (both_ways false refl is)
+
 -- What the operations of hide sets make.
 
 pub hides-is : (t : Tree) (names : List (List ℕ)) (name : List ℕ) (h : ℕ) (r : Bool) → IsOrdered t → trie_names t ≡ names →
@@ -445,6 +468,28 @@ module _ (s other : Tree) (own : IsOrdered s) (ok : IsOrdered other) (xs ys : Li
       itself : (b : Bool) → b ≡ (b && b)
       itself true = refl
       itself false = refl
+
+-- where every name of the first stands at its place in the second
+module _ (s other : Tree) (xs ys : List (List ℕ)) (seen : trie_names s ≡ xs) (more : trie_names other ≡ ys) (all : stands_in s other ≡ true) (n : List ℕ) where
+  there_too : names_in xs n ≡ true → names_in ys n ≡ true
+  there_too is =
+      ap (λ (l : List (List ℕ)). names_in l n) (sym more)
+      ∙ stands_in-names s other n all (ap (λ (l : List (List ℕ)). names_in l n) seen ∙ is)
+
+  pub standing-common : (kept : List (List ℕ)) → kept ≡ xs → names_in kept n ≡ (names_in xs n && names_in ys n)
+  standing-common kept same = ap (λ (l : List (List ℕ)). names_in l n) same ∙ go (names_in xs n) (names_in ys n) there_too
+    where
+      go : (a b : Bool) → (a ≡ true → b ≡ true) → a ≡ (a && b)
+      go true b h = sym (h refl)
+      go false b h = refl
+
+  pub standing-all : (kept : List (List ℕ)) → kept ≡ ys → names_in kept n ≡ (names_in ys n || names_in xs n)
+  standing-all kept same = ap (λ (l : List (List ℕ)). names_in l n) same ∙ go (names_in ys n) (names_in xs n) there_too
+    where
+      go : (b a : Bool) → (a ≡ true → b ≡ true) → b ≡ (b || a)
+      go true a h = refl
+      go false true h = h refl
+      go false false h = refl
 
 pub if_ok-map : {A E : Type 0} {P Q : A → Type 0} (r : Result A E) → ((x : A) → P x → Q x) → IfOk r P → IfOk r Q
 if_ok-map (Ok x) f p = f x p

@@ -1,7 +1,8 @@
 // The names that don't replace a token any more, as a trie over the bits of their hashes (specs/parts/Tries.antt).
 //
-// A name is looked for on the way that its hash says, and one more name takes new nodes on that way alone. A union or an intersection takes
-// so much for each name of the smaller set. What the model keeps is `IsOrdered`: every name is met on its way.
+// A name is looked for on the way that its hash says, and one more name takes new nodes on that way alone, so that a set stands at the
+// same places in those that were made of it. Where the smaller of two sets stands so in the other, a union or an intersection is a copy, and
+// costs one step for each name of the smaller; else it takes a way for each. What the model keeps is `IsOrdered`: every name is met on its way.
 ghost use Rattle.std.specs.Prelude.{◌≡◌, IfOk};
 ghost use Rattle.macro_expand.specs.parts.Tries as tries;
 ghost use Rattle.macro_expand.specs.parts.Tries.{name_hash, Branch, trie_of, found, with_leaf, with_common, with_all_common};
@@ -94,10 +95,13 @@ impl HideSet {
         })
     }
 
-    // Whether the two are built alike, as copies of one set are. It costs a step for each name.
+    // Whether the two are built alike, as copies of one set are. It costs a step for each name, and one step where one has more.
     pub(crate) fn is_same(&self, other: &HideSet) -> bool
         ensures { result ≡ true → self.now ≡ other.now }
     {
+        if self.count != other.count {
+            return false;
+        }
         is_same(&self.names, &other.names)
     }
 
@@ -137,6 +141,9 @@ impl HideSet {
     fn with_all(&self, alloc: Global, smaller: &HideSet) -> Result<HideSet, AllocError>
         ensures { IfOk result (λ h. (n : List ℕ) → names_in h n ≡ (names_in self.now n || names_in smaller.now n)) }
     {
+        if stands_in(&smaller.names, &self.names) {
+            return self.copy();
+        }
         let set = Growing {
             names: shared(&self.names)?,
             count: self.count,
@@ -152,7 +159,7 @@ impl HideSet {
     fn kept_by(&self, alloc: Global, larger: &HideSet) -> Result<HideSet, AllocError>
         ensures { IfOk result (λ h. (n : List ℕ) → names_in h n ≡ (names_in self.now n && names_in larger.now n)) }
     {
-        if is_same(&self.names, &larger.names) {
+        if stands_in(&self.names, &larger.names) {
             return self.copy();
         }
         if has_all(&larger.names, &self.names) {
@@ -350,6 +357,21 @@ fn is_same(a: &Trie, b: &Trie) -> bool
             is_same_name(x.name.as_slice(), x.hash, &y.name, y.hash)
                 && is_same(&x.zero, &y.zero)
                 && is_same(&x.one, &y.one)
+        }
+        _ => false,
+    }
+}
+
+// Whether the second trie has all names of the first at the same places, as it has where it was made of the first, name by name.
+fn stands_in(names: &Trie, trie: &Trie) -> bool
+    ensures { result ≡ tries.stands_in (trie_of names.now) (trie_of trie.now) }
+{
+    match (names, trie) {
+        (Trie::Empty, _) => true,
+        (Trie::Fork(x), Trie::Fork(y)) => {
+            is_same_name(x.name.as_slice(), x.hash, &y.name, y.hash)
+                && stands_in(&x.zero, &y.zero)
+                && stands_in(&x.one, &y.one)
         }
         _ => false,
     }

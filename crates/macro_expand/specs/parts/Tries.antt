@@ -96,3 +96,9 @@ is_same Tip Tip = true
 is_same Tip (Branch m k y p) = false
 is_same (Branch n h z o) Tip = false
 is_same (Branch n h z o) (Branch m k y p) = (is_same_name n h m k && is_same z y) && is_same o p
+
+-- whether the second trie has all names of the first, at the same places
+abbrev pub stands_in : Tree → Tree → Bool
+stands_in Tip other = true
+stands_in (Branch n h z o) Tip = false
+stands_in (Branch n h z o) (Branch m k y p) = (is_same_name n h m k && stands_in z y) && stands_in o p
