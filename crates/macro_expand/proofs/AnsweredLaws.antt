@@ -1,7 +1,8 @@
 -- How an expansion goes on, token by token, whoever answers.
-use Rattle.std.proofs.Common.{◌≡◌, ℕ, suc, add-one, ◌+◌, ◌-◌, ◌<◌, ◌≤◌, Bool, true, false, List, [], ◌∷◌, ◌++◌, length, refl, ap, sym, ◌∙◌, append_assoc, Result, Ok, Err, Option, Some, None, arith, nat_lt}
+use Rattle.std.proofs.Common.{◌≡◌, ℕ, suc, add-one, ◌+◌, ◌-◌, ◌<◌, ◌≤◌, Bool, true, false, not, ◌||◌, List, [], ◌∷◌, ◌++◌, length, refl, ap, sym, ◌∙◌, append_assoc, Result, Ok, Err, Option, Some, None, arith, nat_lt}
 use mathlib.Core.Path.{fun_ext}
-use Rattle.std.proofs.lemmas.Bool.{le-ltb, lt-ltb}
+use Rattle.std.proofs.lemmas.Bool.{le-ltb, lt-ltb, cond-true, true≢false}
+use Rattle.std.specs.List.{list_any}
 use Rattle.macro_expand.specs.declared.outcome.Mode.{Mode}
 use Rattle.pp_tokens.specs.declared.Kind.{Kind}
 use Rattle.pp_tokens.specs.declared.Kind.TheVariants.{Str, Number}
@@ -13,6 +14,7 @@ use Rattle.macro_expand.specs.Asking.{Failure, Count, Unclosed, Deep, Work, Aski
 use Rattle.macro_expand.specs.Replacement.{Marked, BodyPart, Call, call_in, after_open, arguments_of, body_parts, stands_alone}
 use Rattle.macro_expand.specs.Expansion.{DEEPEST, ExpandedEach, argument_expanded, arguments_expanded, counted, called, function_replaced, call_replacement, variable_of, Expanded, expansion, expansion_step, head_role, role_expanded, name_replaced, macro_replaced, charged, go_on, put_out, object_replacement, operand_of_defined, replaced_token, built_in, Table, Place, by_table}
 use Rattle.macro_expand.specs.Answered.{Answerer, Stop, ByFailure, ByPresumed, Answered, with_text, answered, after_result, answered_and_then, before, expanded_for, charged_for, argument_for, arguments_for, table_answerer}
+use Rattle.macro_expand.specs.parts.Naming.{is_named}
 use Rattle.macro_expand.proofs.StepLaws.{expansion-unfolds}
 
 -- the first part, and then what follows its result
@@ -54,6 +56,10 @@ before-before a b r = go r.result
     go (Ok e) = ap (λ w. record { result = Ok (record e { tokens = w }); state = r.state }) (sym (append_assoc a b e.tokens))
     go (Err e) = refl
 
+unnamed_role : (mode : Mode) (t : Marked) (rest : List Marked) → is_named t ≡ false → head_role mode t rest ≡ Ordinary
+unfolding head_role
+unnamed_role mode t rest is = cond-true _ _ _ (ap not is)
+
 module _ {S : Type 0} (w : Answerer S) (s : S) (mode : Mode) (depth units : ℕ) where
   answered-put_out : (ts : List Marked) (t : Asking Expanded) → answered w s (put_out ts t) ≡ before ts (answered w s t)
   unfolding put_out before answered
@@ -75,6 +81,19 @@ module _ {S : Type 0} (w : Answerer S) (s : S) (mode : Mode) (depth units : ℕ)
       expanded_for-step t rest
       ∙ ap (λ r. answered w s (role_expanded (expansion mode) depth units t rest r)) e
       ∙ answered-put_out (t ∷ []) (expansion mode depth units rest)
+
+  -- tokens without an identifier stand for themselves
+  pub expanded_for-unnamed : (ts : List Marked) → list_any is_named ts ≡ false →
+      expanded_for w s mode depth units ts ≡ record { result = Ok (record { tokens = ts; units = units }); state = s }
+  unfolding before answered_and_then after_result
+  expanded_for-unnamed [] none = expanded_for-nil
+  expanded_for-unnamed (t ∷ ts) none = go (is_named t) refl none (expanded_for-unnamed ts)
+    where
+      go : (b : Bool) → is_named t ≡ b → (b || list_any is_named ts) ≡ false →
+          (list_any is_named ts ≡ false → expanded_for w s mode depth units ts ≡ record { result = Ok (record { tokens = ts; units = units }); state = s }) →
+          expanded_for w s mode depth units (t ∷ ts) ≡ record { result = Ok (record { tokens = t ∷ ts; units = units }); state = s }
+      go true is rest others = absurd (true≢false rest)
+      go false is rest others = expanded_for-ordinary t ts (unnamed_role mode t ts is) ∙ ap (before (t ∷ [])) (others rest)
 
   pub expanded_for-defined : (t : Marked) (rest : List Marked) → head_role mode t rest ≡ Defined →
       expanded_for w s mode depth units (t ∷ rest)

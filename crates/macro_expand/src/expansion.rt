@@ -10,7 +10,8 @@ ghost use Rattle.macro_expand.specs.declared.marked.Role.TheVariants.{Name};
 ghost use Rattle.macro_expand.specs.Replacement.{unmarked};
 ghost use Rattle.macro_expand.specs.Expansion.{head_role};
 ghost use Rattle.macro_expand.specs.Answered.{argument_for, arguments_for, expanded_for};
-ghost use Rattle.macro_expand.specs.parts.Naming.{StandAlone, called_for};
+ghost use Rattle.std.specs.List.{list_any};
+ghost use Rattle.macro_expand.specs.parts.Naming.{StandAlone, called_for, is_named};
 ghost use Rattle.macro_expand.specs.Seen.{marked_of, kept_token, parts_seen, lists_of, StepKeepsResult, Stops, public_of, HasTokens};
 
 use crate::answers::Answers;
@@ -79,6 +80,18 @@ pub(crate) fn charge(work: &mut Work, tokens: usize) -> Result<(), RunError>
     Ok(())
 }
 
+// Whether an identifier stands among the tokens.
+fn have_identifier(tokens: &[Marked]) -> bool
+    ensures { result ≡ list_any is_named (map marked_of tokens.now) }
+{
+    for t in tokens {
+        if t.token.is_identifier() {
+            return true;
+        }
+    }
+    false
+}
+
 // The tokens of a call's argument: expanded by itself where its parameter stands `alone` (6.10.3.1), else none.
 #[cycle(expanding)]
 fn expand_argument<'s, S, A: Answers<S>>(
@@ -106,6 +119,10 @@ fn expand_argument<'s, S, A: Answers<S>>(
         return Err(RunError::Deep {
             line: t.token.line(),
         });
+    }
+    // what has no name in it stands for itself
+    if !have_identifier(&argument) {
+        return Ok(argument);
     }
     let given = VecDeque::from_vec(argument);
     expand_list(alloc, source, answers, mode, depth + 1, given, work)

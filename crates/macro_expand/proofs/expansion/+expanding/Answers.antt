@@ -1,12 +1,14 @@
-use Rattle.std.proofs.Common.{map, length, ◌∷◌, ap, sym, ◌∙◌, arith}
+use Rattle.std.proofs.Common.{List, map, length, ◌∷◌, ap, sym, ◌∙◌, arith}
 use Rattle.std.proofs.lemmas.List.{nil_from_length}
 use Rattle.std.proofs.lemmas.Result.{err_from_is_err_and}
 use Rattle.macro_expand.specs.Answered.{expanded_for, arguments_for}
-use Rattle.macro_expand.specs.parts.Naming.{named_for, called_for}
+use Rattle.std.specs.List.{list_any}
+use Rattle.macro_expand.specs.declared.marked.Marked.{Marked as Kept}
+use Rattle.macro_expand.specs.parts.Naming.{named_for, called_for, is_named}
 use Rattle.macro_expand.specs.Seen.{marked_of, lists_of, parts_seen}
 use Rattle.macro_expand.proofs.AnsweredLaws.{before-nothing, before_all-nothing}
 use Rattle.macro_expand.proofs.LoopLaws.{Stops-is, on_ok-map, on_ok-both, if_err-map, put_in-paid, put_in-stops, goes_on-left, goes_on-behind, goes_on-ordinary, keeps_step, stops_step, keeps_end}
-use Rattle.macro_expand.proofs.NameLaws.{argument_skipped, argument_deep, argument_made, argument_fails, argument_stops, call_replaced, paste_stops, turn_expanded, turn_stops, arguments_end, stands_next, one_moved}
+use Rattle.macro_expand.proofs.NameLaws.{argument_skipped, argument_deep, argument_unnamed, argument_made, argument_fails, argument_stops, call_replaced, paste_stops, turn_expanded, turn_stops, arguments_end, stands_next, one_moved}
 use Rattle.macro_expand.proofs.expansion.+expanding.Goals as goal
 
 pub expand_argument-returns-then-not-alone-clause-ok : goal.expand_argument-returns-then-not-alone-clause-ok
@@ -18,6 +20,11 @@ pub expand_argument-returns-then-depth-ge-DEEPEST-clause-err : goal.expand_argum
 expand_argument-returns-then-depth-ge-DEEPEST-clause-err g t c =
     rw c.line.ensures (argument_deep (g.A.Answers.answerer c.args.source.now) c.args.answers.now c.args.mode c.args.depth c.args.work.now.left c.args.t.now.token c.args.alone c.args.argument.items
     c.if-not-alone.false c.if-depth-ge-DEEPEST.true)
+
+pub expand_argument-returns-then-not-have_identifier-clause-ok : goal.expand_argument-returns-then-not-have_identifier-clause-ok
+expand_argument-returns-then-not-have_identifier-clause-ok g t c =
+    argument_unnamed (g.A.Answers.answerer c.args.source.now) c.args.answers.now c.args.mode c.args.depth c.args.work.now.left c.args.t.now.token c.args.alone c.args.argument.items
+    c.if-not-alone.false c.if-depth-ge-DEEPEST.false (ap (λ (l : List Kept). list_any is_named (map marked_of l)) (sym c.deref.ensures.value) ∙ sym c.have_identifier.ensures ∙ c.if-not-have_identifier.true)
 
 pub expand_argument-returns-clause-ok : goal.expand_argument-returns-clause-ok
 expand_argument-returns-clause-ok g t c =
