@@ -3,6 +3,7 @@ use Rattle.std.proofs.Common.{◌≡◌, ℕ, suc, add-one, ◌+◌, ◌-◌, �
 use mathlib.Core.Path.{fun_ext}
 use Rattle.std.proofs.lemmas.Bool.{le-ltb, lt-ltb, cond-true, true≢false}
 use Rattle.std.specs.List.{list_any}
+use Rattle.base_types.specs.Limits.{argument_depth_limit}
 use Rattle.macro_expand.specs.declared.outcome.Mode.{Mode}
 use Rattle.pp_tokens.specs.declared.Kind.{Kind}
 use Rattle.pp_tokens.specs.declared.Kind.TheVariants.{Str, Number}
@@ -12,7 +13,7 @@ use Rattle.macro_defs.specs.declared.definition.Shape.TheVariants.{Object, Funct
 use Rattle.macro_defs.specs.MacroDefinition.{MacroDefinition}
 use Rattle.macro_expand.specs.Asking.{Failure, Count, Unclosed, Deep, Work, Asking, give, fail, ask_definition, ask_file, ask_line, then_with}
 use Rattle.macro_expand.specs.Replacement.{Marked, BodyPart, Call, call_in, after_open, arguments_of, body_parts, stands_alone}
-use Rattle.macro_expand.specs.Expansion.{DEEPEST, ExpandedEach, argument_expanded, arguments_expanded, counted, called, function_replaced, call_replacement, variable_of, Expanded, expansion, expansion_step, head_role, role_expanded, name_replaced, macro_replaced, charged, go_on, put_out, object_replacement, operand_of_defined, replaced_token, built_in, Table, Place, by_table}
+use Rattle.macro_expand.specs.Expansion.{ExpandedEach, argument_expanded, arguments_expanded, counted, called, function_replaced, call_replacement, variable_of, Expanded, expansion, expansion_step, head_role, role_expanded, name_replaced, macro_replaced, charged, go_on, put_out, object_replacement, operand_of_defined, replaced_token, built_in, Table, Place, by_table}
 use Rattle.macro_expand.specs.Answered.{Answerer, Stop, ByFailure, ByPresumed, Answered, with_text, answered, after_result, answered_and_then, before, expanded_for, charged_for, argument_for, arguments_for, table_answerer}
 use Rattle.macro_expand.specs.parts.Naming.{is_named}
 use Rattle.macro_expand.proofs.StepLaws.{expansion-unfolds}
@@ -296,8 +297,8 @@ module _ {S : Type 0} (w : Answerer S) (s : S) (mode : Mode) (depth : ℕ) (t : 
       (λ e v. before_all (e.tokens ∷ []) (arguments_for w v mode depth t parts (suc i) e.units rest))
   unfolding arguments_for arguments_expanded answered argument_for before_all
   arguments_for-cons i units a rest =
-      answered-then_with w s (argument_expanded (expansion mode) depth (stands_alone i None parts) (nat_lt depth DEEPEST) t units a) _
-      ∙ ap (answered_and_then (answered w s (argument_expanded (expansion mode) depth (stands_alone i None parts) (nat_lt depth DEEPEST) t units a)))
+      answered-then_with w s (argument_expanded (expansion mode) depth (stands_alone i None parts) (nat_lt depth argument_depth_limit) t units a) _
+      ∙ ap (answered_and_then (answered w s (argument_expanded (expansion mode) depth (stands_alone i None parts) (nat_lt depth argument_depth_limit) t units a)))
       (fun_ext (λ e. fun_ext (λ v. answered-then_with w v (arguments_expanded (expansion mode) depth t parts (suc i) e.units rest) _)))
 
   pub arguments_for-next : (i units : ℕ) (a : List Marked) (rest : List (List Marked)) (alone : Bool) → stands_alone i None parts ≡ alone →
@@ -313,14 +314,14 @@ module _ {S : Type 0} (w : Answerer S) (s : S) (mode : Mode) (depth : ℕ) (t : 
   unfolding argument_for argument_expanded answered
   argument_for-skipped = refl
 
-  pub argument_for-deep : DEEPEST ≤ depth → argument_for w s mode depth t true units a ≡ record { result = Err (ByFailure (Deep t.line)); state = s }
+  pub argument_for-deep : argument_depth_limit ≤ depth → argument_for w s mode depth t true units a ≡ record { result = Err (ByFailure (Deep t.line)); state = s }
   unfolding argument_for argument_expanded answered
-  argument_for-deep deep = ap (λ b. answered w s (argument_expanded (expansion mode) depth true b t units a)) (le-ltb depth DEEPEST deep)
+  argument_for-deep deep = ap (λ b. answered w s (argument_expanded (expansion mode) depth true b t units a)) (le-ltb depth argument_depth_limit deep)
 
-  pub argument_for-alone : depth < DEEPEST → argument_for w s mode depth t true units a ≡ expanded_for w s mode (depth + 1) units a
+  pub argument_for-alone : depth < argument_depth_limit → argument_for w s mode depth t true units a ≡ expanded_for w s mode (depth + 1) units a
   unfolding argument_for argument_expanded expanded_for
   argument_for-alone shallow =
-      ap (λ b. answered w s (argument_expanded (expansion mode) depth true b t units a)) (lt-ltb depth DEEPEST shallow)
+      ap (λ b. answered w s (argument_expanded (expansion mode) depth true b t units a)) (lt-ltb depth argument_depth_limit shallow)
       ∙ ap (λ n. answered w s (expansion mode n units a)) (sym (add-one depth))
 
 -- A table is an answerer that keeps its state.

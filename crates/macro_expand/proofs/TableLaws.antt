@@ -4,6 +4,7 @@ use Rattle.std.specs.Fmt.{signed_decimal}
 use Rattle.pp_tokens.specs.declared.Kind.TheVariants.{Str, Number}
 use mathlib.Core.Path.{fun_ext}
 use Rattle.std.proofs.lemmas.Bool.{le-ltb, lt-ltb}
+use Rattle.base_types.specs.Limits.{argument_depth_limit}
 use Rattle.pp_tokens.specs.declared.Kind.{Kind}
 use Rattle.pp_tokens.specs.declared.Token.{Token}
 use Rattle.macro_expand.specs.declared.outcome.Mode.{Mode}
@@ -13,7 +14,7 @@ use Rattle.macro_defs.specs.declared.definition.Shape.TheVariants.{Object, Funct
 use Rattle.macro_defs.specs.MacroDefinition.{MacroDefinition}
 use Rattle.macro_expand.specs.Asking.{Failure, Count, Unclosed, Deep, Work, Asking, give, fail, ask_definition, ask_file, ask_line, then_with}
 use Rattle.macro_expand.specs.Replacement.{Marked, BodyPart, Call, call_in, after_open, arguments_of, body_parts, stands_alone}
-use Rattle.macro_expand.specs.Expansion.{DEEPEST, argument_expanded, arguments_expanded, built_in, counted, called, function_replaced, call_replacement, variable_of, Expanded, Table, Place, by_table, expansion, expansion_step, operand_of_defined, replaced_token, head_role, role_expanded, name_replaced, macro_replaced, charged, go_on, put_out, object_replacement, expanded_by}
+use Rattle.macro_expand.specs.Expansion.{argument_expanded, arguments_expanded, built_in, counted, called, function_replaced, call_replacement, variable_of, Expanded, Table, Place, by_table, expansion, expansion_step, operand_of_defined, replaced_token, head_role, role_expanded, name_replaced, macro_replaced, charged, go_on, put_out, object_replacement, expanded_by}
 use Rattle.macro_expand.specs.Laws.{after_ok, put_before, list_before, charged_by, arguments_by, TablesCompose, TableExpands, FunctionExpands, ArgumentsExpand, UnitsWithin}
 use Rattle.macro_expand.proofs.AskingLaws.{Leaves}
 use Rattle.macro_expand.proofs.StepLaws.{AtMost, expansion-unfolds, expansion_within-frugal}
@@ -216,15 +217,15 @@ module _ (table : Table) (here : Place) (mode : Mode) (depth : ℕ) (t : Token) 
   argument_by alone shallow units a = by_table table here (argument_expanded (expansion mode) depth alone shallow t units a)
 
   first_argument : (i units : ℕ) (a : List Marked) (rest : List (List Marked)) (alone shallow : Bool) →
-      stands_alone i None parts ≡ alone → nat_lt depth DEEPEST ≡ shallow →
+      stands_alone i None parts ≡ alone → nat_lt depth argument_depth_limit ≡ shallow →
       arguments_by table here mode depth t parts i units (a ∷ rest)
       ≡ after_ok (argument_by alone shallow units a) (λ e. list_before e.tokens (arguments_by table here mode depth t parts (suc i) e.units rest))
   unfolding arguments_by arguments_expanded by_table argument_by
   first_argument i units a rest alone shallow is_alone is_shallow =
-      composes table here (argument_expanded (expansion mode) depth (stands_alone i None parts) (nat_lt depth DEEPEST) t units a) _
-      ∙ ap (after_ok (argument_by (stands_alone i None parts) (nat_lt depth DEEPEST) units a))
+      composes table here (argument_expanded (expansion mode) depth (stands_alone i None parts) (nat_lt depth argument_depth_limit) t units a) _
+      ∙ ap (after_ok (argument_by (stands_alone i None parts) (nat_lt depth argument_depth_limit) units a))
       (fun_ext (λ e. composes table here (arguments_expanded (expansion mode) depth t parts (suc i) e.units rest) _))
-      ∙ ap (λ b. after_ok (argument_by b (nat_lt depth DEEPEST) units a)
+      ∙ ap (λ b. after_ok (argument_by b (nat_lt depth argument_depth_limit) units a)
       (λ e. list_before e.tokens (arguments_by table here mode depth t parts (suc i) e.units rest))) is_alone
       ∙ ap (λ b. after_ok (argument_by alone b units a)
       (λ e. list_before e.tokens (arguments_by table here mode depth t parts (suc i) e.units rest))) is_shallow
@@ -235,17 +236,17 @@ module _ (table : Table) (here : Place) (mode : Mode) (depth : ℕ) (t : Token) 
   unfolding argument_by argument_expanded by_table
   skipped i units a rest e = first_argument i units a rest false _ e refl
 
-  deep : (i units : ℕ) (a : List Marked) (rest : List (List Marked)) → stands_alone i None parts ≡ true → DEEPEST ≤ depth →
+  deep : (i units : ℕ) (a : List Marked) (rest : List (List Marked)) → stands_alone i None parts ≡ true → argument_depth_limit ≤ depth →
       arguments_by table here mode depth t parts i units (a ∷ rest) ≡ Err (Deep t.line)
   unfolding argument_by argument_expanded by_table
-  deep i units a rest e far = first_argument i units a rest true false e (le-ltb depth DEEPEST far)
+  deep i units a rest e far = first_argument i units a rest true false e (le-ltb depth argument_depth_limit far)
 
-  alone : (i units : ℕ) (a : List Marked) (rest : List (List Marked)) → stands_alone i None parts ≡ true → depth < DEEPEST →
+  alone : (i units : ℕ) (a : List Marked) (rest : List (List Marked)) → stands_alone i None parts ≡ true → depth < argument_depth_limit →
       arguments_by table here mode depth t parts i units (a ∷ rest)
       ≡ after_ok (expanded_by table here mode (suc depth) units a)
       (λ e. list_before e.tokens (arguments_by table here mode depth t parts (suc i) e.units rest))
   unfolding argument_by argument_expanded expanded_by
-  alone i units a rest e near = first_argument i units a rest true true e (lt-ltb depth DEEPEST near)
+  alone i units a rest e near = first_argument i units a rest true true e (lt-ltb depth argument_depth_limit near)
 
   pub arguments_expand_by_table : ArgumentsExpand table here mode depth t parts
   arguments_expand_by_table = record { nil = no_arguments; skipped = skipped; deep = deep; alone = alone }

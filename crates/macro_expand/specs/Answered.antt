@@ -1,12 +1,13 @@
 -- Expansion where an answerer with a state answers (6.10.3).
 use Rattle.std.specs.Prelude.{ℕ, Bool, nat_lt, List, ◌++◌, Option, Some, None, Result, Ok, Err, pos, ◌+ℤ◌}
 use Rattle.std.specs.Fmt.{signed_decimal}
+use Rattle.base_types.specs.Limits.{argument_depth_limit}
 use Rattle.macro_expand.specs.declared.outcome.Mode.{Mode}
 use Rattle.pp_tokens.specs.declared.Token.{Token}
 use Rattle.macro_defs.specs.MacroDefinition.{MacroDefinition}
 use Rattle.macro_expand.specs.Asking.{Failure, Asking, give, fail, ask_definition, ask_file, ask_line}
 use Rattle.macro_expand.specs.Replacement.{Marked, BodyPart}
-use Rattle.macro_expand.specs.Expansion.{Expanded, ExpandedEach, DEEPEST, expansion, charged, argument_expanded, arguments_expanded, Table, Place}
+use Rattle.macro_expand.specs.Expansion.{Expanded, ExpandedEach, expansion, charged, argument_expanded, arguments_expanded, Table, Place}
 
 -- an answer, and the state after the question
 pub record Reply (A S : Type 0) : Type 0 where
@@ -64,7 +65,7 @@ charged_for w s mode depth units r rest = answered w s (charged (expansion mode)
 
 -- one argument of a call, expanded by itself where its parameter stands alone
 unfoldable pub argument_for : {S : Type 0} → Answerer S → S → Mode → ℕ → Token → Bool → ℕ → List Marked → Answered Expanded S
-argument_for w s mode depth t alone units a = answered w s (argument_expanded (expansion mode) depth alone (nat_lt depth DEEPEST) t units a)
+argument_for w s mode depth t alone units a = answered w s (argument_expanded (expansion mode) depth alone (nat_lt depth argument_depth_limit) t units a)
 
 -- the arguments of a call, expanded by themselves
 unfoldable pub arguments_for : {S : Type 0} → Answerer S → S → Mode → ℕ → Token → List BodyPart → ℕ → ℕ → List (List Marked) → Answered ExpandedEach S

@@ -1,6 +1,7 @@
 -- Expansion under sets of definitions: every run that some choice of definitions gives.
 use Rattle.std.specs.Prelude.{◌≡◌, ℕ, ◌<◌, length, codes, List, [], ◌∷◌, map, flat_map, Option, Some, None, Contains, pos, ◌+ℤ◌}
 use Rattle.std.specs.Fmt.{signed_decimal}
+use Rattle.base_types.specs.Limits.{choice_work_limit}
 use Rattle.macro_defs.specs.MacroDefinition.{MacroDefinition}
 use Rattle.pp_tokens.specs.declared.Token.{Token}
 use Rattle.macro_expand.specs.declared.outcome.Mode.TheVariants.{Text}
@@ -110,12 +111,8 @@ run_by sets file choices (ask_line line next) = Some (record { ending = Presumed
 abbrev pub IsWithin : Table → Sets → Type 0
 IsWithin table sets = (name : List ℕ) (d : MacroDefinition) → table name ≡ Some d → Contains (sets name) d
 
--- The runs of computed tokens (6.10.2 p4), whose work is bounded.
-abbrev pub RUN_WORK : ℕ
-RUN_WORK = 100000
-
 abbrev pub computed_runs : Sets → Option (List ℕ) → List Token → List (Run Expanded)
-computed_runs sets file ts = complete_runs sets file (expansion Text 0 RUN_WORK (map unmarked ts))
+computed_runs sets file ts = complete_runs sets file (expansion Text 0 choice_work_limit (map unmarked ts))
 
 -- what a run's end says of a header name, by a reading of expanded tokens (6.10.2)
 abbrev pub header_of_ending : {H : Type 0} → (List Token → Option H) → Ending Expanded → Option H
@@ -154,4 +151,4 @@ met_names sets file (ask_line line next) = codes "__LINE__" ∷ []
 
 -- The identifiers that the answer on computed tokens rests on.
 abbrev pub Supports : Sets → Option (List ℕ) → List Token → List ℕ → Type 0
-Supports sets file ts name = Contains (met_names sets file (expansion Text 0 RUN_WORK (map unmarked ts))) name
+Supports sets file ts name = Contains (met_names sets file (expansion Text 0 choice_work_limit (map unmarked ts))) name

@@ -1,6 +1,8 @@
 -- Macro expansion of a whole list of tokens (6.10.3): Prosser's recursion, as a tree of questions.
 use Rattle.std.specs.Prelude.{ℕ, zero, suc, ◌+◌, ◌-◌, Bool, true, false, not, ◌&&◌, List, [], ◌∷◌, ◌++◌, length, nat_lt, if◌then◌else◌, Option, Some, None, Result, Ok, Err, codes, ℤ, pos, ◌+ℤ◌}
 use Rattle.std.specs.Fmt.{signed_decimal}
+use Rattle.base_types.specs.Limits.{argument_depth_limit}
+use Rattle.base_types.specs.Ascii as ascii
 use Rattle.pp_tokens.specs.declared.Kind.{Kind}
 use Rattle.pp_tokens.specs.declared.Kind.TheVariants.{Str, Number}
 use Rattle.pp_tokens.specs.declared.Token.{Token}
@@ -29,9 +31,6 @@ pub record ExpandedEach : Type 0 where
 abbrev pub Expander : Type 0
 Expander = ℕ → ℕ → List Marked → Asking Expanded
 
-abbrev pub DEEPEST : ℕ
-DEEPEST = 400
-
 -- the tokens, put out before what the rest becomes
 unfoldable pub put_out : List Marked → Asking Expanded → Asking Expanded
 put_out ts rest = then_with rest (λ e. give (record e { tokens = ts ++ e.tokens }))
@@ -59,7 +58,7 @@ replaced_token t kind text = record t { token = record t.token { kind = kind; te
 
 -- a text between quotes
 abbrev pub in_quotes : List ℕ → List ℕ
-in_quotes text = 34 ∷ text ++ 34 ∷ []
+in_quotes text = ascii.quote ∷ text ++ ascii.quote ∷ []
 
 -- What becomes of a token, over a way to expand what comes of it.
 module _ (self : Expander) (depth : ℕ) where
@@ -83,7 +82,7 @@ module _ (self : Expander) (depth : ℕ) where
   unfoldable pub arguments_expanded : Token → List BodyPart → ℕ → ℕ → List (List Marked) → Asking ExpandedEach
   arguments_expanded t parts i units [] = give (record { lists = []; units = units })
   arguments_expanded t parts i units (a ∷ rest) =
-      then_with (argument_expanded (stands_alone i None parts) (nat_lt depth DEEPEST) t units a) (λ e.
+      then_with (argument_expanded (stands_alone i None parts) (nat_lt depth argument_depth_limit) t units a) (λ e.
       then_with (arguments_expanded t parts (suc i) e.units rest) (λ more.
       give (record { lists = e.tokens ∷ more.lists; units = more.units })))
 

@@ -1,6 +1,8 @@
 -- The laws of macro expansion (6.10.3), and of its runs under sets of definitions.
 use Rattle.std.specs.Prelude.{◌≡◌, ℕ, suc, ◌+◌, ◌<◌, ◌≤◌, ◌⊎◌, Bool, true, false, List, [], ◌∷◌, ◌++◌, length, Option, Some, None, Result, Ok, Err, Contains, pos, ◌+ℤ◌}
 use Rattle.std.specs.Fmt.{signed_decimal}
+use Rattle.base_types.specs.Limits.{argument_depth_limit}
+use Rattle.base_types.specs.Ascii as ascii
 use Rattle.pp_tokens.specs.declared.Token.{Token}
 use Rattle.pp_tokens.specs.declared.Kind.TheVariants.{Str, Number}
 use Rattle.macro_defs.specs.declared.definition.Shape.TheVariants.{Object, Function}
@@ -9,7 +11,7 @@ use Rattle.macro_expand.specs.declared.outcome.Mode.{Mode}
 use Rattle.macro_expand.specs.declared.marked.Role.TheVariants.{Defined, FileName, LineNumber, Name, Ordinary}
 use Rattle.macro_expand.specs.Asking.{Failure, Count, Unclosed, Deep, Work, Asking, give, fail, ask_definition, ask_file, ask_line, then_with}
 use Rattle.macro_expand.specs.Replacement.{Marked, BodyPart, Call, call_in, after_open, arguments_of, body_parts, stands_alone}
-use Rattle.macro_expand.specs.Expansion.{DEEPEST, Expanded, ExpandedEach, expansion, expansion_step, head_role, operand_of_defined, replaced_token, object_replacement, call_replacement, variable_of, charged, arguments_expanded, Table, Place, by_table, expanded_by}
+use Rattle.macro_expand.specs.Expansion.{Expanded, ExpandedEach, expansion, expansion_step, head_role, operand_of_defined, replaced_token, object_replacement, call_replacement, variable_of, charged, arguments_expanded, Table, Place, by_table, expanded_by}
 use Rattle.macro_expand.specs.Choice.{Sets, IsWithin, Ending, Gave, Failed, Presumed, complete_runs, taken_run, choices_taken, run_by}
 
 -- Steps.
@@ -80,9 +82,9 @@ pub record ArgumentsExpand (table : Table) (here : Place) (mode : Mode) (depth :
   pub skipped : (i units : ℕ) (a : List Marked) (rest : List (List Marked)) → stands_alone i None parts ≡ false →
       arguments_by table here mode depth t parts i units (a ∷ rest)
       ≡ list_before [] (arguments_by table here mode depth t parts (suc i) units rest)
-  pub deep : (i units : ℕ) (a : List Marked) (rest : List (List Marked)) → stands_alone i None parts ≡ true → DEEPEST ≤ depth →
+  pub deep : (i units : ℕ) (a : List Marked) (rest : List (List Marked)) → stands_alone i None parts ≡ true → argument_depth_limit ≤ depth →
       arguments_by table here mode depth t parts i units (a ∷ rest) ≡ Err (Deep t.line)
-  pub alone : (i units : ℕ) (a : List Marked) (rest : List (List Marked)) → stands_alone i None parts ≡ true → depth < DEEPEST →
+  pub alone : (i units : ℕ) (a : List Marked) (rest : List (List Marked)) → stands_alone i None parts ≡ true → depth < argument_depth_limit →
       arguments_by table here mode depth t parts i units (a ∷ rest)
       ≡ after_ok (expanded_by table here mode (suc depth) units a)
       (λ e. list_before e.tokens (arguments_by table here mode depth t parts (suc i) e.units rest))
@@ -100,7 +102,7 @@ pub record TableExpands (table : Table) (here : Place) (mode : Mode) (depth unit
   -- `__FILE__` and `__LINE__` become one token, for two units (6.10.8.1)
   pub file_name : (t : Marked) (rest : List Marked) (left : ℕ) → head_role mode t rest ≡ FileName → left + 2 ≡ units →
       expanded_by table here mode depth units (t ∷ rest)
-      ≡ put_before (replaced_token t Str (34 ∷ here.name ++ 34 ∷ []) ∷ []) (expanded_by table here mode depth left rest)
+      ≡ put_before (replaced_token t Str (ascii.quote ∷ here.name ++ ascii.quote ∷ []) ∷ []) (expanded_by table here mode depth left rest)
   pub line_number : (t : Marked) (rest : List Marked) (left : ℕ) → head_role mode t rest ≡ LineNumber → left + 2 ≡ units →
       expanded_by table here mode depth units (t ∷ rest)
       ≡ put_before (replaced_token t Number (signed_decimal (pos t.token.line +ℤ here.shift)) ∷ []) (expanded_by table here mode depth left rest)

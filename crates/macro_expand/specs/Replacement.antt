@@ -1,5 +1,6 @@
 -- Replacement of one macro call (6.10.3.1 to 6.10.3.3).
 use Rattle.std.specs.Prelude.{ℕ, zero, suc, ◌-◌, Bool, true, false, not, ◌&&◌, ◌||◌, List, [], ◌∷◌, ◌++◌, map, length, ◌==◌, if◌then◌else◌, Option, Some, None, Result, Ok, Err, bytes_eq, slice_index_or}
+use Rattle.base_types.specs.Ascii as ascii
 use Rattle.pp_tokens.specs.declared.Kind.TheVariants.{Str}
 use Rattle.pp_tokens.specs.declared.Token.{Token}
 use Rattle.pp_tokens.specs.Marks.{is_literal, is_open, is_comma, Opening, Closing, Comma, Hash, Pasting, mark_of}
@@ -156,7 +157,7 @@ pub data Piece : Type 0 where
 -- `\` before each `\` and `"`
 unfoldable pub escaped : List ℕ → List ℕ
 escaped [] = []
-escaped (b ∷ bs) = (if (b == 92) || (b == 34) then 92 ∷ b ∷ [] else b ∷ []) ++ escaped bs
+escaped (b ∷ bs) = (if (b == ascii.backslash) || (b == ascii.quote) then ascii.backslash ∷ b ∷ [] else b ∷ []) ++ escaped bs
 
 abbrev pub spelling_of : Token → List ℕ
 spelling_of t = if is_literal t then escaped t.text else t.text
@@ -165,11 +166,11 @@ spelling_of t = if is_literal t then escaped t.text else t.text
 unfoldable pub spellings : Bool → List Marked → List ℕ
 spellings first [] = []
 spellings first (t ∷ ts) =
-    (if t.token.space && not first then 32 ∷ spelling_of t.token else spelling_of t.token) ++ spellings false ts
+    (if t.token.space && not first then ascii.space ∷ spelling_of t.token else spelling_of t.token) ++ spellings false ts
 
 -- the string literal that `#` makes; its line is set with the whole replacement's
 abbrev pub stringized : Bool → List Marked → Marked
-stringized space ts = unmarked (record { kind = Str; text = 34 ∷ spellings true ts ++ 34 ∷ []; line = 0; space = space })
+stringized space ts = unmarked (record { kind = Str; text = ascii.quote ∷ spellings true ts ++ ascii.quote ∷ []; line = 0; space = space })
 
 abbrev pub with_space : Bool → List Marked → List Marked
 with_space space [] = []

@@ -11,6 +11,7 @@ ghost use Rattle.macro_expand.specs.Replacement.{unmarked};
 ghost use Rattle.macro_expand.specs.Expansion.{head_role};
 ghost use Rattle.macro_expand.specs.Answered.{argument_for, arguments_for, expanded_for};
 ghost use Rattle.std.specs.List.{list_any};
+ghost use Rattle.base_types.specs.Limits.{argument_depth_limit};
 ghost use Rattle.macro_expand.specs.parts.Naming.{StandAlone, called_for, is_named};
 ghost use Rattle.macro_expand.specs.Seen.{marked_of, kept_token, parts_seen, lists_of, StepKeepsResult, Stops, public_of, HasTokens};
 
@@ -24,12 +25,10 @@ use crate::pending::Pending;
 use crate::replace::call_tokens;
 use crate::run::Run;
 use base_types::List;
+use base_types::limits::ARGUMENT_DEPTH_LIMIT;
 use pp_tokens::Token;
 use std::alloc::{AllocError, Global};
 use std::collections::VecDeque;
-
-// How deep arguments are expanded.
-const DEEPEST: u32 = 400;
 
 #[tactic(auto, unfolding(crate::specs::Expansion::head_role))]
 pub(crate) fn role(mode: Mode, t: &Marked, rest: &Pending) -> Role
@@ -105,7 +104,7 @@ fn expand_argument<'s, S, A: Answers<S>>(
     argument: Vec<Marked<'s>>,
     work: &mut Work,
 ) -> Result<Vec<Marked<'s>>, RunError>
-    requires { depth ≤ 400 }
+    requires { depth ≤ argument_depth_limit }
     ensures ok { IfOk result (λ out. argument_for (A.answerer source.now) answers.old mode depth t.now.token alone work.old.left (map marked_of argument.entry.items)
         ≡ record { result = Ok (record { tokens = map marked_of out.items; units = work.new.left }); state = answers.new }) }
     ensures spends { work.new.left ≤ work.old.left }
@@ -115,7 +114,7 @@ fn expand_argument<'s, S, A: Answers<S>>(
     if !alone {
         return Ok(Vec::new(alloc));
     }
-    if depth >= DEEPEST {
+    if depth >= ARGUMENT_DEPTH_LIMIT {
         return Err(RunError::Deep {
             line: t.token.line(),
         });
@@ -141,7 +140,7 @@ fn expand_arguments<'s, S, A: Answers<S>>(
     written: Vec<Vec<Marked<'s>>>,
     work: &mut Work,
 ) -> Result<Vec<Vec<Marked<'s>>>, RunError>
-    requires shallow { depth ≤ 400 }
+    requires shallow { depth ≤ argument_depth_limit }
     requires alone { StandAlone call.now.alone.items (length written.items) (parts_seen call.now.parts.items) }
     ensures ok { IfOk result (λ out. arguments_for (A.answerer source.now) answers.old mode depth t.now.token
         (parts_seen call.now.parts.items) 0 work.old.left (lists_of written.entry.items)
@@ -202,7 +201,7 @@ fn expand_call<'s, S, A: Answers<S>>(
     pending: &mut Pending<'s>,
     work: &mut Work,
 ) -> Result<(), RunError>
-    requires shallow { depth ≤ 400 }
+    requires shallow { depth ≤ argument_depth_limit }
     requires alone { StandAlone call.now.alone.items (length written.items) (parts_seen call.now.parts.items) }
     ensures ok { OnOk result (called_for (A.answerer source.now) answers.old mode depth work.old.left t.now call.now (lists_of written.entry.items) (map marked_of pending.old)
         ≡ expanded_for (A.answerer source.now) answers.new mode depth work.new.left (map marked_of pending.new)) }
@@ -237,7 +236,7 @@ fn expand_name<'s, S, A: Answers<S>>(
     pending: &mut Pending<'s>,
     work: &mut Work,
 ) -> Result<(), RunError>
-    requires shallow { depth ≤ 400 }
+    requires shallow { depth ≤ argument_depth_limit }
     requires role { head_role mode (marked_of t) (map marked_of pending.old) ≡ Name }
     ensures ok { OnOk result (StepKeepsResult (A.answerer source.now) mode depth answers.old work.old.left out.old.items t.entry pending.old
         answers.new work.new.left out.new.items pending.new) }
@@ -269,7 +268,7 @@ pub(crate) fn expand_head<'s, S, A: Answers<S>>(
     pending: &mut Pending<'s>,
     work: &mut Work,
 ) -> Result<(), RunError>
-    requires { depth ≤ 400 }
+    requires { depth ≤ argument_depth_limit }
     ensures ok { OnOk result (StepKeepsResult (A.answerer source.now) mode depth answers.old work.old.left out.old.items t.entry pending.old
         answers.new work.new.left out.new.items pending.new) }
     ensures spends { work.new.left ≤ work.old.left }
@@ -303,7 +302,7 @@ fn expand_list<'s, S, A: Answers<S>>(
     given: VecDeque<Marked<'s>>,
     work: &mut Work,
 ) -> Result<Vec<Marked<'s>>, RunError>
-    requires { depth ≤ 400 }
+    requires { depth ≤ argument_depth_limit }
     ensures ok { IfOk result (λ out. expanded_for (A.answerer source.now) answers.old mode depth work.old.left (map marked_of given.entry.items)
         ≡ record { result = Ok (record { tokens = map marked_of out.items; units = work.new.left }); state = answers.new }) }
     ensures spends { work.new.left ≤ work.old.left }

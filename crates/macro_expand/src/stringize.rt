@@ -1,5 +1,6 @@
 // The operator `#` (ISO C 6.10.3.2).
 ghost use Rattle.std.specs.Prelude.{◌≡◌, ◌++◌, ◌∷◌, [], ◌&&◌, ◌||◌, ◌==◌, not, map, true, IfOk, OnOk, if◌then◌else◌};
+ghost use Rattle.base_types.specs.Ascii as ascii;
 ghost use Rattle.pp_tokens.specs.Marks.{is_literal};
 ghost use Rattle.macro_expand.specs.Replacement.{escaped, spelling_of, spellings, stringized};
 ghost use Rattle.macro_expand.specs.Seen.{marked_of};
@@ -11,14 +12,14 @@ use std::alloc::{AllocError, Global};
 
 // Whether a byte has a `\` before it in a literal.
 fn needs_escape(b: u8) -> bool
-    ensures { result ≡ ((b == 92) || (b == 34)) }
+    ensures { result ≡ ((b == ascii.backslash) || (b == ascii.quote)) }
 {
     b == b'\\' || b == b'"'
 }
 
 // Adds one byte of a literal, with a `\` before a `\` or `"`.
 fn put_escaped_byte(text: &mut Vec<u8>, b: u8) -> Result<(), AllocError>
-    ensures { OnOk result (text.new.items ≡ text.old.items ++ (if (b == 92) || (b == 34) then 92 ∷ b ∷ [] else b ∷ [])) }
+    ensures { OnOk result (text.new.items ≡ text.old.items ++ (if (b == ascii.backslash) || (b == ascii.quote) then ascii.backslash ∷ b ∷ [] else b ∷ [])) }
 {
     if needs_escape(b) {
         text.push(b'\\')?;
@@ -78,7 +79,7 @@ fn put_tokens(text: &mut Vec<u8>, tokens: &[Marked]) -> Result<(), AllocError>
 
 // The spelling of the literal that `#` makes.
 fn literal_of(alloc: Global, tokens: &[Marked]) -> Result<Vec<u8>, AllocError>
-    ensures { IfOk result (λ text. text.items ≡ 34 ∷ spellings true (map marked_of tokens.now) ++ 34 ∷ []) }
+    ensures { IfOk result (λ text. text.items ≡ ascii.quote ∷ spellings true (map marked_of tokens.now) ++ ascii.quote ∷ []) }
 {
     let mut text = Vec::new(alloc);
     text.push(b'"')?;

@@ -1,6 +1,7 @@
 -- A run by a list of numbers is an expansion that this answerer answers.
 use Rattle.std.proofs.Common.{◌≡◌, ℕ, zero, suc, ◌<◌, ◌≤◌, ◌+◌, get_or, List, [], ◌∷◌, ◌++◌, map, length, refl, sym, ap, ◌∙◌, subst, append_assoc, append-nil, arith, Result, Ok, Err, Option, Some, None}
 use Rattle.std.specs.Prelude.{codes}
+use Rattle.base_types.specs.Limits.{choice_work_limit}
 use Rattle.macro_defs.specs.MacroDefinition.{MacroDefinition}
 use Rattle.pp_tokens.specs.declared.Token.{Token}
 use Rattle.directive_scan.specs.declared.directive.HeaderName.{HeaderName}
@@ -13,7 +14,7 @@ use Rattle.macro_expand.specs.Replacement.{unmarked}
 use Rattle.macro_expand.specs.Expansion.{Expanded}
 use Rattle.macro_expand.specs.Answered.{Stop, ByFailure, ByPresumed, Answered, with_text, answered, expanded_for}
 use Rattle.macro_expand.specs.Seen.{Stops, HasTokens}
-use Rattle.macro_expand.specs.Choice.{Sets, Choice, Ending, Gave, Failed, Presumed, RUN_WORK, header_of_ending}
+use Rattle.macro_expand.specs.Choice.{Sets, Choice, Ending, Gave, Failed, Presumed, header_of_ending}
 use Rattle.macro_expand.specs.Laws.{IsCutOff}
 use Rattle.symbolic_expand.specs.declared.outcome.SymError.{SymError}
 use Rattle.symbolic_expand.specs.Texts.{text_inserted, all_inserted}
@@ -91,7 +92,7 @@ module _ (sets : Sets) (s : Choosing) (fresh : s.taken ≡ []) (ts : List Token)
   Here = run_at sets s.file (computed ts) s.ahead
 
   abbrev Ran : Answered Expanded Choosing
-  Ran = expanded_for (choosing_answerer sets) s Text 0 RUN_WORK (map unmarked ts)
+  Ran = expanded_for (choosing_answerer sets) s Text 0 choice_work_limit (map unmarked ts)
 
   ran : IsRunAt Ran s.taken s.met Here
   unfolding expanded_for

@@ -1,11 +1,12 @@
 -- What runs of the same ends keep: headers, runs without work, runs with a presumed line or name that isn't known.
 use Rattle.std.proofs.Common.{◌≡◌, ℕ, List, map, ap, ◌∙◌, Option, arith}
 use Rattle.std.specs.List.{Contains}
+use Rattle.base_types.specs.Limits.{choice_work_limit}
 use Rattle.pp_tokens.specs.declared.Token.{Token}
 use Rattle.macro_expand.specs.declared.outcome.Mode.TheVariants.{Text}
 use Rattle.macro_expand.specs.Replacement.{unmarked}
 use Rattle.macro_expand.specs.Expansion.{Expanded, expansion}
-use Rattle.macro_expand.specs.Choice.{Sets, Run, RUN_WORK, computed_runs, header_of_ending, MayName, HasLongRun, HasPresumedRun}
+use Rattle.macro_expand.specs.Choice.{Sets, Run, computed_runs, header_of_ending, MayName, HasLongRun, HasPresumedRun}
 use Rattle.symbolic_expand.specs.Laws.{MoreKeepRuns, MoreKeepHeaders, MoreKeepLongRuns, MoreKeepPresumedRuns, MoreKeepManyRuns, MoreMakeNoFewer, MoreKeepSupport}
 use Rattle.symbolic_expand.proofs.MoreLaws.{more_runs}
 use Rattle.symbolic_expand.proofs.CountLaws.{complete_runs-more}
@@ -29,7 +30,7 @@ module _ (sets other : Sets) (file : Option (List ℕ)) (ts : List Token) (keeps
 -- More definitions.
 
 pub more_keep_runs : MoreKeepRuns
-more_keep_runs sets other file ts r part inside = more_runs sets other file (expansion Text 0 RUN_WORK (map unmarked ts)) r part inside
+more_keep_runs sets other file ts r part inside = more_runs sets other file (expansion Text 0 choice_work_limit (map unmarked ts)) r part inside
 
 pub more_keep_headers : {H : Type 0} → MoreKeepHeaders H
 more_keep_headers reading sets other file ts h part =
@@ -42,11 +43,11 @@ pub more_keep_presumed_runs : MoreKeepPresumedRuns
 more_keep_presumed_runs sets other file ts part = presumed_kept sets other file ts (λ r inside. more_keep_runs sets other file ts r part inside)
 
 pub more_make_no_fewer : MoreMakeNoFewer
-more_make_no_fewer sets other file ts once part = complete_runs-more sets other once part file (expansion Text 0 RUN_WORK (map unmarked ts))
+more_make_no_fewer sets other file ts once part = complete_runs-more sets other once part file (expansion Text 0 choice_work_limit (map unmarked ts))
 
 pub more_keep_many_runs : MoreKeepManyRuns
 more_keep_many_runs budget sets other file ts once part many =
     let no_fewer = more_make_no_fewer sets other file ts once part in omega (arith, no_fewer, many)
 
 pub more_keep_support : MoreKeepSupport
-more_keep_support sets other file ts name part = met_names-more sets other file (expansion Text 0 RUN_WORK (map unmarked ts)) name part
+more_keep_support sets other file ts name part = met_names-more sets other file (expansion Text 0 choice_work_limit (map unmarked ts)) name part

@@ -5,12 +5,13 @@ use Rattle.std.specs.List.{list_any, Contains}
 use Rattle.std.proofs.lemmas.Slice.Eq.{bytes_eq-Decides}
 use Rattle.std.proofs.lemmas.Map.Views.{Contains-from_any}
 use Rattle.std.proofs.lemmas.Bool.{or_left, or_right}
+use Rattle.base_types.specs.Limits.{choice_work_limit}
 use Rattle.macro_defs.specs.MacroDefinition.{MacroDefinition}
 use Rattle.macro_expand.specs.declared.outcome.Mode.TheVariants.{Text}
 use Rattle.macro_expand.specs.Asking.{Asking}
 use Rattle.macro_expand.specs.Replacement.{unmarked}
 use Rattle.macro_expand.specs.Expansion.{Expanded, expansion}
-use Rattle.macro_expand.specs.Choice.{HasNoRepeat, Sets, IsDistinct, AreAmong, Run, RUN_WORK, complete_runs, met_names, computed_runs}
+use Rattle.macro_expand.specs.Choice.{HasNoRepeat, Sets, IsDistinct, AreAmong, Run, complete_runs, met_names, computed_runs}
 use Rattle.symbolic_expand.specs.Laws.{SameMembers, SupportDecides}
 use Rattle.symbolic_expand.proofs.MoreLaws.{more_runs}
 use Rattle.symbolic_expand.proofs.CountLaws.{complete_runs-more}
@@ -95,7 +96,7 @@ module _ {A : Type 0} (sets other : Sets) (file : Option (List ℕ)) (t : Asking
 
 pub support_decides : {H : Type 0} → SupportDecides H
 support_decides sets other file ts once other_once agree =
-    let t : Asking Expanded = expansion Text 0 RUN_WORK (map unmarked ts) in
+    let t : Asking Expanded = expansion Text 0 choice_work_limit (map unmarked ts) in
     let forth : Keeps (computed_runs sets file ts) (computed_runs other file ts) = runs_forth sets other file t once other_once agree in
     let back : Keeps (computed_runs other file ts) (computed_runs sets file ts) = runs_back sets other file t once other_once agree in
     let count : length (computed_runs sets file ts) ≡ length (computed_runs other file ts) = as_many sets other file t once other_once agree in

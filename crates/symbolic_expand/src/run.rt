@@ -9,14 +9,12 @@ use crate::choices::Choices;
 use crate::outcome::SymError;
 use crate::sets::DefSets;
 use crate::texts::TextSet;
+use base_types::limits::CHOICE_WORK_LIMIT;
 use directive_scan::{HeaderName, header_of};
 use macro_expand::{Mode, RunError, Work, expand_for};
 use pp_tokens::Token;
 use std::alloc::Global;
 use std::collections::VecDeque;
-
-// The work of a run.
-const RUN_WORK: u64 = 100_000;
 
 /// How a run ended: the header that it names, the numbers that it took, each with how many there were, and the names that were met
 /// so far.
@@ -40,7 +38,9 @@ pub(crate) fn one_run(
     ensures err { IfErr result (λ e. RefusesRun e (run_at (sets_of sets.now) (option_copied file.entry) (computed tokens.now) ahead.items)) }
 {
     let mut choices = Choices::new(alloc, ahead, file, met);
-    let mut work = Work { left: RUN_WORK };
+    let mut work = Work {
+        left: CHOICE_WORK_LIMIT,
+    };
     match expand_for(alloc, sets, &mut choices, Mode::Text, tokens, &mut work) {
         Ok(list) => {
             let header = header_of(alloc, list.as_slice())?;

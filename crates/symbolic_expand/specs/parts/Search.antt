@@ -2,6 +2,7 @@
 use Rattle.std.specs.Prelude.{if◌then◌else◌, ◌≡◌, ◌↔◌, ℕ, Bool, true, false, List, map, Option, Some, None, Contains}
 use Rattle.std.specs.declared.collections.VecDeque.{VecDeque}
 use Rattle.std.specs.declared.alloc.Global.{Global}
+use Rattle.base_types.specs.Limits.{choice_work_limit}
 use Rattle.pp_tokens.specs.declared.Token.{Token}
 use Rattle.directive_scan.specs.declared.directive.HeaderName.{HeaderName}
 use Rattle.directive_scan.specs.HeaderNames.{header_named}
@@ -11,7 +12,7 @@ use Rattle.macro_expand.specs.declared.outcome.RunError.TheVariants.{Count as Co
 use Rattle.macro_expand.specs.Asking.{Asking, Work}
 use Rattle.macro_expand.specs.Replacement.{unmarked}
 use Rattle.macro_expand.specs.Expansion.{Expanded, expansion}
-use Rattle.macro_expand.specs.Choice.{Sets, Failed, Presumed, RUN_WORK, header_of_ending, MayName, Supports}
+use Rattle.macro_expand.specs.Choice.{Sets, Failed, Presumed, header_of_ending, MayName, Supports}
 use Rattle.macro_expand.specs.Laws.{IsCutOff}
 use Rattle.symbolic_expand.specs.declared.outcome.SymError.{SymError}
 use Rattle.symbolic_expand.specs.declared.outcome.SymError.TheVariants.{Budget, Long, Presumed as PresumedNames, Memory}
@@ -21,7 +22,7 @@ use Rattle.symbolic_expand.specs.Found.{NothingRefuses}
 
 -- the questions of computed tokens (6.10.2 p4)
 abbrev pub computed : List Token → Asking Expanded
-computed ts = expansion Text 0 RUN_WORK (map unmarked ts)
+computed ts = expansion Text 0 choice_work_limit (map unmarked ts)
 
 -- a run that isn't cut off, with the header that it names, the numbers that it took, and the names met before it and after it
 pub record EndsWith (n : Numbered Expanded) (header : Option HeaderName) (taken : List (ℕ × ℕ)) (met now : List (List ℕ)) : Type 0 where

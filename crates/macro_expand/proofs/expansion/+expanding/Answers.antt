@@ -16,26 +16,26 @@ expand_argument-returns-then-not-alone-clause-ok g t c =
     argument_skipped (g.A.Answers.answerer c.args.source.now) c.args.answers.now c.args.mode c.args.depth c.args.work.now.left c.args.t.now.token c.args.alone c.args.argument.items
     c.new.result.items c.if-not-alone.true c.new.ensures.items
 
-pub expand_argument-returns-then-depth-ge-DEEPEST-clause-err : goal.expand_argument-returns-then-depth-ge-DEEPEST-clause-err
-expand_argument-returns-then-depth-ge-DEEPEST-clause-err g t c =
+pub expand_argument-returns-then-depth-ge-ARGUMENT_DEPTH_LIMIT-clause-err : goal.expand_argument-returns-then-depth-ge-ARGUMENT_DEPTH_LIMIT-clause-err
+expand_argument-returns-then-depth-ge-ARGUMENT_DEPTH_LIMIT-clause-err g t c =
     rw c.line.ensures (argument_deep (g.A.Answers.answerer c.args.source.now) c.args.answers.now c.args.mode c.args.depth c.args.work.now.left c.args.t.now.token c.args.alone c.args.argument.items
-    c.if-not-alone.false c.if-depth-ge-DEEPEST.true)
+    c.if-not-alone.false c.if-depth-ge-ARGUMENT_DEPTH_LIMIT.true)
 
 pub expand_argument-returns-then-not-have_identifier-clause-ok : goal.expand_argument-returns-then-not-have_identifier-clause-ok
 expand_argument-returns-then-not-have_identifier-clause-ok g t c =
     argument_unnamed (g.A.Answers.answerer c.args.source.now) c.args.answers.now c.args.mode c.args.depth c.args.work.now.left c.args.t.now.token c.args.alone c.args.argument.items
-    c.if-not-alone.false c.if-depth-ge-DEEPEST.false (ap (λ (l : List Kept). list_any is_named (map marked_of l)) (sym c.deref.ensures.value) ∙ sym c.have_identifier.ensures ∙ c.if-not-have_identifier.true)
+    c.if-not-alone.false c.if-depth-ge-ARGUMENT_DEPTH_LIMIT.false (ap (λ (l : List Kept). list_any is_named (map marked_of l)) (sym c.deref.ensures.value) ∙ sym c.have_identifier.ensures ∙ c.if-not-have_identifier.true)
 
 pub expand_argument-returns-clause-ok : goal.expand_argument-returns-clause-ok
 expand_argument-returns-clause-ok g t c =
     argument_made (g.A.Answers.answerer c.args.source.now) c.args.answers.now c.args.mode c.args.depth c.args.work.now.left c.args.t.now.token c.args.alone c.args.argument.items
-    c.if-not-alone.false c.if-depth-ge-DEEPEST.false c.from_vec-given.result.items c.from_vec-given.ensures.items c.expand_list.new.answers
+    c.if-not-alone.false c.if-depth-ge-ARGUMENT_DEPTH_LIMIT.false c.from_vec-given.result.items c.from_vec-given.ensures.items c.expand_list.new.answers
     c.expand_list.new.work.left c.expand_list.result c.expand_list.ensures.ok
 
 pub expand_argument-returns-clause-err : goal.expand_argument-returns-clause-err
 expand_argument-returns-clause-err g t c =
     argument_fails (g.A.Answers.answerer c.args.source.now) c.args.answers.now c.args.mode c.args.depth c.args.work.now.left c.args.t.now.token c.args.alone c.args.argument.items
-    c.if-not-alone.false c.if-depth-ge-DEEPEST.false c.from_vec-given.result.items c.from_vec-given.ensures.items c.expand_list.new.answers
+    c.if-not-alone.false c.if-depth-ge-ARGUMENT_DEPTH_LIMIT.false c.from_vec-given.result.items c.from_vec-given.ensures.items c.expand_list.new.answers
     c.expand_list.new.work.left c.expand_list.result c.expand_list.ensures.err
 
 pub expand_arguments-loop-argument-init : goal.expand_arguments-loop-argument-init

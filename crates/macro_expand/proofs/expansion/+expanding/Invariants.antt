@@ -1,4 +1,5 @@
 use Rattle.std.proofs.Common.{◌≡◌, ◌+◌, ◌-◌, ◌*◌, ◌≤◌, map, length, deque_len}
+use Rattle.base_types.specs.Limits.{argument_depth_limit}
 use Rattle.macro_expand.specs.Answered.{before, expanded_for, arguments_for}
 use Rattle.macro_expand.specs.Seen.{marked_of, lists_of, parts_seen}
 use Rattle.macro_expand.proofs.AnsweredLaws.{before_all}
@@ -6,22 +7,22 @@ use Rattle.macro_expand.proofs.expansion.+expanding.Given as goal
 
 -- an argument is expanded one deeper, and at most 400 deep
 abbrev pub decreases-expand_list : goal.decreases-expand_list
-decreases-expand_list g l = 6 * (400 - l.depth) + 5
+decreases-expand_list g l = 6 * (argument_depth_limit - l.depth) + 5
 
 abbrev pub decreases-expand_head : goal.decreases-expand_head
-decreases-expand_head g l = 6 * (400 - l.depth) + 4
+decreases-expand_head g l = 6 * (argument_depth_limit - l.depth) + 4
 
 abbrev pub decreases-expand_name : goal.decreases-expand_name
-decreases-expand_name g l = 6 * (400 - l.depth) + 3
+decreases-expand_name g l = 6 * (argument_depth_limit - l.depth) + 3
 
 abbrev pub decreases-expand_call : goal.decreases-expand_call
-decreases-expand_call g l = 6 * (400 - l.depth) + 2
+decreases-expand_call g l = 6 * (argument_depth_limit - l.depth) + 2
 
 abbrev pub decreases-expand_arguments : goal.decreases-expand_arguments
-decreases-expand_arguments g l = 6 * (400 - l.depth) + 1
+decreases-expand_arguments g l = 6 * (argument_depth_limit - l.depth) + 1
 
 abbrev pub decreases-expand_argument : goal.decreases-expand_argument
-decreases-expand_argument g l = 6 * (400 - l.depth)
+decreases-expand_argument g l = 6 * (argument_depth_limit - l.depth)
 
 -- the arguments expanded so far, before what the others become with the work that is left
 abbrev pub invariant-expand_arguments-loop-argument : goal.invariant-expand_arguments-loop-argument
