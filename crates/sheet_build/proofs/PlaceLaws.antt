@@ -109,7 +109,7 @@ module _ (look : Look) (links : ℕ) (follow : Path → List Text → Walked) wh
       → (walk_with look links follow dir (name ∷ rest)).end ≡ (walk_with look links follow (name ∷ dir) rest).end
   unfolding walk_with
   step_down name dir rest is is_dir =
-      ap (λ (c : Component). (taken look (λ next. walk_with look links follow next rest) follow rest dir c).end) (name_component name is)
+      ap (λ (c : Component). (taken (λ next. walk_with look links follow next rest) follow rest dir look c).end) (name_component name is)
       ∙ ap (λ (o : Option Entry). (entered (λ next. walk_with look links follow next rest) follow rest dir (name ∷ dir) o).end) is_dir
 
   walk_down : (path : Path) (rest : List Text) → AllByRecursion IsName path → AreDirs look path

@@ -26,8 +26,8 @@ module _ (old new : Look) where
     entered-looked rest dir path None same = refl
     entered-looked rest dir path (Some node) same = ap (through path) (beyond-looked rest dir path node same)
 
-    taken-looked : (rest : List Text) (dir : Path) (component : Component) → Same (taken old next-old follow-old rest dir component).looked
-        → taken old next-old follow-old rest dir component ≡ taken new next-new follow-new rest dir component
+    taken-looked : (rest : List Text) (dir : Path) (component : Component) → Same (taken next-old follow-old rest dir old component).looked
+        → taken next-old follow-old rest dir old component ≡ taken next-new follow-new rest dir new component
     taken-looked rest dir Stay same = next dir same
     taken-looked rest dir Up same = ap (through (parent dir)) (next (parent dir) same)
     taken-looked rest dir (Down name) same =

@@ -70,7 +70,7 @@ module _ (part whole : FileTree) (sub : Sub part whole) where
     taken-fails_or_is : ((dir : Path) → FailsOrIs (next-part dir) (next-whole dir))
         → ((dir : Path) (rest : List Text) → FailsOrIs (follow-part dir rest) (follow-whole dir rest))
         → (rest : List Text) (dir : Path) (component : Component)
-        → FailsOrIs (taken (entry_at part) next-part follow-part rest dir component) (taken (entry_at whole) next-whole follow-whole rest dir component)
+        → FailsOrIs (taken next-part follow-part rest dir (entry_at part) component) (taken next-whole follow-whole rest dir (entry_at whole) component)
     taken-fails_or_is next follow rest dir Stay = next dir
     taken-fails_or_is next follow rest dir Up = through-fails_or_is (parent dir) _ _ (next (parent dir))
     taken-fails_or_is next follow rest dir (Down name) =
@@ -105,8 +105,8 @@ module _ (part whole : FileTree) (sub : Sub part whole) where
     taken-same : ((dir : Path) → AgreeAt part whole (next-whole dir).nodes → next-part dir ≡ next-whole dir)
         → ((dir : Path) (rest : List Text) → AgreeAt part whole (follow-whole dir rest).nodes → follow-part dir rest ≡ follow-whole dir rest)
         → (rest : List Text) (dir : Path) (component : Component)
-        → AgreeAt part whole (taken (entry_at whole) next-whole follow-whole rest dir component).nodes
-        → taken (entry_at part) next-part follow-part rest dir component ≡ taken (entry_at whole) next-whole follow-whole rest dir component
+        → AgreeAt part whole (taken next-whole follow-whole rest dir (entry_at whole) component).nodes
+        → taken next-part follow-part rest dir (entry_at part) component ≡ taken next-whole follow-whole rest dir (entry_at whole) component
     taken-same next follow rest dir Stay agree = next dir agree
     taken-same next follow rest dir Up agree = ap (through (parent dir)) (next (parent dir) (λ p m. agree p (inr m)))
     taken-same next follow rest dir (Down name) agree = ap (looking (name ∷ dir)) (entered-same next follow rest dir (name ∷ dir) (entry_at whole (name ∷ dir)) refl agree)

@@ -50,7 +50,7 @@ some_component (b ∷ text) = go (b == slash)
 -- THE STEPS OF THE DEFINITION
 
 walk-cons : (look : Look) (links : ℕ) (dir : Path) (name : Text) (rest : List Text)
-    → walk look links dir (name ∷ rest) ≡ taken look (λ next. walk look links next rest) (followed look links) rest dir (component_of name)
+    → walk look links dir (name ∷ rest) ≡ taken (λ next. walk look links next rest) (followed look links) rest dir look (component_of name)
 unfolding walk walk_with
 walk-cons look zero dir name rest = refl
 walk-cons look (suc links) dir name rest = refl
@@ -153,7 +153,7 @@ module _ (tree : FileTree) (links : ℕ) (rest : List Text) (dir : Path) (name :
 
 module _ (look : Look) (links : ℕ) (rest : List Text) (dir : Path) (name : Text) (before : List Path) where
   abbrev Next : Component → Walked
-  Next component = taken look (λ next. walk look links next rest) (followed look links) rest dir component
+  Next component = taken (λ next. walk look links next rest) (followed look links) rest dir look component
 
   pub stays : Stay ≡ component_of name → GoesOn before (walk look links dir (name ∷ rest)) before (walk look links dir rest)
   stays e = same_walk before before _ _ (walk-cons look links dir name rest ∙ ap Next (sym e)) refl

@@ -32,7 +32,7 @@ module _ (look : Look) (real : Path) where
     entered-file rest dir path (Some (File body)) e h = file-end path body rest e h
     entered-file rest dir path (Some (Link text)) e h = f (start dir text) (components text ++ rest) h
 
-    taken-file : (rest : List Text) (dir : Path) (component : Component) → EndsAtFile (taken look next follow rest dir component)
+    taken-file : (rest : List Text) (dir : Path) (component : Component) → EndsAtFile (taken next follow rest dir look component)
     taken-file rest dir Stay h = n dir h
     taken-file rest dir Up h = n (parent dir) h
     taken-file rest dir (Down name) h = entered-file rest dir (name ∷ dir) (look (name ∷ dir)) refl h

@@ -22,7 +22,7 @@ module _ (tree : Look) (most : ℕ) (P : Walked → Type 0) (nowhere : P (walk_e
 
   taken-P : (next : Path → Walked) (follow : Path → List Text → Walked) → ((dir : Path) → P (next dir))
       → ((dir : Path) (rest : List Text) → P (follow dir rest))
-      → (rest : List Text) (dir : Path) (component : Component) → P (taken tree next follow rest dir component)
+      → (rest : List Text) (dir : Path) (component : Component) → P (taken next follow rest dir tree component)
   taken-P next follow n f rest dir Stay = n dir
   taken-P next follow n f rest dir Up = passed (parent dir) _ (n (parent dir))
   taken-P next follow n f rest dir (Down name) = sought (name ∷ dir) _ (entered-P next follow n f rest dir (name ∷ dir) (tree (name ∷ dir)))
@@ -86,7 +86,7 @@ module _ (tree : Look) (next more : Path → Walked) (follow follow-more : Path 
   entered-no_worse rest dir path (Some (Link text)) = f (start dir text) (components text ++ rest)
 
   taken-no_worse : (rest : List Text) (dir : Path) (component : Component)
-      → NoWorse (taken tree next follow rest dir component).end (taken tree more follow-more rest dir component).end
+      → NoWorse (taken next follow rest dir tree component).end (taken more follow-more rest dir tree component).end
   taken-no_worse rest dir Stay = n dir
   taken-no_worse rest dir Up = n (parent dir)
   taken-no_worse rest dir (Down name) = entered-no_worse rest dir (name ∷ dir) (tree (name ∷ dir))

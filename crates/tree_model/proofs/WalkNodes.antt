@@ -101,7 +101,7 @@ module _ (tree : FileTree) (is : IsTree tree) where
         along dir path (start dir text) (follow (start dir text) (components text ++ rest)) (is_node path (Link text) e) (start_cases dir text)
         (f (start dir text) (components text ++ rest) (start-dir dir text d))
 
-    taken-stands : (rest : List Text) (dir : Path) (component : Component) → IsDirAt dir → Stands dir (taken (entry_at tree) next follow rest dir component)
+    taken-stands : (rest : List Text) (dir : Path) (component : Component) → IsDirAt dir → Stands dir (taken next follow rest dir (entry_at tree) component)
     taken-stands rest dir Stay d = n dir d
     taken-stands rest dir Up d =
         past dir (parent dir) (next (parent dir)) (is_node (parent dir) Dir (parent-dir dir d)) (n (parent dir) (parent-dir dir d))
@@ -146,11 +146,11 @@ module _ (look : Look) (next : Path → Walked) (follow : Path → List Text →
   entered-met rest dir path (Some node) e = inl refl
 
   taken-met : (dir : Path) (name : Text) (component : Component) → (component ≡ Stay) ⊎ ((component ≡ Up) ⊎ (component ≡ Down name))
-      → (taken look next follow [] dir component).end ≡ AtFile real
-      → Member (name ∷ dir) (taken look next follow [] dir component).nodes
+      → (taken next follow [] dir look component).end ≡ AtFile real
+      → Member (name ∷ dir) (taken next follow [] dir look component).nodes
   taken-met dir name Stay c e = absurd (no_file dir e)
   taken-met dir name Up c e = absurd (no_file (parent dir) e)
-  taken-met dir name (Down other) c e = subst (λ n. Member (n ∷ dir) (taken look next follow [] dir (Down other)).nodes)
+  taken-met dir name (Down other) c e = subst (λ n. Member (n ∷ dir) (taken next follow [] dir look (Down other)).nodes)
       (same c) (entered-met [] dir (other ∷ dir) (look (other ∷ dir)) e)
     where
       same : (Down other ≡ Stay) ⊎ ((Down other ≡ Up) ⊎ (Down other ≡ Down name)) → other ≡ name
@@ -178,7 +178,7 @@ module _ (look : Look) (next : Path → Walked) (follow : Path → List Text →
   entered-stood rest dir path (Some node) e = refl
 
   taken-stood : (dir : Path) (name : Text) (component : Component) → (component ≡ Stay) ⊎ ((component ≡ Up) ⊎ (component ≡ Down name))
-      → (taken look next follow [] dir component).end ≡ AtFile real → IsSome (look (name ∷ dir))
+      → (taken next follow [] dir look component).end ≡ AtFile real → IsSome (look (name ∷ dir))
   taken-stood dir name Stay c e = absurd (no_file dir e)
   taken-stood dir name Up c e = absurd (no_file (parent dir) e)
   taken-stood dir name (Down other) c e = subst (λ n. IsSome (look (n ∷ dir))) (same c) (entered-stood [] dir (other ∷ dir) (look (other ∷ dir)) e)

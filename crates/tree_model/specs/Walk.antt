@@ -59,32 +59,34 @@ abbrev pub file_end : Path → List Text → End
 file_end path [] = AtFile path
 file_end path (component ∷ rest) = Nowhere
 
--- the walk at a node that was looked up in a directory: `next` goes on from a directory with the
--- components left, and `follow` does so with a link less, the link's text in the link's place
-abbrev pub beyond : (next : Path → Walked) → (follow : Path → List Text → Walked) → List Text → Path → Path → Entry → Walked
-beyond next follow rest dir path Dir = next path
-beyond next follow rest dir path (File body) = walk_ended (file_end path rest)
-beyond next follow rest dir path (Link text) = follow (start dir text) (components text ++ rest)
-
--- the walk at the name's node in a directory, if there is one
-abbrev pub entered : (next : Path → Walked) → (follow : Path → List Text → Walked) → List Text → Path → Path → Option Entry → Walked
-entered next follow rest dir path None = walk_ended Nowhere
-entered next follow rest dir path (Some node) = through path (beyond next follow rest dir path node)
-
 -- what stands at each path
 abbrev pub Look : Type 0
 Look = Path → Option Entry
 
--- the walk at a component
-abbrev pub taken : Look → (next : Path → Walked) → (follow : Path → List Text → Walked) → List Text → Path → Component → Walked
-taken look next follow rest dir Stay = next dir
-taken look next follow rest dir Up = through (parent dir) (next (parent dir))
-taken look next follow rest dir (Down name) = looking (name ∷ dir) (entered next follow rest dir (name ∷ dir) (look (name ∷ dir)))
+-- One step of a walk from a directory, before these components: `next` goes on from a directory, and `follow` does so with a
+-- link less, the link's text in the link's place.
+module _ (next : Path → Walked) (follow : Path → List Text → Walked) (rest : List Text) (dir : Path) where
+  -- at a node that was looked up
+  abbrev pub beyond : Path → Entry → Walked
+  beyond path Dir = next path
+  beyond path (File body) = walk_ended (file_end path rest)
+  beyond path (Link text) = follow (start dir text) (components text ++ rest)
+
+  -- at the name's node, if there is one
+  abbrev pub entered : Path → Option Entry → Walked
+  entered path None = walk_ended Nowhere
+  entered path (Some node) = through path (beyond path node)
+
+  -- at a component
+  abbrev pub taken : Look → Component → Walked
+  taken look Stay = next dir
+  taken look Up = through (parent dir) (next (parent dir))
+  taken look (Down name) = looking (name ∷ dir) (entered (name ∷ dir) (look (name ∷ dir)))
 
 -- the walk from a directory through components, with so many links left
 unfoldable pub walk_with : Look → ℕ → (follow : Path → List Text → Walked) → Path → List Text → Walked
 walk_with look links follow dir [] = walk_ended (AtDir dir links)
-walk_with look links follow dir (component ∷ rest) = taken look (λ next. walk_with look links follow next rest) follow rest dir (component_of component)
+walk_with look links follow dir (component ∷ rest) = taken (λ next. walk_with look links follow next rest) follow rest dir look (component_of component)
 
 unfoldable pub walk : Look → ℕ → Path → List Text → Walked
 walk look zero = walk_with look zero (λ dir rest. walk_ended Nowhere)
