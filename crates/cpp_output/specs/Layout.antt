@@ -4,6 +4,7 @@
 use Rattle.std.specs.Prelude.{ℕ, ◌+◌, ◌-◌, ◌==◌, max, Bool, false, not, ◌||◌, List, [], ◌∷◌, ◌++◌, if◌then◌else◌, nat_lt, replicate, codes, ℤ, pos}
 use Rattle.std.specs.List.{list_any}
 use Rattle.std.specs.Fmt.{signed_decimal}
+use Rattle.base_types.specs.Ascii as ascii
 use Rattle.pp_tokens.specs.declared.Token.{Token}
 use Rattle.cpp_output.specs.declared.last.Last.{Last}
 use Rattle.cpp_output.specs.declared.last.Last.TheVariants.{Nothing, Tight, Loose}
@@ -18,13 +19,9 @@ pub data Event : Type 0 where
   put : Token → Event
   pragma : ℕ → List Token → Event
 
--- the longest output, in bytes
-abbrev pub text_limit : ℕ
-text_limit = 67108864
-
 -- `# LINE "NAME"`, a flag, and a newline
 unfoldable pub marker : ℤ → List ℕ → List ℕ → List ℕ
-marker line name flag = codes "# " ++ (signed_decimal line ++ (codes " \"" ++ (name ++ (codes "\"" ++ (flag ++ 10 ∷ [])))))
+marker line name flag = codes "# " ++ (signed_decimal line ++ (codes " \"" ++ (name ++ (codes "\"" ++ (flag ++ ascii.newline ∷ [])))))
 
 -- the punctuators that want no space beside them, by spelling
 abbrev pub is_tight : List ℕ → Bool
@@ -40,12 +37,12 @@ last_on_line text = if is_tight text then Tight else Loose
 -- space where one stands before it in the source, or where neither of the two is tight.
 unfoldable pub gap : Last → Token → List ℕ
 gap Nothing t = []
-gap Tight t = if t.space then 32 ∷ [] else []
-gap Loose t = if t.space || not (is_tight t.text) then 32 ∷ [] else []
+gap Tight t = if t.space then ascii.space ∷ [] else []
+gap Loose t = if t.space || not (is_tight t.text) then ascii.space ∷ [] else []
 
 -- the newlines that lead from the output line of one physical line to that of a later one
 abbrev pub newlines_between : ℕ → ℕ → List ℕ
-newlines_between at line = replicate (line - at) 10
+newlines_between at line = replicate (line - at) ascii.newline
 
 -- what stands last after those newlines: nothing where there are any
 abbrev pub last_at : ℕ → Last → ℕ → Last
@@ -54,8 +51,8 @@ last_at at last line = if nat_lt at line then Nothing else last
 -- what ends an output line that isn't empty
 abbrev pub fresh : Last → List ℕ
 fresh Nothing = []
-fresh Tight = 10 ∷ []
-fresh Loose = 10 ∷ []
+fresh Tight = ascii.newline ∷ []
+fresh Loose = ascii.newline ∷ []
 
 -- tokens on one output line
 unfoldable pub on_line : Last → List Token → List ℕ
@@ -69,7 +66,7 @@ written at last (enter name) = fresh last ++ marker (pos 1) name (codes " 1")
 written at last (back name shown line) = fresh last ++ marker shown name (codes " 2")
 written at last (mark name shown line) = fresh last ++ marker shown name []
 written at last (put t) = newlines_between at t.line ++ (gap (last_at at last t.line) t ++ t.text)
-written at last (pragma line ts) = newlines_between at line ++ (codes "#pragma" ++ (on_line Loose ts ++ 10 ∷ []))
+written at last (pragma line ts) = newlines_between at line ++ (codes "#pragma" ++ (on_line Loose ts ++ ascii.newline ∷ []))
 
 -- the physical line that the output line stands for after an event
 unfoldable pub line_after : ℕ → Event → ℕ

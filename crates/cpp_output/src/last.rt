@@ -1,5 +1,6 @@
 // What stands last on an output line, and the space behind it.
 ghost use Rattle.std.specs.Prelude.{◌≡◌, if◌then◌else◌, ◌∷◌, []};
+ghost use Rattle.base_types.specs.Ascii as ascii;
 ghost use Rattle.pp_tokens.specs.Tokens.{token_seen};
 ghost use Rattle.cpp_output.specs.Layout.{is_tight, last_on_line, gap};
 
@@ -36,7 +37,7 @@ impl Last {
     // Whether a space stands between what is last on its line and the next token there.
     #[tactic(auto, unfolding(crate::specs::Layout::gap))]
     pub fn wants_space(self, next: &TokenRef<'_>) -> bool
-        ensures { gap self (token_seen next.now) ≡ (if result then 32 ∷ [] else []) }
+        ensures { gap self (token_seen next.now) ≡ (if result then ascii.space ∷ [] else []) }
     {
         match self {
             Last::Nothing => false,

@@ -1,7 +1,8 @@
 // The layout of preprocessed output: a text that grows token by token.
 ghost use Rattle.std.specs.Prelude.{◌≡◌, ◌<◌, ◌≤◌, ◌++◌, List, [], length, map, max, IfOk, OnOk, IsErrOf};
+ghost use Rattle.base_types.specs.Limits.{text_limit};
 ghost use Rattle.pp_tokens.specs.Tokens.{rest_of, token_seen};
-ghost use Rattle.cpp_output.specs.Layout.{Event, enter, back, mark, put, pragma, text_limit, marker, fresh, newlines_between, last_at, last_on_line, gap, on_line};
+ghost use Rattle.cpp_output.specs.Layout.{Event, enter, back, mark, put, pragma, marker, fresh, newlines_between, last_at, last_on_line, gap, on_line};
 ghost use Rattle.cpp_output.specs.Laid.{begun, after_event, after_events, finished};
 ghost use Rattle.cpp_output.specs.declared.layout.LayError.TheVariants.{Memory};
 
@@ -40,7 +41,7 @@ pub struct Layout {
 
 impl Model for Layout {
     ghost use Rattle.std.specs.Prelude.{length, ◌≤◌};
-    ghost use Rattle.cpp_output.specs.Layout.{text_limit};
+    ghost use Rattle.base_types.specs.Limits.{text_limit};
     ghost use Rattle.cpp_output.specs.Laid.{Laid};
 
     ghost Value = { Laid };

@@ -1,14 +1,15 @@
 // The bytes of an output, which never pass its limit.
 ghost use Rattle.std.specs.Prelude.{◌≡◌, ℕ, ◌<◌, ◌≤◌, ◌++◌, List, [], length, replicate, OnOk, IsErrOf};
-ghost use Rattle.cpp_output.specs.Layout.{marker, text_limit};
+ghost use Rattle.base_types.specs.Ascii as ascii;
+ghost use Rattle.base_types.specs.Limits.{text_limit};
+ghost use Rattle.cpp_output.specs.Layout.{marker};
 
 use crate::layout::LayError;
 use base_types::Bytes;
+use base_types::limits::TEXT_LIMIT;
 use itoa::Buffer;
 use std::alloc::Global;
 use std::marker::Model;
-
-const TEXT_LIMIT: usize = 67_108_864;
 
 const NEWLINES: [u8; 64] = [b'\n'; 64];
 
@@ -19,7 +20,7 @@ pub struct Text {
 
 impl Model for Text {
     ghost use Rattle.std.specs.Prelude.{ℕ, List, length, ◌≤◌};
-    ghost use Rattle.cpp_output.specs.Layout.{text_limit};
+    ghost use Rattle.base_types.specs.Limits.{text_limit};
 
     ghost Value = { List ℕ };
 
@@ -50,9 +51,9 @@ impl Text {
     }
 
     pub fn append_newlines(&mut self, count: u64) -> Result<(), LayError>
-        ensures ok { OnOk result (self.new ≡ self.old ++ replicate count 10) }
+        ensures ok { OnOk result (self.new ≡ self.old ++ replicate count ascii.newline) }
         ensures within { length self.new ≤ text_limit }
-        ensures full { IsErrOf result LayError.Full → text_limit < length (self.old ++ replicate count 10) }
+        ensures full { IsErrOf result LayError.Full → text_limit < length (self.old ++ replicate count ascii.newline) }
     {
         for _block in 0..count / 64 {
             self.append(&NEWLINES)?;

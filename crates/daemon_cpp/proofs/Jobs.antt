@@ -2,8 +2,7 @@
 use Rattle.std.proofs.Common.{◌≡◌, ◌<◌, ◌≤◌, List, [], length, Option, None, Some, Result, Ok, Err, refl, sym, ◌∙◌, ap}
 use Rattle.std.specs.Prelude.{IfOk, IfSome}
 use Rattle.std.specs.Option.{ForSome}
-use Rattle.base_types.specs.Limits.{include_depth_limit}
-use Rattle.cpp_output.specs.Layout.{text_limit}
+use Rattle.base_types.specs.Limits.{include_depth_limit, text_limit}
 use Rattle.cpp_output.specs.Laid.{begun}
 use Rattle.tree_model.specs.Paths.{Text, spelled}
 use Rattle.tree_model.specs.Shown.{presumed_name}

@@ -1,7 +1,8 @@
 -- More output, within the limit or past it.
 use Rattle.std.proofs.Common.{◌≡◌, ◌≤◌, ◌<◌, [], ◌∷◌, length, refl, sym, ◌∙◌, ap}
 use Rattle.std.proofs.lemmas.Bool.{le-leb, lt-leb}
-use Rattle.cpp_output.specs.Layout.{Event, text_limit}
+use Rattle.base_types.specs.Limits.{text_limit}
+use Rattle.cpp_output.specs.Layout.{Event}
 use Rattle.cpp_output.specs.Laid.{Laid, after_event, after_events}
 use Rattle.daemon_cpp.specs.Diagnostics.{TextLimit}
 use Rattle.daemon_cpp.specs.Prep.{State, Go, limited, say, complain_of_job}

@@ -1,6 +1,7 @@
 -- Output of one event, as what is kept shows it.
 use Rattle.std.proofs.Common.{◌≡◌, ◌≤◌, ◌<◌, ◌∷◌, [], length, Ok, Err, refl, sym, ◌∙◌, ap, subst}
-use Rattle.cpp_output.specs.Layout.{Event, text_limit}
+use Rattle.base_types.specs.Limits.{text_limit}
+use Rattle.cpp_output.specs.Layout.{Event}
 use Rattle.cpp_output.specs.Laid.{Laid, after_event, after_events}
 use Rattle.tree_model.specs.Paths.{Path, spelled}
 use Rattle.daemon_cpp.specs.declared.kept.Kept.{Kept}

@@ -6,7 +6,8 @@ use Rattle.std.proofs.lemmas.List.Folds.{list_any-append}
 use Rattle.pp_tokens.specs.declared.Token.{Token}
 use Rattle.directive_scan.specs.declared.Directive.{Directive}
 use Rattle.directive_scan.specs.declared.Piece.{Piece}
-use Rattle.cpp_output.specs.Layout.{Event, text_limit}
+use Rattle.base_types.specs.Limits.{text_limit}
+use Rattle.cpp_output.specs.Layout.{Event}
 use Rattle.cpp_output.specs.Laid.{Laid, after_event, after_events}
 use Rattle.tree_model.specs.Paths.{Path, spelled, is_same_path}
 use Rattle.daemon_cpp.specs.declared.kept.Kept.{Kept}

@@ -16,7 +16,8 @@ use Rattle.macro_expand.specs.Seen.{marked_of, kept_plain, place_of}
 use Rattle.macro_expand.specs.Stream.{Given, Stream, given, given_before, to_come, GivesNext}
 use Rattle.macro_expand.proofs.PendingLemmas.{plain_unmarked}
 use Rattle.macro_expand.proofs.StreamLemmas.{given_before-nothing}
-use Rattle.cpp_output.specs.Layout.{Event, put, text_limit, written}
+use Rattle.base_types.specs.Limits.{text_limit}
+use Rattle.cpp_output.specs.Layout.{Event, put, written}
 use Rattle.cpp_output.specs.Laid.{Laid, after_event, after_events}
 use Rattle.tree_model.specs.Paths.{Path}
 use Rattle.daemon_cpp.specs.declared.kept.Kept.{Kept}

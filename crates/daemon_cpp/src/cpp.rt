@@ -8,8 +8,7 @@
 ghost use Rattle.std.specs.Prelude.{◌≡◌, ◌<◌, ◌≤◌, ◌+◌, ◌++◌, suc, pos, List, [], ◌∷◌, length, drop, get_or, IfOk, IfSome, OnOk, IsErrOf};
 ghost use Rattle.std.specs.Option.{ForSome};
 ghost use Rattle.base_types.specs.Causes.{HasCause};
-ghost use Rattle.base_types.specs.Limits.{work_limit};
-ghost use Rattle.cpp_output.specs.Layout.{text_limit};
+ghost use Rattle.base_types.specs.Limits.{work_limit, text_limit};
 ghost use Rattle.cpp_output.specs.Laid.{begun, finished};
 ghost use Rattle.tree_model.specs.Paths.{Text, spelled};
 ghost use Rattle.tree_model.specs.Shown.{presumed_name};

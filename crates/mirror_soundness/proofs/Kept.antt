@@ -16,7 +16,8 @@ use Rattle.macro_expand.specs.Laws.{Knows}
 use Rattle.cond_eval.specs.declared.Num.{Num}
 use Rattle.cond_eval.specs.declared.CondError.{CondError}
 use Rattle.cond_eval.specs.Value.{expression_value}
-use Rattle.cpp_output.specs.Layout.{Event, mark, put, text_limit}
+use Rattle.base_types.specs.Limits.{text_limit}
+use Rattle.cpp_output.specs.Layout.{Event, mark, put}
 use Rattle.cpp_output.specs.Laid.{after_events}
 use Rattle.tree_model.specs.Paths.{Text}
 use Rattle.tree_model.specs.Shown.{presumed_name}

@@ -3,7 +3,8 @@ use Rattle.std.specs.Prelude.{◌≡◌, ◌≤◌, ℕ, List, length, drop, Opt
 use Rattle.std.specs.List.{list_any}
 use Rattle.macro_defs.specs.Table.{lookup}
 use Rattle.directive_scan.specs.declared.Piece.{Piece}
-use Rattle.cpp_output.specs.Layout.{text_limit, put}
+use Rattle.base_types.specs.Limits.{text_limit}
+use Rattle.cpp_output.specs.Layout.{put}
 use Rattle.tree_model.specs.Paths.{Text, Path, is_same_path, spelled}
 use Rattle.search_path.specs.Search.{Hit}
 use Rattle.daemon_cpp.specs.declared.kept.Kept.{Kept}

@@ -1,6 +1,7 @@
 use Rattle.std.proofs.lemmas.Int.{to_z-of_z}
 use Rattle.std.proofs.Common.{rules, SFits, w64, ◌≡◌, ◌<◌, ◌+◌, ℤ, length, Err, refl, ◌∙◌, ap, subst}
-use Rattle.cpp_output.specs.Layout.{back, text_limit}
+use Rattle.base_types.specs.Limits.{text_limit}
+use Rattle.cpp_output.specs.Layout.{back}
 use Rattle.cpp_output.specs.Laid.{after_event}
 use Rattle.cpp_output.specs.declared.LayError.{LayError}
 use Rattle.tree_model.specs.Paths.{Text}

@@ -1,7 +1,8 @@
 use Rattle.std.proofs.lemmas.Int.{to_z-of_z}
 use Rattle.std.proofs.Common.{rules, SFits, w64, ◌≡◌, ◌<◌, ◌+◌, ℤ, pos, [], ◌∷◌, length, Ok, Err, refl, sym, ◌∙◌, ap, subst}
 use Rattle.std.specs.Prelude.{◌+ℤ◌}
-use Rattle.cpp_output.specs.Layout.{mark, text_limit}
+use Rattle.base_types.specs.Limits.{text_limit}
+use Rattle.cpp_output.specs.Layout.{mark}
 use Rattle.cpp_output.specs.Laid.{after_event}
 use Rattle.cpp_output.specs.declared.LayError.{LayError}
 use Rattle.tree_model.specs.Paths.{Text}

@@ -1,5 +1,6 @@
 use Rattle.std.proofs.Common.{◌≡◌, ◌<◌, Bool, Err, Ok, length, refl, sym, ◌∙◌, ap, subst}
-use Rattle.cpp_output.specs.Layout.{enter, text_limit}
+use Rattle.base_types.specs.Limits.{text_limit}
+use Rattle.cpp_output.specs.Layout.{enter}
 use Rattle.cpp_output.specs.Laid.{after_event}
 use Rattle.cpp_output.specs.declared.LayError.{LayError}
 use Rattle.tree_model.specs.Paths.{Text}

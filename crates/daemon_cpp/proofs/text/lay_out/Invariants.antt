@@ -7,7 +7,7 @@ use Rattle.macro_expand.specs.Replacement.{unmarked}
 use Rattle.macro_expand.specs.Expansion.{expanded_by}
 use Rattle.macro_expand.specs.Seen.{place_of}
 use Rattle.macro_expand.specs.Stream.{given, to_come, at_hand}
-use Rattle.cpp_output.specs.Layout.{text_limit}
+use Rattle.base_types.specs.Limits.{text_limit}
 use Rattle.daemon_cpp.specs.parts.Showing.{laid_from}
 use Rattle.daemon_cpp.proofs.text.lay_out.Given as goal
 

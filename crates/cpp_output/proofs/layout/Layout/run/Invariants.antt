@@ -1,6 +1,7 @@
 -- What is laid out, with the tokens that are left, is the same at each turn, and the text is within its limit.
 use Rattle.std.proofs.Common.{◌≡◌, ◌≤◌, length, map, drop}
-use Rattle.cpp_output.specs.Layout.{put, text_limit}
+use Rattle.base_types.specs.Limits.{text_limit}
+use Rattle.cpp_output.specs.Layout.{put}
 use Rattle.cpp_output.specs.Laid.{after_events}
 use Rattle.cpp_output.proofs.layout.Layout.run.Given as goal
 

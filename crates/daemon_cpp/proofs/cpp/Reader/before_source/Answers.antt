@@ -1,5 +1,5 @@
 use Rattle.std.proofs.Common.{◌≤◌, length, sym, ◌∙◌, ap, subst}
-use Rattle.cpp_output.specs.Layout.{text_limit}
+use Rattle.base_types.specs.Limits.{text_limit}
 use Rattle.cpp_output.specs.Laid.{Laid}
 use Rattle.macro_defs.specs.Table.{lookup}
 use Rattle.std.specs.List.{list_any}
