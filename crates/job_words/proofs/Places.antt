@@ -5,9 +5,11 @@ use Rattle.std.specs.List.{list_any, before_last, suffix_len, onto_first}
 use Rattle.std.proofs.lemmas.List.Folds.{list_any_at, list_any_none}
 use Rattle.std.proofs.lemmas.Bool.Decides.{nat_tests}
 use Rattle.std.proofs.lemmas.List.Sums.{suffix_len_is}
-use Rattle.tree_model.specs.Paths.{Text, slash}
+use Rattle.base_types.specs.Ascii.{slash}
+use Rattle.tree_model.specs.Paths.{Text}
 use Rattle.tree_model.specs.Walk.{components, last_of}
-use Rattle.tree_model.proofs.CutLemmas.{last_of-append, components-append}
+use Rattle.tree_model.proofs.CutLemmas.{last_of-append}
+use Rattle.tree_model.proofs.PathLemmas.{parts-append}
 use Rattle.job_words.specs.Words.{stem}
 use Rattle.job_words.specs.parts.Told.{NoneFrom, IsLast}
 
@@ -56,5 +58,5 @@ component-behind text place last =
     let whole : text ≡ take place text ++ slash ∷ drop (place + 1) text =
     sym (take-append-drop place text) ∙ ap (λ (more : Text). take place text ++ more) (rest ∙ ap (λ b. b ∷ drop (place + 1) text) here) in
     let parts : components text ≡ components (take place text) ++ drop (place + 1) text ∷ [] =
-    ap components whole ∙ components-append (take place text) (drop (place + 1) text) ∙ ap (λ more. components (take place text) ++ more) (one (drop (place + 1) text) (none-behind text place last.2)) in
+    ap components whole ∙ parts-append (take place text) (drop (place + 1) text) ∙ ap (λ more. components (take place text) ++ more) (one (drop (place + 1) text) (none-behind text place last.2)) in
     sym (ap last_of parts ∙ last_of-append (components (take place text)) (drop (place + 1) text))

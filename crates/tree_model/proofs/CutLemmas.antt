@@ -4,7 +4,8 @@ use Rattle.std.specs.List.{position, position_or_len, onto_first}
 use Rattle.std.proofs.lemmas.List.{take-append-drop, take_rest}
 use Rattle.std.proofs.lemmas.List.Splits.{slice_split_first}
 use Rattle.base_types.specs.Members.{Member}
-use Rattle.tree_model.specs.Paths.{Text, slash}
+use Rattle.base_types.specs.Ascii.{slash}
+use Rattle.tree_model.specs.Paths.{Text}
 use Rattle.tree_model.specs.Walk.{components, but_last, last_of}
 use Rattle.tree_model.proofs.PathLemmas.{parts-append, parts-name}
 
@@ -44,26 +45,6 @@ unslashed (x ∷ text) h = go (x == slash) (unslashed text) h
 -- a text without a `/` is its only component
 pub no_cut : (text : Text) → None ≡ position (λ b. b == slash) text → components text ≡ text ∷ []
 no_cut text e = unslashed text (none-position text _ refl (sym e))
-
-some-part : (text : Text) → (part : Text) × ((parts : List Text) × (components text ≡ part ∷ parts))
-some-part [] = ([], ([], refl))
-some-part (b ∷ text) = by_test (b == slash) (some-part text)
-  where
-    by_test : (t : Bool) → (part : Text) × ((parts : List Text) × (components text ≡ part ∷ parts)) → (part : Text) × ((parts : List Text) × (cond t ([] ∷ components text) (onto_first b (components text)) ≡ part ∷ parts))
-    by_test true more = ([], (components text, refl))
-    by_test false more = (b ∷ more.0, (more.1.0, ap (onto_first b) more.1.1))
-
--- the components on both sides of a `/`
-pub components-append : (front back : Text) → components (front ++ slash ∷ back) ≡ components front ++ components back
-components-append [] back = refl
-components-append (b ∷ front) back = by_test (b == slash) (components-append front back) (some-part front)
-  where
-    by_test : (t : Bool) → components (front ++ slash ∷ back) ≡ components front ++ components back → (part : Text) × ((parts : List Text) × (components front ≡ part ∷ parts))
-        → cond t ([] ∷ components (front ++ slash ∷ back)) (onto_first b (components (front ++ slash ∷ back))) ≡ cond t ([] ∷ components front) (onto_first b (components front)) ++ components back
-    by_test true ih more = ap (λ parts. [] ∷ parts) ih
-    by_test false ih more =
-        ap (onto_first b) (ih ∙ ap (λ parts. parts ++ components back) more.1.1)
-        ∙ ap (λ parts. onto_first b parts ++ components back) (sym more.1.1)
 
 pub but_last-append : (list : List Text) (name : Text) → but_last (list ++ name ∷ []) ≡ list
 but_last-append [] name = refl
