@@ -1,6 +1,7 @@
 -- The macros of compile words, in the spelling of GCC's options.
 use Rattle.std.specs.Prelude.{ℕ, List, [], ◌∷◌, ◌==◌, false, if◌then◌else◌, Option, Some, None, Result, Ok, Err, codes, unwrap_or}
 use Rattle.std.specs.List.{list_any, slice_get}
+use Rattle.base_types.specs.Ascii as ascii
 use Rattle.pp_tokens.specs.declared.Token.{Token}
 use Rattle.pp_tokens.specs.Lines.{lexed, LexedFile}
 use Rattle.macro_defs.specs.declared.DefineError.{DefineError}
@@ -12,7 +13,7 @@ use Rattle.job_words.specs.declared.macro_word.MacroWord.TheVariants as word
 -- what `-D` defines, as what stands behind `#define`: its first `=` is a space, and where it has none a `1` stands behind it
 unfoldable pub define_line : Text → Text
 define_line [] = codes " 1"
-define_line (b ∷ bs) = if b == 61 then 32 ∷ bs else b ∷ define_line bs
+define_line (b ∷ bs) = if b == ascii.equals then ascii.space ∷ bs else b ∷ define_line bs
 
 -- the tokens of a logical line, none behind the last one
 abbrev pub line_at : LexedFile → ℕ → List Token
@@ -28,7 +29,7 @@ file_line file = ended_line file file.unended
 
 -- the tokens of a text that is one line
 unfoldable pub tokens_of_line : Text → Option (List Token)
-tokens_of_line text = if list_any (λ b. b == 10) text then None else file_line (lexed false text)
+tokens_of_line text = if list_any (λ b. b == ascii.newline) text then None else file_line (lexed false text)
 
 abbrev pub defined_word : Result Named DefineError → Option MacroWord
 defined_word (Ok named) = Some (word.Define named.name named.definition)

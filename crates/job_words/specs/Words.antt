@@ -1,6 +1,8 @@
 -- The job that a working directory and compile words give, in the spelling of GCC's options.
 use Rattle.std.specs.Prelude.{◌≡◌, ◌≤◌, List, [], ◌∷◌, ◌++◌, drop, Bool, true, false, not, ◌&&◌, ◌||◌, ◌==◌, if◌then◌else◌, nat_le, nat_eq, bytes_eq, Option, Some, None, Result, Ok, Err, length, codes, unwrap_or}
 use Rattle.std.specs.List.{list_any, list_all, starts_with, before_last, AllByRecursion}
+use Rattle.base_types.specs.Ascii as ascii
+use Rattle.base_types.specs.Limits.{job_words_limit, word_limit}
 use Rattle.tree_model.specs.Paths.{Text}
 use Rattle.tree_model.specs.Walk.{is_absolute, components, last_of}
 use Rattle.search_path.specs.SetupOf.{SetupData, setup_of}
@@ -44,7 +46,7 @@ has_no_effect word =
 -- an empty word, or one that begins with `-`
 abbrev pub is_no_name : Text → Bool
 is_no_name [] = true
-is_no_name (b ∷ word) = b == 45
+is_no_name (b ∷ word) = b == ascii.minus
 
 unfoldable pub word_without_operand : Text → Word
 word_without_operand word =
@@ -127,7 +129,7 @@ read_on (Some taker) (word ∷ words) given = at_operand (λ waiting more. read_
 
 -- a name up to its last `.`, or the whole of one that has none
 abbrev pub stem : Text → Text
-stem name = if list_any (λ b. b == 46) name then before_last (λ b. b == 46) name else name
+stem name = if list_any (λ b. b == ascii.dot) name then before_last (λ b. b == ascii.dot) name else name
 
 -- the output's name where the words give none: by the last component of the source's name
 unfoldable pub output_of : Text → Text
@@ -171,11 +173,11 @@ finished_job cwd words (Ok given) = with_source cwd words given.source given
 
 -- a working directory begins with `/`, and has at most 4,096 bytes and no byte 0
 unfoldable pub is_directory : Text → Bool
-is_directory cwd = is_absolute cwd && (nat_le (length cwd) 4096 && list_all (λ b. not (b == 0)) cwd)
+is_directory cwd = is_absolute cwd && (nat_le (length cwd) word_limit && list_all (λ b. not (b == 0)) cwd)
 
 -- at most 1,000 words of at most 4,096 bytes
 unfoldable pub are_short : List Text → Bool
-are_short words = nat_le (length words) 1000 && list_all (λ word. nat_le (length word) 4096) words
+are_short words = nat_le (length words) job_words_limit && list_all (λ word. nat_le (length word) word_limit) words
 
 -- the job, or the first reason why there is none: the working directory, the size of the words, the words from left to right,
 -- and at last a source
@@ -204,12 +206,12 @@ JobsKeepWords = (cwd : Text) (words : List Text) (job : JobData) → job_of cwd 
 
 -- a word of 1 to 4,096 bytes
 abbrev pub IsWord : Text → Type 0
-IsWord word = (1 ≤ length word) × (length word ≤ 4096)
+IsWord word = (1 ≤ length word) × (length word ≤ word_limit)
 
 -- a working directory of 1 to 4,096 bytes, and at most 1,000 words, each of 1 to 4,096
 pub record IsShort (cwd : Text) (words : List Text) : Type 0 where
-  pub place : (1 ≤ length cwd) × (length cwd ≤ 4096)
-  pub few : length words ≤ 1000
+  pub place : (1 ≤ length cwd) × (length cwd ≤ word_limit)
+  pub few : length words ≤ job_words_limit
   pub each : AllByRecursion IsWord words
 
 -- no job is read from more, or from nothing

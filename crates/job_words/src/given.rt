@@ -1,5 +1,6 @@
 // What compile words give.
 ghost use Rattle.std.specs.Prelude.{◌≡◌, ◌≤◌, ◌+◌, ◌⊎◌, Some, length, Ok, Err, OnOk, IfErr};
+ghost use Rattle.base_types.specs.Limits.{word_limit};
 ghost use Rattle.job_words.specs.Words as compile;
 ghost use Rattle.job_words.specs.parts.Told.{texts_given, IsText};
 
@@ -55,7 +56,7 @@ impl Given {
 
     // Adds an operand to those of its option, or refuses it.
     pub fn give(&mut self, alloc: Global, taker: Taker, text: &[u8]) -> Result<(), WordError>
-        requires { length text.now ≤ 4096 }
+        requires { length text.now ≤ word_limit }
         ensures given { OnOk result (compile.give taker text.now self.old ≡ Ok self.new) }
         ensures few { OnOk result (texts_given self.new ≤ texts_given self.old + 1) }
         ensures why { IfErr result (λ e. (e ≡ WordError.Memory) ⊎ (compile.give taker text.now self.old ≡ Err e)) }

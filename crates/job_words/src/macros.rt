@@ -2,6 +2,8 @@
 ghost use Rattle.std.specs.Prelude.{◌≡◌, ◌≤◌, ◌+◌, ◌==◌, true, false, length, drop, Some, IfOk, IfErr};
 ghost use Rattle.std.specs.List.{list_any};
 ghost use Rattle.std.specs.Option.{MatchOption};
+ghost use Rattle.base_types.specs.Ascii as ascii;
+ghost use Rattle.base_types.specs.Limits.{body_limit, word_limit};
 ghost use Rattle.job_words.specs.Macros as spec;
 ghost use Rattle.job_words.specs.Macros.{define_line, tokens_of_line, line_at, define_word, undef_word, undef_word_of, defined_word};
 ghost use Rattle.job_words.specs.parts.Told.{IsFirst, IsNoMacro, NoneFrom};
@@ -16,7 +18,7 @@ use std::alloc::{AllocError, Global};
 // What a `-D` says.
 #[tactic(auto, unfolding(crate::specs::Macros::define_word))]
 pub fn define_word(alloc: Global, text: &[u8]) -> Result<MacroWord, WordError>
-    requires { length text.now ≤ 4096 }
+    requires { length text.now ≤ word_limit }
     ensures macros { IfOk result (λ word. define_word text.now ≡ Some word) }
     ensures why { IfErr result (λ e. IsNoMacro e (define_word text.now)) }
 {
@@ -28,7 +30,7 @@ pub fn define_word(alloc: Global, text: &[u8]) -> Result<MacroWord, WordError>
 // What a `-U` says.
 #[tactic(auto, unfolding(crate::specs::Macros::undef_word))]
 pub fn undef_word(alloc: Global, text: &[u8]) -> Result<MacroWord, WordError>
-    requires { length text.now ≤ 4096 }
+    requires { length text.now ≤ word_limit }
     ensures macros { IfOk result (λ word. undef_word text.now ≡ Some word) }
     ensures why { IfErr result (λ e. IsNoMacro e (undef_word text.now)) }
 {
@@ -51,7 +53,7 @@ fn define_line(alloc: Global, text: &[u8]) -> Result<Vec<u8>, AllocError>
 
 // The first `=` of a text.
 fn first_equals(text: &[u8]) -> Option<usize>
-    ensures { MatchOption result (NoneFrom 0 61 text.now) (λ place. IsFirst place 61 text.now) }
+    ensures { MatchOption result (NoneFrom 0 ascii.equals text.now) (λ place. IsFirst place ascii.equals text.now) }
 {
     text.iter().position(|b| *b == b'=')
 }
@@ -59,7 +61,7 @@ fn first_equals(text: &[u8]) -> Option<usize>
 // The tokens of a text that is one line, without a comment that never ends.
 #[tactic(auto, unfolding(crate::specs::Macros::tokens_of_line))]
 fn line_tokens(alloc: Global, text: &[u8]) -> Result<List<Token>, WordError>
-    requires { length text.now ≤ 16777216 }
+    requires { length text.now ≤ body_limit }
     ensures line { IfOk result (λ tokens. tokens_of_line text.now ≡ Some tokens) }
     ensures why { IfErr result (λ e. IsNoMacro e (tokens_of_line text.now)) }
 {
@@ -74,7 +76,7 @@ fn line_tokens(alloc: Global, text: &[u8]) -> Result<List<Token>, WordError>
 }
 
 fn has_newline(text: &[u8]) -> bool
-    ensures { result ≡ list_any (λ b. b == 10) text.now }
+    ensures { result ≡ list_any (λ b. b == ascii.newline) text.now }
 {
     text.iter().any(|b| *b == b'\n')
 }

@@ -1,6 +1,7 @@
 // Reading compile words.
 ghost use Rattle.std.specs.Prelude.{◌≡◌, ◌≤◌, ◌⊎◌, ◌==◌, nat_le, not, ◌++◌, Ok, Err, None, length, unwrap_or, IfOk, IfErr, IsTrue, MatchOption, OnOk};
 ghost use Rattle.std.specs.List.{list_all};
+ghost use Rattle.base_types.specs.Limits.{job_words_limit, word_limit};
 ghost use Rattle.tree_model.specs.Walk as walks;
 ghost use Rattle.job_words.specs.Words as compile;
 ghost use Rattle.job_words.specs.Words.{add_once, each_once, is_directory, are_short, output_of, read_on, job_reading, stem, nothing, with_source};
@@ -10,6 +11,7 @@ use crate::Job;
 use crate::given::{Given, Taker};
 use crate::job::Parts;
 use crate::word::{Word, word_of};
+use base_types::limits::{JOB_WORDS_LIMIT, WORD_LIMIT};
 use base_types::{Bytes, List};
 use search_path::Setup;
 use std::alloc::{AllocError, Global};
@@ -52,12 +54,6 @@ impl From<AllocError> for WordError {
     }
 }
 
-// The greatest length of a working directory and of a word, in bytes.
-const TEXT_LIMIT: usize = 4096;
-
-// The greatest number of words.
-const WORD_LIMIT: usize = 1000;
-
 /// The job that a working directory and compile words give, or the first reason why they give none. Options are those
 /// of GCC: `-I`, `-iquote`, `-isystem`, `-idirafter`, `-include`, `-D`, `-U` and `-o`, each with its operand in the same
 /// word or the next one, and `-trigraphs`; `-c`, `-E`, `-S`, `-w`, `-pipe`, `-pthread`, `-nostdinc` and what begins with
@@ -88,7 +84,7 @@ pub fn read_words(alloc: Global, cwd: &[u8], words: &[Bytes]) -> Result<Job, Wor
 fn is_directory(cwd: &[u8]) -> bool
     ensures { result ≡ is_directory cwd.now }
 {
-    begins_at_root(cwd) && cwd.len() <= TEXT_LIMIT && has_no_zero(cwd)
+    begins_at_root(cwd) && cwd.len() <= WORD_LIMIT && has_no_zero(cwd)
 }
 
 fn begins_at_root(text: &[u8]) -> bool
@@ -109,22 +105,22 @@ fn has_no_zero(text: &[u8]) -> bool
 #[tactic(auto, unfolding(crate::specs::Words::are_short))]
 fn are_short(words: &[Bytes]) -> bool
     ensures test { result ≡ are_short words.now }
-    ensures few { IsTrue result → length words.now ≤ 1000 }
-    ensures short { IsTrue result → IsTrue (list_all (λ word. nat_le (length word) 4096) words.now) }
+    ensures few { IsTrue result → length words.now ≤ job_words_limit }
+    ensures short { IsTrue result → IsTrue (list_all (λ word. nat_le (length word) word_limit) words.now) }
 {
-    words.len() <= WORD_LIMIT && are_texts(words)
+    words.len() <= JOB_WORDS_LIMIT && are_texts(words)
 }
 
 // Each word has at most 4,096 bytes.
 fn are_texts(words: &[Bytes]) -> bool
-    ensures { result ≡ list_all (λ word. nat_le (length word) 4096) words.now }
+    ensures { result ≡ list_all (λ word. nat_le (length word) word_limit) words.now }
 {
-    words.iter().all(|word| word.len() <= TEXT_LIMIT)
+    words.iter().all(|word| word.len() <= WORD_LIMIT)
 }
 
 // What the words give, from left to right.
 fn read_all(alloc: Global, words: &[Bytes]) -> Result<Given, WordError>
-    requires { IsTrue (list_all (λ word. nat_le (length word) 4096) words.now) }
+    requires { IsTrue (list_all (λ word. nat_le (length word) word_limit) words.now) }
     ensures given { IfOk result (λ given. read_on None words.now nothing ≡ Ok given) }
     ensures few { IfOk result (λ given. texts_given given ≤ length words.now) }
     ensures why { IfErr result (λ e. (e ≡ WordError.Memory) ⊎ (read_on None words.now nothing ≡ Err e)) }
@@ -147,7 +143,7 @@ fn read_word(
     word: &[u8],
     given: &mut Given,
 ) -> Result<Option<Taker>, WordError>
-    requires { length word.now ≤ 4096 }
+    requires { length word.now ≤ word_limit }
     ensures { IsReadOn (λ next. at_any next waiting word.now given.old) given.old given.new result }
 {
     match waiting {
@@ -189,7 +185,7 @@ fn read_operand(
     text: &[u8],
     given: &mut Given,
 ) -> Result<Option<Taker>, WordError>
-    requires { length text.now ≤ 4096 }
+    requires { length text.now ≤ word_limit }
     ensures { IsReadOn (λ next. compile.at_operand next taker text.now given.old) given.old given.new result }
 {
     if text.is_empty() {
@@ -213,7 +209,7 @@ fn read_source(alloc: Global, name: &[u8], given: &mut Given) -> Result<Option<T
 // The job of words that were read to their end.
 fn job_of(alloc: Global, cwd: &[u8], words: &[Bytes], given: Given) -> Result<Job, WordError>
     requires read { job_reading cwd.now words.now ≡ with_source cwd.now words.now given.source given }
-    requires few { texts_given given ≤ 1000 }
+    requires few { texts_given given ≤ job_words_limit }
     ensures job { IfOk result (λ job. job_reading cwd.now words.now ≡ Ok job) }
     ensures why { IfErr result (λ e. (e ≡ WordError.Memory) ⊎ (job_reading cwd.now words.now ≡ Err e)) }
 {

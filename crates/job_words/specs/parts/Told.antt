@@ -3,6 +3,7 @@ use Rattle.std.specs.Prelude.{◌≡◌, ◌<◌, ◌≤◌, ◌==◌, ◌⊎◌
 use Rattle.std.specs.Borrow.{Bor}
 use Rattle.std.specs.HashSet.{HashSet, contains_by}
 use Rattle.std.specs.List.{list_any}
+use Rattle.base_types.specs.Limits.{word_limit}
 use Rattle.tree_model.specs.Paths.{Text}
 use Rattle.job_words.specs.declared.given.Given.{Given}
 use Rattle.job_words.specs.declared.given.Taker.{Taker}
@@ -22,7 +23,7 @@ told_word variant.Unknown = NotKnown
 
 -- the operand in an option's word has at most 4,096 bytes
 abbrev pub IsShortWord : Word → Type 0
-IsShortWord (Takes taker text) = length text ≤ 4096
+IsShortWord (Takes taker text) = length text ≤ word_limit
 IsShortWord Trigraphs = Unit {0}
 IsShortWord NoEffect = Unit {0}
 IsShortWord (Source name) = Unit {0}
