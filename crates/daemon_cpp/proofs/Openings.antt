@@ -8,7 +8,7 @@ use Rattle.directive_scan.specs.declared.Malformed.{Malformed}
 use Rattle.directive_scan.specs.declared.Malformed.TheVariants as malformed
 use Rattle.directive_scan.specs.Groups.{role_of, Group, group_pieces, Outline, whole, HasOutline, outline, malformed_by}
 use Rattle.tree_model.specs.Bodies.{body_within}
-use Rattle.tree_model.specs.Trees.{body_limit}
+use Rattle.base_types.specs.Limits.{body_limit}
 use Rattle.tree_model.specs.Paths.{Text, Path, spelled}
 use Rattle.search_path.specs.Search.{Hit}
 use Rattle.daemon_cpp.specs.declared.kept.Kept.{Kept}
