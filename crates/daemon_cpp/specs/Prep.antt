@@ -37,11 +37,10 @@ use Rattle.cond_eval.specs.declared.CondError.{CondError}
 use Rattle.cond_eval.specs.declared.CondError.TheVariants as cond_error
 use Rattle.cond_eval.specs.Constants.{value_behind, is_digit_in}
 use Rattle.cond_eval.specs.Value.{expression_value}
-use Rattle.base_types.specs.Limits.{text_limit}
+use Rattle.base_types.specs.Limits.{body_limit, text_limit}
 use Rattle.cpp_output.specs.Layout.{Event, enter, back, mark, put, pragma}
 use Rattle.cpp_output.specs.Laid.{Laid, begun, after_events, finished}
 use Rattle.tree_model.specs.Paths.{Text, Path, spelled, is_same_path}
-use Rattle.base_types.specs.Limits.{body_limit}
 use Rattle.tree_model.specs.Trees.{FileTree}
 use Rattle.tree_model.specs.Bodies.{body_at_path}
 use Rattle.tree_model.specs.Shown.{presumed_name}
