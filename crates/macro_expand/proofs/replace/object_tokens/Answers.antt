@@ -1,4 +1,4 @@
-use Rattle.std.proofs.Common.{[], None, Ok, ◌∙◌, ap, sym, map}
+use Rattle.std.proofs.Common.{[], None, ◌∙◌, ap, sym, map}
 use Rattle.std.specs.List.{list_any}
 use Rattle.pp_tokens.specs.Marks.{is_pasting}
 use Rattle.macro_defs.specs.MacroDefinition.{without_line}

@@ -1,4 +1,4 @@
-use Rattle.std.proofs.Common.{◌≡◌, ◌++◌, map, drop, None}
+use Rattle.std.proofs.Common.{◌≡◌, ◌++◌, map, drop}
 use Rattle.macro_defs.specs.MacroDefinition.{without_line}
 use Rattle.macro_defs.specs.Arguments.{parameters_in}
 use Rattle.macro_expand.specs.Replacement.{parts_after, one_joins, body_parts}
