@@ -2,10 +2,10 @@
 use Rattle.std.proofs.Common.{◌≡◌, ℕ, zero, suc, ◌+◌, ◌-◌, ◌*◌, ◌/◌, ◌%◌, ◌^◌, ◌<◌, ◌≤◌, List, [], ◌∷◌, ◌++◌, refl, sym, ◌∙◌, ap, arith, Option, Some, None, cond, true, false, Bool, append_assoc, length, length-append, inl, inr}
 use Rattle.std.specs.Prelude.{◌==◌, nat_le, nat_lt, ◌&&◌}
 use Rattle.std.proofs.Math.Nat.{pow-suc}
-use Rattle.std.proofs.lemmas.Bool.{eq-eqb, eqb-true, leb-true, le-leb, lt-leb, lt-ltb, le-ltb}
+use Rattle.std.proofs.lemmas.Bool.{and_parts, eq-eqb, eqb-true, leb-true, le-leb, lt-leb, lt-ltb, le-ltb}
 use Rattle.std.proofs.lemmas.Bool.Decides.{nat_tests}
 use Rattle.job_frames.specs.Fields.{Step, short, refused, taken, ◌>>=◌, letters_at, digits_at, number_at, digit_of, digit, digits, token}
-use Rattle.job_frames.proofs.FieldLemmas.{digit_small, chosen, both}
+use Rattle.job_frames.proofs.FieldLemmas.{digit_small, chosen}
 
 pub digits_length : (k n : ℕ) → length (digits k n) ≡ k
 unfolding digits
@@ -38,9 +38,9 @@ digit_spelled : (b d : ℕ) → digit_of b ≡ Some d → digit d ≡ b
 unfolding digit_of
 digit_spelled b d h =
     elim (chosen (nat_le 48 b && nat_le b 57) (b - 48) (cond (nat_le 97 b && nat_le b 102) (Some (b - 87)) None) d h) [
-      | inl (t, e) ↦ low (both (nat_le 48 b) (nat_le b 57) t) e
+      | inl (t, e) ↦ low (and_parts (nat_le 48 b) (nat_le b 57) t) e
       | inr o ↦ elim (chosen (nat_le 97 b && nat_le b 102) (b - 87) None d o) [
-        | inl (t, e) ↦ high (both (nat_le 97 b) (nat_le b 102) t) e
+        | inl (t, e) ↦ high (and_parts (nat_le 97 b) (nat_le b 102) t) e
         | inr n ↦ absurd (cc)
       ]
     ]

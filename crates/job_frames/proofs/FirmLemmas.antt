@@ -12,8 +12,9 @@ use Rattle.job_words.specs.Words.{job_of}
 use Rattle.job_frames.specs.Fields.{within, fits, bare, room_behind, only}
 use Rattle.job_frames.specs.Formats.{Format, refuses}
 use Rattle.job_frames.specs.Outcomes.{going, reason, whatever_follows}
-use Rattle.job_frames.specs.Request.{Got, Onward, most, dir_then, target_then, link_then, file_body_then, file_then, node_then, judged_then, path_then, name_then, entries_from, image_from, with_job, word_body_then, word_then, words_from, count_from, place_body_from, place_from, request_from, request_at}
-use Rattle.job_frames.specs.parts.Dues.{due_of, is_token}
+use Rattle.base_types.specs.Limits.{request_limit}
+use Rattle.job_frames.specs.Request.{Got, Onward, dir_then, target_then, link_then, file_body_then, file_then, node_then, judged_then, path_then, name_then, entries_from, image_from, with_job, word_body_then, word_then, words_from, count_from, place_body_from, place_from, request_from, request_at}
+use Rattle.job_frames.specs.parts.Dues.{due_of, is_token_due}
 use Rattle.job_frames.proofs.FormatLemmas.{IsReason, IsJudge, Sound, format_firm, firm_verdict, reason_verdict}
 
 -- JUDGES
@@ -42,7 +43,7 @@ chosen_sound : (test : Bool) (f g : Format Got) → Sound f → Sound g → Soun
 chosen_sound true f g a b = a
 chosen_sound false f g a b = b
 
-chosen_token : (test : Bool) (f g : Format Got) → is_token (due_of f) ≡ true → is_token (due_of g) ≡ true → is_token (due_of (cond test f g)) ≡ true
+chosen_token : (test : Bool) (f g : Format Got) → is_token_due (due_of f) ≡ true → is_token_due (due_of g) ≡ true → is_token_due (due_of (cond test f g)) ≡ true
 chosen_token true f g a b = a
 chosen_token false f g a b = b
 
@@ -101,15 +102,15 @@ unfolding words_from word_then word_body_then
 words_sound zero room cwd words = job_sound (job_of cwd words) room
 words_sound (suc k) room cwd words = λ n. (fits_judge room 1 4096 n, λ word. words_sound k (room_behind room n) cwd (words ++ word ∷ []))
 
-pub request_sound : Sound (request_from 0x103 most)
+pub request_sound : Sound (request_from 0x103 request_limit)
 unfolding request_from place_from place_body_from count_from
 request_sound v = (
-  bare_judge most (only 0x103 2 v) (only_judge 0x103 2 v (omega arith, omega arith)),
+  bare_judge request_limit (only 0x103 2 v) (only_judge 0x103 2 v (omega arith, omega arith)),
   λ n. (
-    fits_judge (room_behind most 0) 1 4096 n,
+    fits_judge (room_behind request_limit 0) 1 4096 n,
     λ cwd k. (
-      bare_judge (room_behind (room_behind most 0) n) (within 0 1000 k) (within_judge 0 1000 k),
-      words_sound k (room_behind (room_behind (room_behind most 0) n) 0) cwd [],
+      bare_judge (room_behind (room_behind request_limit 0) n) (within 0 1000 k) (within_judge 0 1000 k),
+      words_sound k (room_behind (room_behind (room_behind request_limit 0) n) 0) cwd [],
     ),
   ),
 )
@@ -117,7 +118,7 @@ request_sound v = (
 -- THE VERDICT
 
 pub request_firm : (bytes more : Text) → (whatever_follows (request_at bytes) ≡ going → ⊥) → whatever_follows (request_at (bytes ++ more)) ≡ whatever_follows (request_at bytes)
-request_firm bytes more due = firm_verdict more (request_at bytes) (request_at (bytes ++ more)) (format_firm (request_from 0x103 most) request_sound bytes more) due
+request_firm bytes more due = firm_verdict more (request_at bytes) (request_at (bytes ++ more)) (format_firm (request_from 0x103 request_limit) request_sound bytes more) due
 
 pub request_reason : (bytes : Text) (n : ℕ) → whatever_follows (request_at bytes) ≡ reason n → (2 ≤ n) × (n ≤ 8)
-request_reason bytes n is = reason_verdict [] (request_at bytes) (request_at (bytes ++ [])) n (format_firm (request_from 0x103 most) request_sound bytes []) is
+request_reason bytes n is = reason_verdict [] (request_at bytes) (request_at (bytes ++ [])) n (format_firm (request_from 0x103 request_limit) request_sound bytes []) is

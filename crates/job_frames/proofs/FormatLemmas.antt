@@ -5,10 +5,10 @@ use Rattle.std.specs.Prelude.{◌==◌, nat_lt}
 use Rattle.std.proofs.lemmas.List.{take-append-le, drop-append-le, take-append-drop}
 use Rattle.std.proofs.lemmas.Bool.{le-ltb, ltb-false}
 use Rattle.tree_model.specs.Paths.{Text}
-use Rattle.job_frames.specs.Fields.{Step, short, refused, taken, ◌>>=◌, digit_of, letters_at, digits_at, number_at, judged, token_at, body_at, token, field, digits}
+use Rattle.job_frames.specs.Fields.{Step, short, refused, taken, ◌>>=◌, digit_of, letters_at, digits_at, number_at, judged, field_token_at, field_body_at, token, field, digits}
 use Rattle.job_frames.specs.Formats.{Format, gives, refuses, due_token, due_body, due_letter, reading}
 use Rattle.job_frames.specs.Outcomes.{going, reason, whatever_follows}
-use Rattle.job_frames.specs.parts.Dues.{due_of, is_token}
+use Rattle.job_frames.specs.parts.Dues.{due_of, is_token_due}
 use Rattle.job_frames.proofs.DigitLemmas.{digits_length, number_read, number_spelled}
 use Rattle.job_frames.proofs.TokenLemmas.{body_there}
 
@@ -27,7 +27,7 @@ Sound (gives a) = Unit {0}
 Sound (refuses n) = IsReason n
 Sound (due_token letters judge next) = (n : ℕ) → IsJudge (judge n) × Sound (next n)
 Sound (due_body n next) = (body : List ℕ) → Sound (next body)
-Sound (due_letter next) = (b : ℕ) → (is_token (due_of (next b)) ≡ true) × Sound (next b)
+Sound (due_letter next) = (b : ℕ) → (is_token_due (due_of (next b)) ≡ true) × Sound (next b)
 
 -- EVERY FORMAT
 
@@ -74,11 +74,11 @@ judged_firm : (o : Option ℕ) (n : ℕ) → IsJudge o → Firm (judged o n)
 judged_firm None n is bytes more = refl
 judged_firm (Some why) n is bytes more = (is, refl)
 
-token_firm : (letters : List ℕ) (judge : ℕ → Option ℕ) → ((n : ℕ) → IsJudge (judge n)) → Firm (token_at letters judge)
+token_firm : (letters : List ℕ) (judge : ℕ → Option ℕ) → ((n : ℕ) → IsJudge (judge n)) → Firm (field_token_at letters judge)
 token_firm letters judge is bytes more = bind_firm more (number_at letters bytes) (number_at letters (bytes ++ more)) (λ n rest. judged (judge n) n rest) (number_firm letters bytes more) (λ n. judged_firm (judge n) n (is n))
 
-body_firm : (n : ℕ) → Firm (body_at n)
-unfolding body_at
+body_firm : (n : ℕ) → Firm (field_body_at n)
+unfolding field_body_at
 body_firm n bytes more = by_test (nat_lt (length bytes) n) refl
   where
     by_test : (t : Bool) → nat_lt (length bytes) n ≡ t
@@ -94,8 +94,8 @@ pub format_firm : {A : Type 0} (f : Format A) → Sound f → Firm (reading f)
 format_firm (gives a) is bytes more = refl
 format_firm (refuses n) is bytes more = (is, refl)
 format_firm (due_token letters judge next) is bytes more =
-    bind_firm more (token_at letters judge bytes) (token_at letters judge (bytes ++ more)) (λ n rest. reading (next n) rest) (token_firm letters judge (λ n. (is n).0) bytes more) (λ n. format_firm (next n) (is n).1)
-format_firm (due_body n next) is bytes more = bind_firm more (body_at n bytes) (body_at n (bytes ++ more)) (λ body rest. reading (next body) rest) (body_firm n bytes more) (λ body. format_firm (next body) (is body))
+    bind_firm more (field_token_at letters judge bytes) (field_token_at letters judge (bytes ++ more)) (λ n rest. reading (next n) rest) (token_firm letters judge (λ n. (is n).0) bytes more) (λ n. format_firm (next n) (is n).1)
+format_firm (due_body n next) is bytes more = bind_firm more (field_body_at n bytes) (field_body_at n (bytes ++ more)) (λ body rest. reading (next body) rest) (body_firm n bytes more) (λ body. format_firm (next body) (is body))
 format_firm (due_letter next) is [] more = tt
 format_firm (due_letter next) is (b ∷ bytes) more = format_firm (next b) (is b).1 (b ∷ bytes) more
 
@@ -140,7 +140,7 @@ Spells (due_letter next) a (b ∷ text) = Spells (next b) a (b ∷ text)
 
 -- a token that its judge lets pass
 token_there : {A : Type 0} (letters rest : Text) (judge : ℕ → Option ℕ) (n : ℕ) (next : ℕ → Text → Step A) → n < 16 ^ 8 → judge n ≡ None
-    → (token_at letters judge (token letters n ++ rest) >>= next) ≡ next n rest
+    → (field_token_at letters judge (token letters n ++ rest) >>= next) ≡ next n rest
 token_there {A} letters rest judge n next h j =
     ap (λ (s : Step ℕ). (s >>= λ m r. judged (judge m) m r) >>= next) (number_read letters rest n h)
     ∙ ap (λ (o : Option ℕ). judged o n rest >>= next) j
@@ -164,7 +164,7 @@ spelling_reads (due_letter next) a (b ∷ text) rest s = spelling_reads (next b)
 
 -- what a token that was read stands in front of
 token_front : {A : Type 0} (letters : Text) (judge : ℕ → Option ℕ) (bytes : Text) (next : ℕ → Text → Step A) (a : A) (rest : Text)
-    → (token_at letters judge bytes >>= next) ≡ taken a rest → TokenFront letters judge (λ n r. next n r ≡ taken a rest) bytes
+    → (field_token_at letters judge bytes >>= next) ≡ taken a rest → TokenFront letters judge (λ n r. next n r ≡ taken a rest) bytes
 token_front {A} letters judge bytes next a rest h = by_number (number_at letters bytes) refl h
   where
     by_judge : (n : ℕ) (r : Text) (o : Option ℕ) → number_at letters bytes ≡ taken n r → judge n ≡ o → (judged o n r >>= next) ≡ taken a rest → TokenFront letters judge (λ m x. next m x ≡ taken a rest) bytes
@@ -176,8 +176,8 @@ token_front {A} letters judge bytes next a rest h = by_number (number_at letters
     by_number (refused why) e g = absurd (cc)
     by_number (taken n r) e g = by_judge n r (judge n) e refl g
 
-body_front : {A : Type 0} (n : ℕ) (bytes : Text) (next : Text → Text → Step A) (a : A) (rest : Text) → (body_at n bytes >>= next) ≡ taken a rest → BodyFront n (λ body r. next body r ≡ taken a rest) bytes
-unfolding body_at
+body_front : {A : Type 0} (n : ℕ) (bytes : Text) (next : Text → Text → Step A) (a : A) (rest : Text) → (field_body_at n bytes >>= next) ≡ taken a rest → BodyFront n (λ body r. next body r ≡ taken a rest) bytes
+unfolding field_body_at
 body_front {A} n bytes next a rest h = by_size (nat_lt (length bytes) n) refl h
   where
     by_size : (t : Bool) → nat_lt (length bytes) n ≡ t → (cond t short (taken (take n bytes) (drop n bytes)) >>= next) ≡ taken a rest → BodyFront n (λ body r. next body r ≡ taken a rest) bytes
@@ -187,7 +187,7 @@ body_front {A} n bytes next a rest h = by_size (nat_lt (length bytes) n) refl h
         record { body = take n bytes; r = drop n bytes; is = sym (take-append-drop n bytes); long = omega (arith, length-take n bytes, enough); then = g }
 
 -- no token is empty
-never_empty : {A : Type 0} (f : Format A) (a : A) → is_token (due_of f) ≡ true → Spells f a [] → ⊥
+never_empty : {A : Type 0} (f : Format A) (a : A) → is_token_due (due_of f) ≡ true → Spells f a [] → ⊥
 never_empty (gives v) a h s = absurd (cc)
 never_empty (refuses n) a h s = s
 never_empty (due_token letters judge next) a h s = absurd (omega (arith, ap length s.is, length-append (token letters s.n) s.r, length-append letters (digits 8 s.n), digits_length 8 s.n))
@@ -199,7 +199,7 @@ pub record Front {A : Type 0} (f : Format A) (a : A) (bytes rest : Text) : Type 
   pub is : bytes ≡ text ++ rest
   pub spells : Spells f a text
 
-at_front : {A : Type 0} (next : ℕ → Format A) (a : A) (b : ℕ) (bytes rest text : Text) → is_token (due_of (next b)) ≡ true → b ∷ bytes ≡ text ++ rest → Spells (next b) a text → Spells (due_letter next) a text
+at_front : {A : Type 0} (next : ℕ → Format A) (a : A) (b : ℕ) (bytes rest text : Text) → is_token_due (due_of (next b)) ≡ true → b ∷ bytes ≡ text ++ rest → Spells (next b) a text → Spells (due_letter next) a text
 at_front next a b bytes rest [] token e s = absurd (never_empty (next b) a token s)
 at_front next a b bytes rest (c ∷ text) token e s = let same : b ≡ c = cc in subst (λ (x : ℕ). Spells (next x) a (c ∷ text)) same s
 

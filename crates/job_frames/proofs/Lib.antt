@@ -5,11 +5,11 @@ mod FormatLemmas
 mod MachineLemmas
 mod ReaderLemmas
 mod StageLemmas
-mod SpellingLemmas
+pub mod SpellingLemmas
 mod SpelledLemmas
 mod ImageLaws
 mod FirmLemmas
-mod TreeLemmas
+pub mod TreeLemmas
 mod WriterLemmas
 mod ShortJobs
 mod ReplySpelling

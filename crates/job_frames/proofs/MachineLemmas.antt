@@ -14,7 +14,7 @@ use Rattle.job_frames.specs.Formats.{Format, refuses, reading}
 use Rattle.job_frames.specs.Outcomes.{number_of}
 use Rattle.job_frames.specs.parts.Filling.{Topped}
 use Rattle.job_frames.specs.parts.Dues.{due_of, size_of, wanted, Went}
-use Rattle.job_frames.specs.parts.Machines.{Moves, Stands, left_to_read, Passed, HasRunTo}
+use Rattle.job_frames.specs.parts.Machines.{Moves, MachineStands, left_to_read, Passed, HasRunTo}
 use Rattle.job_frames.proofs.FieldLemmas.{past_end}
 use Rattle.job_frames.proofs.TokenLemmas.{same_bytes}
 
@@ -59,7 +59,7 @@ pub moved_passed : {F A : Type 0} (format : F → Format A) (rank : F → ℕ) (
 moved_passed format rank keeps field old m new piece at passed h = (passed.0, λ more. h.0 (drop at piece ++ more) ∙ passed.1 more, h.2)
 
 -- how many bytes are wanted
-pub lacks_some : {F A : Type 0} (format : F → Format A) (keeps : F → Type 0) (m : Machine F) (field : Field) → due_of (format m.frame) ≡ Some field → Stands format keeps m → length m.pending.items ≤ size_of field
+pub lacks_some : {F A : Type 0} (format : F → Format A) (keeps : F → Type 0) (m : Machine F) (field : Field) → due_of (format m.frame) ≡ Some field → MachineStands format keeps m → length m.pending.items ≤ size_of field
 lacks_some format keeps m field due stands = subst (λ (o : Option Field). length m.pending.items ≤ wanted o) due stands.fits
 
 -- a machine comes to rest behind a piece
@@ -70,7 +70,7 @@ run_rest {F} {A} format rank keeps field old m filled new piece at n fed.More du
     let few = moves.1 in
     let all : n ≡ length (drop at piece) = elim h.full [ inl e ↦ absurd (omega (arith, e, few)) | inr e ↦ e ] in
     let gone : drop (at + n) piece ≡ [] = past_end piece (at + n) (omega (arith, length-drop at piece, all)) in
-    subst (λ (x : Machine F). ((more : List ℕ) → left_to_read format x more ≡ left_to_read format old (piece ++ more)) × (left_to_read format x [] ≡ short) × Stands format keeps x) (sym moves.0) (
+    subst (λ (x : Machine F). ((more : List ℕ) → left_to_read format x more ≡ left_to_read format old (piece ++ more)) × (left_to_read format x [] ≡ short) × MachineStands format keeps x) (sym moves.0) (
       λ more. ap (λ (d : List ℕ). left_to_read format filled (d ++ more)) (sym gone) ∙ after.1 more,
       moves.2,
       after.2,

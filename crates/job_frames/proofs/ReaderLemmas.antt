@@ -1,7 +1,7 @@
 -- What the calls of a reader say.
 use Rattle.std.proofs.Common.{◌≡◌, ℕ, ◌<◌, ◌≤◌, List, [], ◌++◌, length, drop, refl, sym, ◌∙◌, ap, subst, inl, inr, Option, Some, None, Bool, true, false}
 use Rattle.std.specs.Prelude.{nat_lt}
-use Rattle.std.proofs.lemmas.List.{append-nil}
+use Rattle.std.proofs.lemmas.List.{append-nil, drop_more}
 use Rattle.std.proofs.lemmas.Bool.{ltb-true, ltb-false}
 use Rattle.job_frames.specs.declared.FrameError.{FrameError}
 use Rattle.job_frames.specs.declared.FrameError.TheVariants as why
@@ -13,8 +13,8 @@ use Rattle.job_frames.specs.Fields.{short, refused, taken}
 use Rattle.job_frames.specs.Formats.{Format, gives, reading}
 use Rattle.job_frames.specs.Outcomes.{Verdict, going, done, reason, NotRefused, IsFed, number_of}
 use Rattle.job_frames.specs.parts.Dues.{wanted}
-use Rattle.job_frames.specs.parts.Machines.{Stands, left_to_read, IsWhole, HasRunTo, verdict, rested, left_verdict, Settled, KeepsReader}
-use Rattle.job_frames.proofs.FieldLemmas.{past_end, split_at}
+use Rattle.job_frames.specs.parts.Machines.{MachineStands, left_to_read, IsWholeFrame, HasRunTo, verdict, rested, left_verdict, Settled, KeepsReader}
+use Rattle.job_frames.proofs.FieldLemmas.{past_end}
 use Rattle.job_frames.proofs.TokenLemmas.{whole_is, empty}
 
 -- where all has come, the value is there, and behind it what follows
@@ -24,7 +24,7 @@ pub record Whole {F A : Type 0} (format : F → Format A) (m : Machine F) : Type
   pub none : m.pending.items ≡ []
   pub reads : (bytes : List ℕ) → left_to_read format m bytes ≡ taken value bytes
 
-pub whole : {F A : Type 0} (format : F → Format A) (keeps : F → Type 0) (m : Machine F) → Stands format keeps m → IsWhole (format m.frame) → Whole format m
+pub whole : {F A : Type 0} (format : F → Format A) (keeps : F → Type 0) (m : Machine F) → MachineStands format keeps m → IsWholeFrame (format m.frame) → Whole format m
 whole {F} {A} format keeps m stands is =
     let given = whole_is (format m.frame) is in
     let nothing : m.pending.items ≡ [] = empty m.pending.items (subst (λ (o : Option Field). length m.pending.items ≤ wanted o) is stands.fits) in
@@ -63,7 +63,7 @@ module _ {F A : Type 0} (format : F → Format A) (keeps : F → Type 0) (follow
   whole_says m w = ap (verdict follows) (w.reads []) ∙ verdict_done follows w.value
 
   -- a machine that was left at a verdict is refused by nothing yet
-  pub settled_goes : (m : Machine F) → Stands format keeps m → Settled format m → NotRefused (says m)
+  pub settled_goes : (m : Machine F) → MachineStands format keeps m → Settled format m → NotRefused (says m)
   settled_goes m stands (inl is) n refusal = let w = whole format keeps m stands is in no_reason w.value n (sym (whole_says m w) ∙ refusal)
   settled_goes m stands (inr waits) n refusal = not_going {A = A} n (sym (ap (verdict follows) waits ∙ verdict_going follows) ∙ refusal)
 
@@ -74,13 +74,13 @@ module _ {F A : Type 0} (format : F → Format A) (keeps : F → Type 0) (follow
   pub over : (old new : Machine F) (piece : List ℕ) (at : ℕ) → HasRunTo format keeps old piece new at fed.Done → at < length piece → (more : List ℕ) → verdict false (left_to_read format old (piece ++ more)) ≡ reason 6
   over old new piece at ran is_left more =
       let w = whole format keeps new ran.0.2 ran.1 in
-      ap (verdict false) (sym (ran.0.1 more) ∙ w.reads (drop at piece ++ more)) ∙ ap (λ (d : List ℕ). verdict false (taken w.value (d ++ more))) (split_at piece at is_left)
+      ap (verdict false) (sym (ran.0.1 more) ∙ w.reads (drop at piece ++ more)) ∙ ap (λ (d : List ℕ). verdict false (taken w.value (d ++ more))) (drop_more piece at 0 is_left)
 
 same_error : (e f : FrameError) → fed.Refused e ≡ fed.Refused f → e ≡ f
 same_error e f h = cc
 
 -- a piece that was refused
-pub feed_refused : {F A : Type 0} (format : F → Format A) (keeps : F → Type 0) (follows : Bool) (old new : Machine F) (piece : List ℕ) (at : ℕ) (ran : Fed) (e : FrameError) → Stands format keeps old → Settled format old
+pub feed_refused : {F A : Type 0} (format : F → Format A) (keeps : F → Type 0) (follows : Bool) (old new : Machine F) (piece : List ℕ) (at : ℕ) (ran : Fed) (e : FrameError) → MachineStands format keeps old → Settled format old
     → HasRunTo format keeps old piece new at ran → rested ran follows (nat_lt at (length piece)) ≡ fed.Refused e → IsFed (says format keeps follows old) piece (λ more. reason (number_of e)) (fed.Refused e)
 feed_refused format keeps follows old new piece at fed.More e stands settled h is = absurd (cc)
 feed_refused format keeps true old new piece at fed.Done e stands settled h is = absurd (cc)
@@ -103,7 +103,7 @@ feed_refused {F} {A} format keeps follows old new piece at (fed.Refused f) e sta
 -- a piece that wasn't
 pub feed_goes : {F A : Type 0} (format : F → Format A) (keeps : F → Type 0) (follows : Bool) (old new : Machine F) (piece : List ℕ) (at : ℕ) (ran : Fed) → HasRunTo format keeps old piece new at ran
     → ((e : FrameError) → rested ran follows (nat_lt at (length piece)) ≡ fed.Refused e → ⊥)
-    → IsFed (says format keeps follows old) piece (says format keeps follows new) (rested ran follows (nat_lt at (length piece))) × Stands format keeps new × Settled format new
+    → IsFed (says format keeps follows old) piece (says format keeps follows new) (rested ran follows (nat_lt at (length piece))) × MachineStands format keeps new × Settled format new
 feed_goes {F} {A} format keeps follows old new piece at fed.More h none = (
   inl (all_of format keeps follows old piece ∙ ap (verdict follows) (sym (h.0 []) ∙ h.1) ∙ verdict_going {A = A} follows, λ more. ap (verdict follows) (h.0 more)),
   h.2,
@@ -119,7 +119,7 @@ feed_goes {F} {A} format keeps true old new piece at fed.Done h none =
 feed_goes {F} {A} format keeps false old new piece at fed.Done h none = by_left (nat_lt at (length piece)) refl none
   where
     by_left : (b : Bool) → nat_lt at (length piece) ≡ b → ((e : FrameError) → rested fed.Done false b ≡ fed.Refused e → ⊥)
-        → IsFed (says format keeps false old) piece (says format keeps false new) (rested fed.Done false b) × Stands format keeps new × Settled format new
+        → IsFed (says format keeps false old) piece (says format keeps false new) (rested fed.Done false b) × MachineStands format keeps new × Settled format new
     by_left true l g = absurd (g why.Order refl)
     by_left false l g =
         let w = whole format keeps new h.0.2 h.1 in
@@ -132,7 +132,7 @@ feed_goes {F} {A} format keeps false old new piece at fed.Done h none = by_left 
 feed_goes {F} {A} format keeps follows old new piece at (fed.Refused e) h none = absurd (none e refl)
 
 -- the value that a reader gives in the end
-pub value_is : {F A : Type 0} (format : F → Format A) (keeps : F → Type 0) (follows : Bool) (o : Option FrameError) (m : Machine F) (a : A) → KeepsReader format keeps o m → o ≡ None → IsWhole (format m.frame)
+pub value_is : {F A : Type 0} (format : F → Format A) (keeps : F → Type 0) (follows : Bool) (o : Option FrameError) (m : Machine F) (a : A) → KeepsReader format keeps o m → o ≡ None → IsWholeFrame (format m.frame)
     → ((v : A) → format m.frame ≡ gives v → v ≡ a) → left_verdict follows o (format m.frame) m.pending.items [] ≡ done a
 value_is format keeps follows (Some e) m a kept none is same = absurd (cc)
 value_is format keeps follows None m a kept none is same = let w = whole format keeps m kept.0 is in whole_says format keeps follows m w ∙ ap done (same w.value w.format_is)

@@ -6,7 +6,7 @@ use Rattle.std.proofs.lemmas.List.{append-nil}
 use Rattle.job_frames.specs.declared.answer.Answer.{Answer}
 use Rattle.job_frames.specs.Fields.{taken, token, field, within}
 use Rattle.job_frames.specs.Reply.{reply_bytes, reply_at, reply_from, IsAnswer, allowed, status_judge, done_from, refusal_from, status_from, no_diagnostic_from, diagnostic_from, text_from, text_body_from, diagnostic_body_from, no_text_from}
-use Rattle.job_frames.specs.parts.Dues.{due_of, is_token}
+use Rattle.job_frames.specs.parts.Dues.{due_of, is_token_due}
 use Rattle.job_frames.proofs.FormatLemmas.{IsJudge, Sound, Spells, reads_spelling, field_is}
 use Rattle.job_frames.proofs.FirmLemmas.{within_judge, only_judge, five}
 use Rattle.job_frames.proofs.SpelledLemmas.{only_passes}
@@ -121,7 +121,7 @@ reply_sound b = by_letter (b == 82)
     by_status true = λ n. (allowed_judge 65536 0 0 n, λ k. (allowed_judge 67108864 0 67108864 k, λ text. tt))
     by_status false = λ n. (allowed_judge 65536 1 65536 n, λ words k. (allowed_judge 67108864 0 0 k, tt))
 
-    by_letter : (t : Bool) → (is_token (due_of (cond t (refusal_from 9) (done_from 0x103))) ≡ true) × Sound (cond t (refusal_from 9) (done_from 0x103))
+    by_letter : (t : Bool) → (is_token_due (due_of (cond t (refusal_from 9) (done_from 0x103))) ≡ true) × Sound (cond t (refusal_from 9) (done_from 0x103))
     by_letter true = (refl, λ n. (within_judge 1 9 n, tt))
     by_letter false = (refl, λ v. (only_judge 0x103 2 v (omega arith, omega arith), λ n. (status_sound n, by_status (n == 0))))
 

@@ -12,11 +12,11 @@ use Rattle.job_frames.specs.declared.reply_frame.ReplyDue.{ReplyDue}
 use Rattle.job_frames.specs.declared.reply_frame.ReplyDue.TheVariants as due
 use Rattle.job_frames.specs.Formats.{Format}
 use Rattle.job_frames.specs.Reply.{text_body_from, text_from, no_diagnostic_from, diagnostic_body_from, diagnostic_from, status_from, done_from, refusal_from, reply_from}
-use Rattle.job_frames.specs.parts.Dues.{due_of, is_token, passed, behind_token, at_letter}
-use Rattle.job_frames.specs.parts.ReplyStages.{given, token_format, body_format, format_of, letters_of, judge_of, next_of, answer_of, answer_fits, first_of, field_of, rank, token_rank, Present, Ready}
+use Rattle.job_frames.specs.parts.Dues.{due_of, is_token_due, passed, behind_token, at_letter}
+use Rattle.job_frames.specs.parts.ReplyStages.{given_answer, token_format, body_format, format_of, letters_of, judge_of, next_of, answer_of, answer_fits, first_of, field_of, rank, token_rank, Present, Ready}
 use Rattle.job_frames.proofs.ReplySpelled.{within_passes}
 
-given_whole : (o : Option Answer) → Present o → due_of (given o) ≡ Some (field_of due.Whole)
+given_whole : (o : Option Answer) → Present o → due_of (given_answer o) ≡ Some (field_of due.Whole)
 given_whole None h = absurd h
 given_whole (Some a) h = refl
 
@@ -113,7 +113,7 @@ first_falls c = by_letter (c == 82)
     by_letter false = omega arith
 
 -- which stage has a field
-pub only_token : (d : ReplyDue) (o : Option Field) → o ≡ Some (field_of d) → is_token o ≡ true → ((t : ReplyToken) → d ≡ due.Token t → ⊥) → ⊥
+pub only_token : (d : ReplyDue) (o : Option Field) → o ≡ Some (field_of d) → is_token_due o ≡ true → ((t : ReplyToken) → d ≡ due.Token t → ⊥) → ⊥
 only_token due.Start o e h none = absurd (cc)
 only_token (due.Token t) o e h none = none t refl
 only_token (due.Body b n) o e h none = absurd (cc)

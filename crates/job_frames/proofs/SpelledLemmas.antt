@@ -13,7 +13,8 @@ use Rattle.job_words.specs.declared.job.Job.{Job}
 use Rattle.job_words.specs.Words.{job_of, JobsKeepWords}
 use Rattle.job_frames.specs.Fields.{taken, token, field, within, only, fits, bare, room_behind}
 use Rattle.job_frames.specs.Formats.{refuses}
-use Rattle.job_frames.specs.Request.{node_bytes, entry_bytes, image_bytes, Got, Onward, most, node_then, dir_then, link_then, target_then, file_then, file_body_then, judged_then, path_then, name_then, entries_from, image_from, with_job, word_body_then, word_then, words_from, count_from, place_body_from, place_from, request_from, request_at, request_bytes, IsSpellable, MayFollow, AreWords, IsRequest}
+use Rattle.base_types.specs.Limits.{request_limit}
+use Rattle.job_frames.specs.Request.{node_bytes, entry_bytes, image_bytes, Got, Onward, node_then, dir_then, link_then, target_then, file_then, file_body_then, judged_then, path_then, name_then, entries_from, image_from, with_job, word_body_then, word_then, words_from, count_from, place_body_from, place_from, request_from, request_at, request_bytes, IsSpellable, MayFollow, AreWords, IsRequest}
 use Rattle.job_frames.proofs.StageLemmas.{path_spelled, judged_good}
 use Rattle.job_frames.proofs.FormatLemmas.{TokenFront, BodyFront, Spells, reads_spelling, field_is}
 use Rattle.job_frames.proofs.FirmLemmas.{request_sound}
@@ -270,10 +271,10 @@ pub record RequestRead (text : List ℕ) (got : Got) : Type 0 where
 
 -- all parts of a request, put together
 assembled : (text cwd vr pr ar wr : List ℕ) (words : List (List ℕ)) (job : Job) (got : Got) → JobsKeepWords → job_of cwd words ≡ Some job
-    → text ≡ token (codes "DIST") 0x103 ++ vr → vr ≡ field (codes "CDIR") cwd ++ pr → InLimits (room_behind most 0) 1 4096 (length cwd)
-    → pr ≡ token (codes "ARGC") (length words) ++ ar → length words ≤ 1000 → 12 ≤ room_behind (room_behind most 0) (length cwd)
-    → ar ≡ flat_map (field (codes "ARGV")) words ++ wr → AreWords words → length (flat_map (field (codes "ARGV")) words) ≤ room_behind (room_behind (room_behind most 0) (length cwd)) 0
-    → ImageRead (Some job) (room_behind (room_behind (room_behind most 0) (length cwd)) 0 - length (flat_map (field (codes "ARGV")) words)) wr got
+    → text ≡ token (codes "DIST") 0x103 ++ vr → vr ≡ field (codes "CDIR") cwd ++ pr → InLimits (room_behind request_limit 0) 1 4096 (length cwd)
+    → pr ≡ token (codes "ARGC") (length words) ++ ar → length words ≤ 1000 → 12 ≤ room_behind (room_behind request_limit 0) (length cwd)
+    → ar ≡ flat_map (field (codes "ARGV")) words ++ wr → AreWords words → length (flat_map (field (codes "ARGV")) words) ≤ room_behind (room_behind (room_behind request_limit 0) (length cwd)) 0
+    → ImageRead (Some job) (room_behind (room_behind (room_behind request_limit 0) (length cwd)) 0 - length (flat_map (field (codes "ARGV")) words)) wr got
     → RequestRead text got
 unfolding request_bytes
 assembled text cwd vr pr ar wr words job got keeps is_job e1 e2 limits e3 few room e4 are small_words m =
@@ -290,7 +291,7 @@ assembled text cwd vr pr ar wr words job got keeps is_job e1 e2 limits e3 few ro
     let l4 = length-append ws image in
     let inside = limits.fits_is in
     let last = m.small in
-    let small : length (token (codes "DIST") 0x103 ++ (field (codes "CDIR") cwd ++ (token (codes "ARGC") (length words) ++ (ws ++ image)))) ≤ most = omega (arith, l1, l2, l3, l4, version, place, count, inside, room, small_words, last) in
+    let small : length (token (codes "DIST") 0x103 ++ (field (codes "CDIR") cwd ++ (token (codes "ARGC") (length words) ++ (ws ++ image)))) ≤ request_limit = omega (arith, l1, l2, l3, l4, version, place, count, inside, room, small_words, last) in
     let request : IsRequest job m.es =
     record {
       is_job = ap (λ (x : List ℕ). job_of x job.words) parts.0 ∙ ap (job_of cwd) parts.1 ∙ is_job;
@@ -299,7 +300,7 @@ assembled text cwd vr pr ar wr words job got keeps is_job e1 e2 limits e3 few ro
       words = subst AreWords (sym parts.1) are;
       few = m.few;
       follow = m.follow;
-      small = subst (λ (k : ℕ). k ≤ most) (ap length (spelling parts.0 parts.1)) small;
+      small = subst (λ (k : ℕ). k ≤ request_limit) (ap length (spelling parts.0 parts.1)) small;
     } in
     record {
       job = job;
@@ -314,45 +315,45 @@ assembled text cwd vr pr ar wr words job got keeps is_job e1 e2 limits e3 few ro
     spelling c w = ap (λ (x : List ℕ). token (codes "DIST") 0x103 ++ (field (codes "CDIR") x ++ (token (codes "ARGC") (length words) ++ (flat_map (field (codes "ARGV")) words ++ image_bytes m.es)))) (sym c)
         ∙ ap (λ (ws : List (List ℕ)). token (codes "DIST") 0x103 ++ (field (codes "CDIR") job.setup.cwd ++ (token (codes "ARGC") (length ws) ++ (flat_map (field (codes "ARGV")) ws ++ image_bytes m.es)))) (sym w)
 
-pub request_spelled : JobsKeepWords → (text : List ℕ) (got : Got) → Spells (request_from 0x103 most) got text → RequestRead text got
+pub request_spelled : JobsKeepWords → (text : List ℕ) (got : Got) → Spells (request_from 0x103 request_limit) got text → RequestRead text got
 unfolding request_from place_from place_body_from count_from request_bytes
 request_spelled keeps text got v = by_job (job_of p.body w.words) refl w.then
   where
-    t : TokenFront (codes "CDIR") (fits (room_behind most 0) 1 4096) (λ n r. Spells (place_body_from (room_behind (room_behind most 0) n) n) got r) v.r
+    t : TokenFront (codes "CDIR") (fits (room_behind request_limit 0) 1 4096) (λ n r. Spells (place_body_from (room_behind (room_behind request_limit 0) n) n) got r) v.r
     t = v.then
 
-    p : BodyFront t.n (λ cwd r. Spells (count_from (room_behind (room_behind most 0) t.n) cwd) got r) t.r
+    p : BodyFront t.n (λ cwd r. Spells (count_from (room_behind (room_behind request_limit 0) t.n) cwd) got r) t.r
     p = t.then
 
-    a : TokenFront (codes "ARGC") (λ n. bare (room_behind (room_behind most 0) t.n) (within 0 1000 n)) (λ n r. Spells (words_from n (room_behind (room_behind (room_behind most 0) t.n) 0) p.body []) got r) p.r
+    a : TokenFront (codes "ARGC") (λ n. bare (room_behind (room_behind request_limit 0) t.n) (within 0 1000 n)) (λ n r. Spells (words_from n (room_behind (room_behind (room_behind request_limit 0) t.n) 0) p.body []) got r) p.r
     a = p.then
 
-    w : WordsRead a.n (room_behind (room_behind (room_behind most 0) t.n) 0) p.body [] a.r got
-    w = words_read a.n (room_behind (room_behind (room_behind most 0) t.n) 0) p.body [] a.r got a.then
+    w : WordsRead a.n (room_behind (room_behind (room_behind request_limit 0) t.n) 0) p.body [] a.r got
+    w = words_read a.n (room_behind (room_behind (room_behind request_limit 0) t.n) 0) p.body [] a.r got a.then
 
-    by_job : (o : Option Job) → job_of p.body w.words ≡ o → Spells (with_job o (room_behind (room_behind (room_behind most 0) t.n) 0 - length (flat_map (field (codes "ARGV")) w.words))) got w.r → RequestRead text got
+    by_job : (o : Option Job) → job_of p.body w.words ≡ o → Spells (with_job o (room_behind (room_behind (room_behind request_limit 0) t.n) 0 - length (flat_map (field (codes "ARGV")) w.words))) got w.r → RequestRead text got
     by_job None e g = absurd g
     by_job (Some job) e g =
-        let passes = bare_passes most (only 0x103 2 v.n) v.passes in
+        let passes = bare_passes request_limit (only 0x103 2 v.n) v.passes in
         let version : v.n ≡ 0x103 = only_passes 0x103 2 v.n passes.0 in
-        let counts = bare_passes (room_behind (room_behind most 0) t.n) (within 0 1000 a.n) a.passes in
-        let limits = fits_passes (room_behind most 0) 1 4096 t.n t.passes in
+        let counts = bare_passes (room_behind (room_behind request_limit 0) t.n) (within 0 1000 a.n) a.passes in
+        let limits = fits_passes (room_behind request_limit 0) 1 4096 t.n t.passes in
         let size = p.long in
-        let m = image_spelled (Some job) (room_behind (room_behind (room_behind most 0) t.n) 0 - length (flat_map (field (codes "ARGV")) w.words)) w.r got g in
+        let m = image_spelled (Some job) (room_behind (room_behind (room_behind request_limit 0) t.n) 0 - length (flat_map (field (codes "ARGV")) w.words)) w.r got g in
         assembled text p.body v.r p.r a.r w.r w.words job got keeps e
         (v.is ∙ ap (λ (k : ℕ). token (codes "DIST") k ++ v.r) version)
         (field_is (codes "CDIR") v.r p.body t.r p.r t.n t.is p.is p.long)
-        (subst (InLimits (room_behind most 0) 1 4096) (sym size) limits)
+        (subst (InLimits (room_behind request_limit 0) 1 4096) (sym size) limits)
         (a.is ∙ ap (λ (k : ℕ). token (codes "ARGC") k ++ a.r) (sym w.count))
         (subst (λ (k : ℕ). k ≤ 1000) (sym w.count) (within_passes 1000 a.n counts.0))
-        (subst (λ (k : ℕ). 12 ≤ room_behind (room_behind most 0) k) (sym size) counts.1)
+        (subst (λ (k : ℕ). 12 ≤ room_behind (room_behind request_limit 0) k) (sym size) counts.1)
         w.is w.are
-        (subst (λ (k : ℕ). length (flat_map (field (codes "ARGV")) w.words) ≤ room_behind (room_behind (room_behind most 0) k) 0) (sym size) w.small)
-        (subst (λ (k : ℕ). ImageRead (Some job) (room_behind (room_behind (room_behind most 0) k) 0 - length (flat_map (field (codes "ARGV")) w.words)) w.r got) (sym size) m)
+        (subst (λ (k : ℕ). length (flat_map (field (codes "ARGV")) w.words) ≤ room_behind (room_behind (room_behind request_limit 0) k) 0) (sym size) w.small)
+        (subst (λ (k : ℕ). ImageRead (Some job) (room_behind (room_behind (room_behind request_limit 0) k) 0 - length (flat_map (field (codes "ARGV")) w.words)) w.r got) (sym size) m)
 
 -- what a request was read from is its spelling, with what follows
 pub requests_spelled : JobsKeepWords → (bytes : List ℕ) (got : Got) (rest : List ℕ) → request_at bytes ≡ taken got rest → (job : Job) × (got.job ≡ Some job) × IsRequest job got.entries × (bytes ≡ request_bytes job got.entries ++ rest)
 requests_spelled keeps bytes got rest h =
-    let front = reads_spelling (request_from 0x103 most) got bytes rest request_sound h in
+    let front = reads_spelling (request_from 0x103 request_limit) got bytes rest request_sound h in
     let m = request_spelled keeps front.text got front.spells in
     (m.job, m.got_job, m.request, front.is ∙ ap (λ (t : List ℕ). t ++ rest) m.is)

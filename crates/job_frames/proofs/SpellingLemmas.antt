@@ -14,7 +14,8 @@ use Rattle.job_words.specs.Words.{job_of}
 use Rattle.job_frames.specs.Fields.{taken, token, field, digits, within, fits, bare, room_behind}
 use Rattle.job_frames.specs.Formats.{refuses}
 use Rattle.job_frames.specs.Outcomes.{done, whatever_follows}
-use Rattle.job_frames.specs.Request.{node_bytes, entry_bytes, image_bytes, Got, Onward, most, node_then, dir_then, link_then, target_then, file_then, file_body_then, judged_then, path_then, name_then, entries_from, image_from, with_job, word_body_then, word_then, words_from, count_from, place_body_from, place_from, request_from, request_at, request_bytes, IsSpellable, MayFollow, AreWords, IsRequest}
+use Rattle.base_types.specs.Limits.{request_limit}
+use Rattle.job_frames.specs.Request.{node_bytes, entry_bytes, image_bytes, Got, Onward, node_then, dir_then, link_then, target_then, file_then, file_body_then, judged_then, path_then, name_then, entries_from, image_from, with_job, word_body_then, word_then, words_from, count_from, place_body_from, place_from, request_from, request_at, request_bytes, IsSpellable, MayFollow, AreWords, IsRequest}
 use Rattle.job_frames.proofs.DigitLemmas.{digits_length}
 use Rattle.job_frames.proofs.FormatLemmas.{Spells, spelling_reads, apart, field_spells}
 
@@ -106,7 +107,7 @@ words_spell (w ∷ words) before room cwd got rest are h s =
     (subst (λ (ws : List (List ℕ)). Spells (with_job (job_of cwd ws) ((room - (12 + length w)) - length more)) got rest) (sym (append_assoc before (w ∷ []) words))
     (subst (λ k. Spells (with_job (job_of cwd (before ++ w ∷ words)) k) got rest) gone s))))
 
-pub request_spells : (job : Job) (es : Entries) → IsRequest job es → Spells (request_from 0x103 most) (record { job = Some job; entries = es }) (request_bytes job es)
+pub request_spells : (job : Job) (es : Entries) → IsRequest job es → Spells (request_from 0x103 request_limit) (record { job = Some job; entries = es }) (request_bytes job es)
 unfolding request_from place_from place_body_from count_from request_bytes
 request_spells job es is =
     let got : Got = record { job = Some job; entries = es } in
@@ -120,7 +121,7 @@ request_spells job es is =
     let l3 = length-append (token (codes "ARGC") (length job.words)) (ws ++ image) in
     let l4 = length-append ws image in
     let small = is.small in
-    let room1 = room_behind most 0 in
+    let room1 = room_behind request_limit 0 in
     let room2 = room_behind room1 (length job.setup.cwd) in
     let room3 = room_behind room2 0 in
     record {
@@ -144,13 +145,13 @@ request_spells job es is =
     }
 
 pub request_read : (job : Job) (es : Entries) (rest : List ℕ) → IsRequest job es → request_at (request_bytes job es ++ rest) ≡ taken (record { job = Some job; entries = es }) rest
-request_read job es rest is = spelling_reads (request_from 0x103 most) (record { job = Some job; entries = es }) (request_bytes job es) rest (request_spells job es is)
+request_read job es rest is = spelling_reads (request_from 0x103 request_limit) (record { job = Some job; entries = es }) (request_bytes job es) rest (request_spells job es is)
 
 -- what two values have in common, where one's spelling begins the other's, with what follows
 pub request_one : (job other : Job) (es fs : Entries) (x y : List ℕ) → IsRequest job es → IsRequest other fs → request_bytes job es ++ x ≡ request_bytes other fs ++ y
     → (job ≡ other) × (es ≡ fs) × (x ≡ y)
 request_one job other es fs x y a b e =
-    let one = apart (request_from 0x103 most) (record { job = Some job; entries = es }) (record { job = Some other; entries = fs }) (request_bytes job es) (request_bytes other fs) x y (request_spells job es a) (request_spells other fs b) e in
+    let one = apart (request_from 0x103 request_limit) (record { job = Some job; entries = es }) (record { job = Some other; entries = fs }) (request_bytes job es) (request_bytes other fs) x y (request_spells job es a) (request_spells other fs b) e in
     let jobs : Some job ≡ Some other = ap (λ (g : Got). g.job) one.0 in
     (cc, ap (λ (g : Got). g.entries) one.0, one.1)
 

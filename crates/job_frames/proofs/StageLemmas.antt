@@ -1,10 +1,8 @@
 -- What a field of a request or an image that is due, and what is due behind it, are.
 use Rattle.std.proofs.Common.{◌≡◌, ℕ, ◌+◌, ◌-◌, ◌*◌, ◌<◌, arith, List, [], ◌∷◌, ◌++◌, length, refl, sym, ◌∙◌, ap, subst, Option, Some, None, cond, true, false, Bool}
 use Rattle.std.specs.Prelude.{◌==◌, ◌&&◌, nat_le, nat_eq, Result, Ok, Err}
-use Rattle.std.specs.Result.{is_err}
-use Rattle.std.specs.Prelude.{OnOk}
 use Rattle.std.specs.List.{list_all}
-use Rattle.std.proofs.lemmas.Bool.{eqb-true}
+use Rattle.std.proofs.lemmas.Bool.{and_from, and_parts, eqb-true}
 use Rattle.std.proofs.lemmas.List.Folds.{list_all-append}
 use lib.Pointwise.{pointwise}
 use Rattle.tree_model.specs.Paths.{spelled, path_of, is_name, names_of}
@@ -24,9 +22,8 @@ use Rattle.job_frames.specs.declared.request_frame.Read.{Read}
 use Rattle.job_frames.specs.Formats.{Format}
 use Rattle.job_frames.specs.Request.{Got, entries_from, name_then, path_then, node_then, dir_then, link_then, target_then, file_then, file_body_then, image_from, words_from, word_then, word_body_then, count_from, place_body_from, place_from, request_from}
 use Rattle.job_frames.specs.Fields.{room_behind}
-use Rattle.job_frames.specs.parts.Dues.{due_of, is_token, passed, behind_token, at_letter}
-use Rattle.job_frames.specs.parts.Stages.{at_path, token_format, body_format, format_of, letters_of, judge_of, length_of, field_of, token_of, token_next, token_rank, PathReady, TokenReady, Ready}
-use Rattle.job_frames.proofs.FieldLemmas.{both}
+use Rattle.job_frames.specs.parts.Dues.{due_of, is_token_due, passed, behind_token, at_letter}
+use Rattle.job_frames.specs.parts.Stages.{at_path, token_format, body_format, format_of, letters_of, judge_of, length_of, field_of, node_token_of, token_next, token_rank, PathReady, TokenReady, Ready}
 
 -- AT A PATH
 
@@ -76,7 +73,7 @@ number_goes (token.Link k) r n ready = at_path_token r.entries r.path _ _ n (jud
 number_goes (token.File k) r n ready = at_path_token r.entries r.path _ _ n (judge_of (token.File k) r n) ready (λ p. refl)
 
 -- what is due at the first letter of a node's token
-pub node_goes : (k c : ℕ) (r : Read) → PathReady r.entries r.path → at_letter (format_of (due.Kind k) r) c ≡ token_format (token_of c k) r
+pub node_goes : (k c : ℕ) (r : Read) → PathReady r.entries r.path → at_letter (format_of (due.Kind k) r) c ≡ token_format (node_token_of c k) r
 unfolding token_format node_then
 node_goes k c r ready = by_path r.path ready
   where
@@ -86,11 +83,11 @@ node_goes k c r ready = by_path r.path ready
     by_letter false true p = refl
     by_letter false false p = refl
 
-    by_path : (o : Option Names) → PathReady r.entries o → at_letter (at_path o (λ p. node_then (entries_from r.job k) r.room r.entries p)) c ≡ token_format (token_of c k) (record r { path = o })
+    by_path : (o : Option Names) → PathReady r.entries o → at_letter (at_path o (λ p. node_then (entries_from r.job k) r.room r.entries p)) c ≡ token_format (node_token_of c k) (record r { path = o })
     by_path None ready = absurd ready
     by_path (Some p) ready = by_letter (c == 77) (c == 76) p
 
-pub node_ready : (k c : ℕ) (r : Read) → PathReady r.entries r.path → TokenReady (token_of c k) r
+pub node_ready : (k c : ℕ) (r : Read) → PathReady r.entries r.path → TokenReady (node_token_of c k) r
 node_ready k c r ready = by_letter (c == 77) (c == 76)
   where
     by_letter : (a b : Bool) → TokenReady (cond a (token.Dir k) (cond b (token.Link k) (token.File k))) r
@@ -98,7 +95,7 @@ node_ready k c r ready = by_letter (c == 77) (c == 76)
     by_letter false true = ready
     by_letter false false = ready
 
-pub node_falls : (k c : ℕ) → token_rank (token_of c k) < 4 + 6 * k
+pub node_falls : (k c : ℕ) → token_rank (node_token_of c k) < 4 + 6 * k
 unfolding token_rank
 node_falls k c = by_letter (c == 77) (c == 76)
   where
@@ -108,7 +105,7 @@ node_falls k c = by_letter (c == 77) (c == 76)
     by_letter false false = omega arith
 
 -- which stage has a field
-pub only_token : (d : Due) (o : Option Field) → o ≡ Some (field_of d) → is_token o ≡ true → ((t : Token) → d ≡ due.Token t → ⊥) → ⊥
+pub only_token : (d : Due) (o : Option Field) → o ≡ Some (field_of d) → is_token_due o ≡ true → ((t : Token) → d ≡ due.Token t → ⊥) → ⊥
 only_token (due.Token t) o e h none = none t refl
 only_token (due.Body b n) o e h none = absurd (cc)
 only_token (due.Kind k) o e h none = absurd (cc)
@@ -132,25 +129,17 @@ only_whole (due.Body b n) o e h = absurd (cc)
 only_whole (due.Kind k) o e h = absurd (cc)
 only_whole due.Whole o e h = refl
 
--- the value of what was done
-pub on_ok : {A E P : Type 0} (r : Result A E) → false ≡ is_err r → OnOk r P → P
-on_ok (Ok a) e h = h
-on_ok (Err x) e h = absurd (cc)
-
 -- ENTRIES
 
 push_all : (t : List (List ℕ) × Entry → Bool) (es : List (List (List ℕ) × Entry)) (e : List (List ℕ) × Entry) → list_all t es ≡ true → t e ≡ true → list_all t (es ++ e ∷ []) ≡ true
 push_all t es e h k = rw (list_all-append t es (e ∷ []), h, k) refl
 
-pub conjoined : (a b : Bool) → a ≡ true → b ≡ true → (a && b) ≡ true
-conjoined a b h k = rw (h, k) refl
-
 pub increasing_push : (es : List (List (List ℕ) × Entry)) (p : List (List ℕ)) (e : Entry) → Increasing es → comes_behind es (spelled p) ≡ true → Increasing (es ++ (p, e) ∷ [])
 increasing_push [] p e h k = refl
 increasing_push (f ∷ es) p e h k =
-    let pair : (below (spelled f.0) (spelled p) ≡ true) × (comes_behind es (spelled p) ≡ true) = both (below (spelled f.0) (spelled p)) (comes_behind es (spelled p)) k in
-    let first : (list_all (λ g. below (spelled f.0) (spelled g.0)) es ≡ true) × (is_increasing es ≡ true) = both (list_all (λ g. below (spelled f.0) (spelled g.0)) es) (is_increasing es) h in
-    conjoined _ _ (push_all (λ g. below (spelled f.0) (spelled g.0)) es (p, e) first.0 pair.0) (increasing_push es p e first.1 pair.1)
+    let pair : (below (spelled f.0) (spelled p) ≡ true) × (comes_behind es (spelled p) ≡ true) = and_parts (below (spelled f.0) (spelled p)) (comes_behind es (spelled p)) k in
+    let first : (list_all (λ g. below (spelled f.0) (spelled g.0)) es ≡ true) × (is_increasing es ≡ true) = and_parts (list_all (λ g. below (spelled f.0) (spelled g.0)) es) (is_increasing es) h in
+    and_from _ _ (push_all (λ g. below (spelled f.0) (spelled g.0)) es (p, e) first.0 pair.0) (increasing_push es p e first.1 pair.1)
 
 -- PATHS
 
@@ -159,7 +148,7 @@ pointwise_same [] [] h = refl
 pointwise_same [] (y ∷ b) h = absurd (cc)
 pointwise_same (x ∷ a) [] h = absurd (cc)
 pointwise_same (x ∷ a) (y ∷ b) h =
-    let pair : (nat_eq x y ≡ true) × (pointwise nat_eq a b ≡ true) = both (nat_eq x y) (pointwise nat_eq a b) h in
+    let pair : (nat_eq x y ≡ true) × (pointwise nat_eq a b ≡ true) = and_parts (nat_eq x y) (pointwise nat_eq a b) h in
     rw (eqb-true x y pair.0, pointwise_same a b pair.1) refl
 
 pub path_spelled : (text : List ℕ) (p : List (List ℕ)) → path_of text ≡ Some p → spelled p ≡ text

@@ -4,19 +4,19 @@ use Rattle.std.proofs.lemmas.List.{append-nil, take-append-drop}
 use Rattle.std.proofs.lemmas.Bool.{lt-ltb, le-ltb}
 use Rattle.std.proofs.Math.Seq.{take-append_seam, drop-append_seam}
 use Rattle.job_frames.specs.declared.field.Field.TheVariants.{Token, Body, Whole}
-use Rattle.job_frames.specs.Fields.{Step, short, refused, taken, ◌>>=◌, number_at, judged, body_at}
+use Rattle.job_frames.specs.Fields.{Step, short, refused, taken, ◌>>=◌, number_at, judged, field_body_at}
 use Rattle.job_frames.specs.Formats.{Format, gives, refuses, due_token, due_body, due_letter, reading}
 use Rattle.job_frames.specs.parts.Dues.{due_of, passed, behind_token, behind_body}
 use Rattle.job_frames.proofs.FieldLemmas.{number_onward, number_refused}
 
 -- BODIES
 
-pub body_short : (n : ℕ) (p : List ℕ) → length p < n → body_at n (p ++ []) ≡ short
-unfolding body_at
+pub body_short : (n : ℕ) (p : List ℕ) → length p < n → field_body_at n (p ++ []) ≡ short
+unfolding field_body_at
 body_short n p h = rw (append-nil p) (rw (lt-ltb (length p) n h) refl)
 
-pub body_there : (n : ℕ) (p more : List ℕ) → length p ≡ n → body_at n (p ++ more) ≡ taken p more
-unfolding body_at
+pub body_there : (n : ℕ) (p more : List ℕ) → length p ≡ n → field_body_at n (p ++ more) ≡ taken p more
+unfolding field_body_at
 body_there n p more h =
     let long : n ≤ length (p ++ more) = omega (arith, length-append p more) in
     rw (le-ltb (length (p ++ more)) n long) (rw (take-all p more n h, drop-all p more n h) refl)
@@ -69,13 +69,13 @@ token_fails {A} f letters p more why due e = token_is f letters (p ++ more) due 
 pub token_passes : {A : Type 0} (f : Format A) (letters p more : List ℕ) (n : ℕ) → due_of f ≡ Some (Token letters) → number_at letters p ≡ taken n [] → reading f (p ++ more) ≡ reading (behind_token f n) more
 token_passes {A} f letters p more n due e = token_is f letters (p ++ more) due ∙ ap (λ (s : Step ℕ). s >>= λ m rest. reading (behind_token f m) rest) (number_onward letters p [] more n e)
 
-body_is : {A : Type 0} (f : Format A) (n : ℕ) (bytes : List ℕ) → due_of f ≡ Some (Body n) → reading f bytes ≡ (body_at n bytes >>= λ b rest. reading (behind_body f b) rest)
+body_is : {A : Type 0} (f : Format A) (n : ℕ) (bytes : List ℕ) → due_of f ≡ Some (Body n) → reading f bytes ≡ (field_body_at n bytes >>= λ b rest. reading (behind_body f b) rest)
 body_is (gives a) n bytes h = absurd (cc)
 body_is (refuses m) n bytes h = absurd (cc)
 body_is (due_token due judge next) n bytes h = absurd (cc)
 body_is {A} (due_body m next) n bytes h =
     let same : m ≡ n = cc in
-    ap (λ (k : ℕ). body_at k bytes >>= λ b rest. reading (next b) rest) same
+    ap (λ (k : ℕ). field_body_at k bytes >>= λ b rest. reading (next b) rest) same
 body_is (due_letter next) n bytes h = absurd (cc)
 
 pub body_waits : {A : Type 0} (f : Format A) (n : ℕ) (p : List ℕ) → due_of f ≡ Some (Body n) → length p < n → reading f (p ++ []) ≡ short

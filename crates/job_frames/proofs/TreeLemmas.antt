@@ -3,21 +3,22 @@ use Rattle.std.proofs.Common.{◌≡◌, ℕ, zero, suc, ◌<◌, ◌≤◌, Lis
 use Rattle.std.specs.Prelude.{◌==◌, nat_le, nat_lt, not, ◌&&◌, All, slice_index_or}
 use Rattle.std.specs.List.{list_any, list_all, AllByRecursion}
 use Rattle.std.proofs.lemmas.List.{append-nil}
-use Rattle.std.proofs.lemmas.Bool.{le-leb, leb-true, ltb-true, lt-ltb}
-use Rattle.tree_model.specs.Paths.{Path, slash, spelled, spelled_below, is_name, is_canonical}
+use Rattle.std.proofs.lemmas.Bool.{and_parts, le-leb, leb-true, ltb-true, lt-ltb}
+use Rattle.base_types.specs.Ascii.{slash}
+use Rattle.tree_model.specs.Paths.{Path, spelled, spelled_below, is_name, is_canonical}
 use Rattle.tree_model.specs.Entries.{Entries, has_parent, is_increasing, parents_stand, entry_fits, links_fit, body_fits, bodies_fit, makes_tree}
 use Rattle.tree_model.specs.declared.entry.Entry.{Entry}
 use Rattle.tree_model.specs.declared.entry.Entry.TheVariants.{Dir, File, Link}
 use Rattle.tree_model.specs.Laws.{JudgedMakeTrees, EntriesAreJudged}
 use Rattle.job_words.specs.declared.job.Job.{Job}
 use Rattle.job_words.specs.Words.{IsWord}
-use Rattle.job_frames.specs.Request.{most, request_bytes, IsSpellable, MayFollow, IsSmall, IsRequest, FitsRequest, HasSpelling}
-use Rattle.job_frames.proofs.FieldLemmas.{both}
+use Rattle.base_types.specs.Limits.{request_limit}
+use Rattle.job_frames.specs.Request.{request_bytes, IsSpellable, MayFollow, IsSmall, IsRequest, FitsRequest, HasSpelling}
 use Rattle.job_frames.proofs.StageLemmas.{judged_good}
 
 -- FROM A REQUEST TO A TREE
 
-fits_entry : (e : Entry) → IsSpellable e → entry_fits e ≡ true
+pub fits_entry : (e : Entry) → IsSpellable e → entry_fits e ≡ true
 fits_entry Dir is = refl
 fits_entry (File body) is = refl
 fits_entry (Link text) is = rw (lt-ltb 0 (length text) (omega (arith, is.0)), lt-ltb (length text) 4096 (omega (arith, is.1)), is.2) refl
@@ -49,8 +50,8 @@ node_is : (e : Entry) → entry_fits e ≡ true → IsSmall e → IsSpellable e
 node_is Dir fits small = tt
 node_is (File body) fits small = small
 node_is (Link text) fits small =
-    let two = both (nat_lt 0 (length text)) (nat_lt (length text) 4096 && not (list_any (λ c. c == 0) text)) fits in
-    let rest = both (nat_lt (length text) 4096) (not (list_any (λ c. c == 0) text)) two.1 in
+    let two = and_parts (nat_lt 0 (length text)) (nat_lt (length text) 4096 && not (list_any (λ c. c == 0) text)) fits in
+    let rest = and_parts (nat_lt (length text) 4096) (not (list_any (λ c. c == 0) text)) two.1 in
     (omega (arith, ltb-true 0 (length text) two.0), omega (arith, ltb-true (length text) 4096 rest.0), is_false (list_any (λ c. c == 0) text) rest.1)
   where
     is_false : (b : Bool) → not b ≡ true → b ≡ false
@@ -61,9 +62,9 @@ node_is (Link text) fits small =
 two_bytes : (before : Entries) (p : Path) → has_parent before p ≡ true → is_canonical p ≡ true → 2 ≤ length (spelled p)
 two_bytes before [] h c = absurd (cc)
 two_bytes before (name ∷ up) h c =
-    let names = both (list_all is_name (name ∷ up)) (nat_le (length (spelled (name ∷ up))) 4096) c in
-    let first = both (is_name name) (list_all is_name up) names.0 in
-    let some = both (nat_lt 0 (length name)) _ first.0 in
+    let names = and_parts (list_all is_name (name ∷ up)) (nat_le (length (spelled (name ∷ up))) 4096) c in
+    let first = and_parts (is_name name) (list_all is_name up) names.0 in
+    let some = and_parts (nat_lt 0 (length name)) _ first.0 in
     omega (arith, ltb-true 0 (length name) some.0, length-append (spelled_below up) (slash ∷ name))
 
 -- the parts of the test of a list that makes a tree, entry by entry
@@ -73,24 +74,24 @@ record Passes (es : Entries) : Type 0 where
 
 passes : (es : Entries) → makes_tree es ≡ true → Passes es
 passes es h =
-    let one = both (is_increasing es) (parents_stand [] es && (list_all (λ e. is_canonical e.0) es && links_fit es)) h in
-    let two = both (parents_stand [] es) (list_all (λ e. is_canonical e.0) es && links_fit es) one.1 in
-    let three = both (list_all (λ e. is_canonical e.0) es) (links_fit es) two.1 in
+    let one = and_parts (is_increasing es) (parents_stand [] es && (list_all (λ e. is_canonical e.0) es && links_fit es)) h in
+    let two = and_parts (parents_stand [] es) (list_all (λ e. is_canonical e.0) es && links_fit es) one.1 in
+    let three = and_parts (list_all (λ e. is_canonical e.0) es) (links_fit es) two.1 in
     record { canonical = three.0; links = three.1 }
 
 tree_follows : EntriesAreJudged → (before es : Entries) → makes_tree (before ++ es) ≡ true → Passes es → AllByRecursion (λ e. IsSmall e.1) es → MayFollow before es
 tree_follows judged before [] h tests small = tt
 tree_follows judged before (e ∷ es) h tests small =
-    let canonical = both (is_canonical e.0) (list_all (λ f. is_canonical f.0) es) tests.canonical in
-    let links = both (entry_fits e.1) (links_fit es) tests.links in
-    let long = both (list_all is_name e.0) (nat_le (length (spelled e.0)) 4096) canonical.0 in
+    let canonical = and_parts (is_canonical e.0) (list_all (λ f. is_canonical f.0) es) tests.canonical in
+    let links = and_parts (entry_fits e.1) (links_fit es) tests.links in
+    let long = and_parts (list_all is_name e.0) (nat_le (length (spelled e.0)) 4096) canonical.0 in
     let good = judged before es e.0 e.1 h in (
       (good, two_bytes before e.0 (judged_good before (spelled e.0) e.0 good).2 canonical.0, leb-true (length (spelled e.0)) 4096 long.1),
       node_is e.1 links.0 small.0,
       tree_follows judged (before ++ e ∷ []) es (subst (λ (fs : Entries). makes_tree fs ≡ true) (sym (append_assoc before (e ∷ []) es)) h) (record { canonical = canonical.1; links = links.1 }) small.1,
     )
 
-pub tree_request : EntriesAreJudged → (job : Job) (es : Entries) → FitsRequest job es → length (request_bytes job es) ≤ most → IsRequest job es
+pub tree_request : EntriesAreJudged → (job : Job) (es : Entries) → FitsRequest job es → length (request_bytes job es) ≤ request_limit → IsRequest job es
 tree_request judged job es fits small = record {
   is_job = fits.is_job;
   place = fits.place;
@@ -113,9 +114,9 @@ by_place {X} P Q (x ∷ xs) h all = at (by_place P Q xs h all.1)
 have_spellings : (es : Entries) → list_all (λ e. is_canonical e.0) es ≡ true → links_fit es ≡ true → AllByRecursion (λ e. IsSmall e.1) es → AllByRecursion HasSpelling es
 have_spellings [] canonical links small = tt
 have_spellings (e ∷ es) canonical links small =
-    let one = both (is_canonical e.0) (list_all (λ f. is_canonical f.0) es) canonical in
-    let two = both (entry_fits e.1) (links_fit es) links in
-    let long = both (list_all is_name e.0) (nat_le (length (spelled e.0)) 4096) one.0 in
+    let one = and_parts (is_canonical e.0) (list_all (λ f. is_canonical f.0) es) canonical in
+    let two = and_parts (entry_fits e.1) (links_fit es) links in
+    let long = and_parts (list_all is_name e.0) (nat_le (length (spelled e.0)) 4096) one.0 in
     ((leb-true (length (spelled e.0)) 4096 long.1, node_is e.1 two.0 small.0), have_spellings es one.1 two.1 small.1)
 
 pub tree_written : (job : Job) (es : Entries) → FitsRequest job es → All (λ word. length word ≤ 4096) job.words × All HasSpelling es

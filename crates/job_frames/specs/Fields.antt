@@ -1,6 +1,7 @@
 -- Tokens and bodies. A token is four capital letters and eight lower hexadecimal digits. A prefix of a
 -- stream is read from its front: it may be too short yet, or be refused by a reason, or give a value and a rest.
 use Rattle.std.specs.Prelude.{ℕ, zero, suc, ◌+◌, ◌-◌, ◌*◌, ◌/◌, ◌%◌, ◌&&◌, List, [], ◌∷◌, ◌++◌, length, take, drop, if◌then◌else◌, nat_lt, nat_le, ◌==◌, Option, Some, None}
+use Rattle.base_types.specs.Ascii as ascii
 
 -- what reading a value from the front of a prefix gives
 pub data Step (A : Type 0) : Type 0 where
@@ -40,8 +41,8 @@ words_reason = 8
 -- the value of a lower hexadecimal digit
 unfoldable pub digit_of : ℕ → Option ℕ
 digit_of b =
-    if nat_le 48 b && nat_le b 57 then Some (b - 48)
-    else (if nat_le 97 b && nat_le b 102 then Some (b - 87) else None)
+    if nat_le ascii.zero_digit b && nat_le b ascii.nine_digit then Some (b - ascii.zero_digit)
+    else (if nat_le ascii.lower_a b && nat_le b ascii.lower_f then Some (b - 87) else None)
 
 -- these letters stand in front
 unfoldable pub letters_at : List ℕ → List ℕ → Step (Unit {0})
@@ -65,16 +66,16 @@ judged None n rest = taken n rest
 judged (Some why) n rest = refused why
 
 -- a token stands in front, whose number the judge lets pass
-abbrev pub token_at : List ℕ → (ℕ → Option ℕ) → List ℕ → Step ℕ
-token_at letters judge bytes = number_at letters bytes >>= λ n rest. judged (judge n) n rest
+abbrev pub field_token_at : List ℕ → (ℕ → Option ℕ) → List ℕ → Step ℕ
+field_token_at letters judge bytes = number_at letters bytes >>= λ n rest. judged (judge n) n rest
 
 -- a body of this length stands in front
-unfoldable pub body_at : ℕ → List ℕ → Step (List ℕ)
-body_at n bytes = if nat_lt (length bytes) n then short else taken (take n bytes) (drop n bytes)
+unfoldable pub field_body_at : ℕ → List ℕ → Step (List ℕ)
+field_body_at n bytes = if nat_lt (length bytes) n then short else taken (take n bytes) (drop n bytes)
 
 -- the spelling of a digit, of the last k digits of a number, and of a token
 abbrev pub digit : ℕ → ℕ
-digit d = if nat_lt d 10 then 48 + d else 87 + d
+digit d = if nat_lt d 10 then ascii.zero_digit + d else 87 + d
 
 unfoldable pub digits : ℕ → ℕ → List ℕ
 digits zero n = []

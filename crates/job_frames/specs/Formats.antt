@@ -1,6 +1,6 @@
 -- Formats: the description of a frame, field by field, and the one reading of them all.
 use Rattle.std.specs.Prelude.{ℕ, List, [], ◌∷◌, Option}
-use Rattle.job_frames.specs.Fields.{Step, short, refused, taken, ◌>>=◌, token_at, body_at}
+use Rattle.job_frames.specs.Fields.{Step, short, refused, taken, ◌>>=◌, field_token_at, field_body_at}
 
 -- What is due in a frame, and what behind it, by what came: a value, where all has come; or a reason, where what came is wrong;
 -- or a token with these letters, whose number a judge lets pass; or a body of this length; or any byte, which tells by its
@@ -16,7 +16,7 @@ pub data Format (A : Type 0) : Type 0 where
 abbrev pub reading : {A : Type 0} → Format A → List ℕ → Step A
 reading (gives a) bytes = taken a bytes
 reading (refuses n) bytes = refused n
-reading (due_token letters judge next) bytes = token_at letters judge bytes >>= λ n rest. reading (next n) rest
-reading (due_body n next) bytes = body_at n bytes >>= λ body rest. reading (next body) rest
+reading (due_token letters judge next) bytes = field_token_at letters judge bytes >>= λ n rest. reading (next n) rest
+reading (due_body n next) bytes = field_body_at n bytes >>= λ body rest. reading (next body) rest
 reading (due_letter next) [] = short
 reading (due_letter next) (b ∷ bytes) = reading (next b) (b ∷ bytes)

@@ -6,18 +6,19 @@ use Rattle.job_frames.specs.declared.FrameError.{FrameError}
 use Rattle.job_frames.specs.declared.FrameError.TheVariants.{Memory}
 use Rattle.job_frames.specs.Fields.{Step}
 use Rattle.job_frames.specs.Formats.{reading}
-use Rattle.job_frames.specs.Outcomes.{Verdict, reason, ended, nothing_follows, number_of, value_of}
-use Rattle.job_frames.specs.Request.{Got, most, image_bytes, image_from, MayFollow}
+use Rattle.job_frames.specs.Outcomes.{Verdict, reason, frame_ended, nothing_follows, number_of, value_of}
+use Rattle.base_types.specs.Limits.{entry_limit, request_limit}
+use Rattle.job_frames.specs.Request.{Got, image_bytes, image_from, MayFollow}
 
 -- an image at the front of a text
 abbrev pub image_at : List ℕ → Step Got
-image_at bytes = reading (image_from None most) bytes
+image_at bytes = reading (image_from None request_limit) bytes
 
 -- what an image may be: entries that may stand one behind another, and a spelling within the room
 pub record IsImage (es : Entries) : Type 0 where
-  pub few : length es ≤ 100000
+  pub few : length es ≤ entry_limit
   pub follow : MayFollow [] es
-  pub small : length (image_bytes es) ≤ most
+  pub small : length (image_bytes es) ≤ request_limit
 
 -- the verdict on a whole image, behind which no byte may follow
 abbrev pub image_verdict : List ℕ → Verdict Got
@@ -26,4 +27,4 @@ image_verdict bytes = nothing_follows (image_at bytes)
 -- reading an image gives its entries, or the reason; only want of memory is no verdict
 abbrev pub IsImageRead : Result Entries FrameError → Verdict Got → Type 0
 IsImageRead (Ok es) v = option_map (λ got. got.entries) (value_of v) ≡ Some es
-IsImageRead (Err e) v = (e ≡ Memory) ⊎ (ended v ≡ reason (number_of e))
+IsImageRead (Err e) v = (e ≡ Memory) ⊎ (frame_ended v ≡ reason (number_of e))

@@ -4,7 +4,8 @@ use Rattle.tree_model.specs.Entries.{Entries, makes_tree, bodies_fit}
 use Rattle.job_words.specs.declared.job.Job.{Job}
 use Rattle.job_frames.specs.Fields.{taken}
 use Rattle.job_frames.specs.Outcomes.{going, done, reason, whatever_follows, nothing_follows, value_of}
-use Rattle.job_frames.specs.Request.{Got, request_at, request_bytes, image_bytes, most, IsRequest, FitsRequest, HasSpelling}
+use Rattle.base_types.specs.Limits.{request_limit, word_limit}
+use Rattle.job_frames.specs.Request.{Got, request_at, request_bytes, image_bytes, IsRequest, FitsRequest, HasSpelling}
 use Rattle.job_frames.specs.Images.{IsImage, image_at}
 use Rattle.job_frames.specs.Reply.{IsAnswer, reply_at, reply_bytes, longest_reply}
 use Rattle.job_frames.specs.declared.answer.Answer.{Answer}
@@ -46,11 +47,11 @@ RequestsHaveSmallBodies = (job : Job) (es : Entries) → IsRequest job es → Is
 
 -- a job and the entries of a tree within the limits are a request, where their spelling is within the room
 abbrev pub TreesMakeRequests : Type 0
-TreesMakeRequests = (job : Job) (es : Entries) → FitsRequest job es → length (request_bytes job es) ≤ most → IsRequest job es
+TreesMakeRequests = (job : Job) (es : Entries) → FitsRequest job es → length (request_bytes job es) ≤ request_limit → IsRequest job es
 
 -- and they may be written
 abbrev pub TreesMayBeWritten : Type 0
-TreesMayBeWritten = (job : Job) (es : Entries) → FitsRequest job es → All (λ word. length word ≤ 4096) job.words × All HasSpelling es
+TreesMayBeWritten = (job : Job) (es : Entries) → FitsRequest job es → All (λ word. length word ≤ word_limit) job.words × All HasSpelling es
 
 -- an image is read from its spelling, whatever follows
 abbrev pub ImagesAreRead : Type 0

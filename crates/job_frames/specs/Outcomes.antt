@@ -20,14 +20,14 @@ whatever_follows (refused n) = reason n
 whatever_follows (taken a rest) = done a
 
 -- the verdict where no byte may follow the end
-abbrev pub at_end : {A : Type 0} → A → List ℕ → Verdict A
-at_end a [] = done a
-at_end a (b ∷ bytes) = reason order_reason
+abbrev pub frame_at_end : {A : Type 0} → A → List ℕ → Verdict A
+frame_at_end a [] = done a
+frame_at_end a (b ∷ bytes) = reason order_reason
 
 abbrev pub nothing_follows : {A : Type 0} → Step A → Verdict A
 nothing_follows short = going
 nothing_follows (refused n) = reason n
-nothing_follows (taken a rest) = at_end a rest
+nothing_follows (taken a rest) = frame_at_end a rest
 
 abbrev pub number_of : FrameError → ℕ
 number_of Memory = 1
@@ -68,10 +68,10 @@ IsFed before piece after answer =
     ⊎ (NotRefused before × (answer ≡ Refused Memory) × ((more : List ℕ) → after more ≡ reason 1))
 
 -- the verdict where no byte follows: what isn't whole is cut off
-abbrev pub ended : {A : Type 0} → Verdict A → Verdict A
-ended going = reason 9
-ended (done a) = done a
-ended (reason n) = reason n
+abbrev pub frame_ended : {A : Type 0} → Verdict A → Verdict A
+frame_ended going = reason 9
+frame_ended (done a) = done a
+frame_ended (reason n) = reason n
 
 -- what a reader says behind its end, by its verdict at the end: a text that was cut off stays so
 abbrev pub after_end : {A : Type 0} → Verdict A → Verdict A → Verdict A
@@ -81,4 +81,4 @@ after_end (reason n) v = v
 
 -- ending a reader
 abbrev pub IsEnded : {A : Type 0} → Left A → Left A → Fed → Type 0
-IsEnded before after answer = Tells answer (ended (before [])) × ((more : List ℕ) → after more ≡ after_end (before []) (before more))
+IsEnded before after answer = Tells answer (frame_ended (before [])) × ((more : List ℕ) → after more ≡ after_end (before []) (before more))

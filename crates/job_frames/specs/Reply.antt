@@ -1,5 +1,6 @@
 -- Replies: their one spelling, and their format, from its last field to its first.
-use Rattle.std.specs.Prelude.{ℕ, ◌≤◌, ◌&&◌, ◌||◌, List, ◌++◌, length, if◌then◌else◌, nat_lt, nat_le, ◌==◌, Option, Some, None, codes}
+use Rattle.std.specs.Prelude.{ℕ, ◌+◌, ◌*◌, ◌≤◌, ◌&&◌, ◌||◌, List, ◌++◌, length, if◌then◌else◌, nat_lt, nat_le, ◌==◌, Option, Some, None, codes}
+use Rattle.base_types.specs.Limits.{diagnostic_limit, text_limit}
 use Rattle.job_frames.specs.declared.answer.Answer.{Answer}
 use Rattle.job_frames.specs.declared.answer.Answer.TheVariants.{Text, Diag, Refused}
 use Rattle.job_frames.specs.Fields.{Step, version_reason, limit_reason, order_reason, token, field, within, only}
@@ -13,13 +14,13 @@ reply_bytes (Refused n) = token (codes "RFSE") n
 
 -- what has a spelling
 abbrev pub IsAnswer : Answer → Type 0
-IsAnswer (Text text) = length text ≤ 67108864
-IsAnswer (Diag words) = (1 ≤ length words) × (length words ≤ 65536)
+IsAnswer (Text text) = length text ≤ text_limit
+IsAnswer (Diag words) = (1 ≤ length words) × (length words ≤ diagnostic_limit)
 IsAnswer (Refused n) = (1 ≤ n) × (n ≤ 9)
 
 -- how many bytes a reply has at most: four tokens and the longest text
 abbrev pub longest_reply : ℕ
-longest_reply = 67108912
+longest_reply = 4 * 12 + text_limit
 
 -- a number above a limit is one reason, another that its status doesn't allow is another
 abbrev pub allowed : ℕ → ℕ → ℕ → ℕ → Option ℕ
@@ -34,19 +35,19 @@ unfoldable pub text_body_from : ℕ → Format Answer
 text_body_from n = due_body n (λ text. gives (Text text))
 
 unfoldable pub text_from : Format Answer
-text_from = due_token (codes "DOTI") (allowed 67108864 0 67108864) text_body_from
+text_from = due_token (codes "DOTI") (allowed text_limit 0 text_limit) text_body_from
 
 unfoldable pub no_diagnostic_from : Format Answer
-no_diagnostic_from = due_token (codes "SERR") (allowed 65536 0 0) (λ n. text_from)
+no_diagnostic_from = due_token (codes "SERR") (allowed diagnostic_limit 0 0) (λ n. text_from)
 
 unfoldable pub no_text_from : List ℕ → Format Answer
-no_text_from words = due_token (codes "DOTI") (allowed 67108864 0 0) (λ n. gives (Diag words))
+no_text_from words = due_token (codes "DOTI") (allowed text_limit 0 0) (λ n. gives (Diag words))
 
 unfoldable pub diagnostic_body_from : ℕ → Format Answer
 diagnostic_body_from n = due_body n no_text_from
 
 unfoldable pub diagnostic_from : Format Answer
-diagnostic_from = due_token (codes "SERR") (allowed 65536 1 65536) diagnostic_body_from
+diagnostic_from = due_token (codes "SERR") (allowed diagnostic_limit 1 diagnostic_limit) diagnostic_body_from
 
 unfoldable pub status_from : Format Answer
 status_from = due_token (codes "STAT") status_judge (λ n. if n == 0 then no_diagnostic_from else diagnostic_from)

@@ -1,6 +1,8 @@
 -- Requests: their one spelling, and their format, from its last field to its first.
-use Rattle.std.specs.Prelude.{◌≡◌, ℕ, zero, suc, ◌≤◌, false, List, [], ◌∷◌, ◌++◌, length, if◌then◌else◌, ◌==◌, Option, Some, None, codes, Result, Ok, Err, IsTrue}
+use Rattle.std.specs.Prelude.{◌≡◌, ℕ, zero, suc, ◌-◌, ◌≤◌, false, List, [], ◌∷◌, ◌++◌, length, if◌then◌else◌, ◌==◌, Option, Some, None, codes, Result, Ok, Err, IsTrue}
 use Rattle.std.specs.List.{list_any, flat_map, AllByRecursion}
+use Rattle.base_types.specs.Ascii as ascii
+use Rattle.base_types.specs.Limits.{body_limit, entry_limit, job_words_limit, path_limit, request_limit, word_limit}
 use Rattle.tree_model.specs.Paths.{Text, Path, spelled}
 use Rattle.tree_model.specs.Entries.{Entries, judged_path, makes_tree}
 use Rattle.tree_model.specs.declared.entry.Entry.{Entry}
@@ -30,10 +32,6 @@ request_bytes job es =
     token (codes "DIST") 0x103 ++ (field (codes "CDIR") job.setup.cwd ++ (token (codes "ARGC") (length job.words)
     ++ (flat_map (field (codes "ARGV")) job.words ++ image_bytes es)))
 
--- how many bytes a request may have
-abbrev pub most : ℕ
-most = 268435456
-
 -- what is read: a job, where words were read before, and the entries
 pub record Got : Type 0 where
   pub job : Option Job
@@ -51,18 +49,18 @@ unfoldable pub target_then : Onward → ℕ → Entries → Path → ℕ → For
 target_then next room es path n = due_body n (λ text. if list_any (λ c. c == 0) text then refuses limit_reason else next room (es ++ (path, Link text) ∷ []))
 
 unfoldable pub link_then : Onward → ℕ → Entries → Path → Format Got
-link_then next room es path = due_token (codes "LINK") (fits room 1 4095) (λ n. target_then next (room_behind room n) es path n)
+link_then next room es path = due_token (codes "LINK") (fits room 1 (path_limit - 1)) (λ n. target_then next (room_behind room n) es path n)
 
 unfoldable pub file_body_then : Onward → ℕ → Entries → Path → ℕ → Format Got
 file_body_then next room es path n = due_body n (λ body. next room (es ++ (path, File body) ∷ []))
 
 unfoldable pub file_then : Onward → ℕ → Entries → Path → Format Got
-file_then next room es path = due_token (codes "FILE") (fits room 0 16777216) (λ n. file_body_then next (room_behind room n) es path n)
+file_then next room es path = due_token (codes "FILE") (fits room 0 body_limit) (λ n. file_body_then next (room_behind room n) es path n)
 
 -- the first letter of a node's token tells which one is due
 unfoldable pub node_then : Onward → ℕ → Entries → Path → Format Got
 node_then next room es path =
-    due_letter (λ c. if c == 77 then dir_then next room es path else (if c == 76 then link_then next room es path else file_then next room es path))
+    due_letter (λ c. if c == ascii.upper_m then dir_then next room es path else (if c == ascii.upper_l then link_then next room es path else file_then next room es path))
 
 -- the reason of a path that may not stand where it stands
 abbrev pub path_reason : MirrorError → ℕ
@@ -77,7 +75,7 @@ unfoldable pub path_then : Onward → ℕ → Entries → ℕ → Format Got
 path_then next room es n = due_body n (λ text. judged_then next room es (judged_path es text))
 
 unfoldable pub name_then : Onward → ℕ → Entries → Format Got
-name_then next room es = due_token (codes "NAME") (fits room 2 4096) (λ n. path_then next (room_behind room n) es n)
+name_then next room es = due_token (codes "NAME") (fits room 2 path_limit) (λ n. path_then next (room_behind room n) es n)
 
 -- this many entries, behind those so far
 unfoldable pub entries_from : Option Job → ℕ → Onward
@@ -86,7 +84,7 @@ entries_from job (suc k) room es = name_then (entries_from job k) room es
 
 -- the entries behind a job
 unfoldable pub image_from : Option Job → ℕ → Format Got
-image_from job room = due_token (codes "NFIL") (λ n. bare room (within 0 100000 n)) (λ n. entries_from job n (room_behind room 0) [])
+image_from job room = due_token (codes "NFIL") (λ n. bare room (within 0 entry_limit n)) (λ n. entries_from job n (room_behind room 0) [])
 
 -- the words are judged behind the last of them
 abbrev pub with_job : Option Job → ℕ → Format Got
@@ -101,7 +99,7 @@ unfoldable pub word_body_then : WordsOnward → ℕ → Text → List Text → �
 word_body_then next room cwd words n = due_body n (λ word. next room cwd (words ++ word ∷ []))
 
 unfoldable pub word_then : WordsOnward → ℕ → Text → List Text → Format Got
-word_then next room cwd words = due_token (codes "ARGV") (fits room 1 4096) (λ n. word_body_then next (room_behind room n) cwd words n)
+word_then next room cwd words = due_token (codes "ARGV") (fits room 1 word_limit) (λ n. word_body_then next (room_behind room n) cwd words n)
 
 -- this many words, behind those so far
 unfoldable pub words_from : ℕ → WordsOnward
@@ -109,13 +107,13 @@ words_from zero room cwd words = with_job (job_of cwd words) room
 words_from (suc k) room cwd words = word_then (words_from k) room cwd words
 
 unfoldable pub count_from : ℕ → Text → Format Got
-count_from room cwd = due_token (codes "ARGC") (λ n. bare room (within 0 1000 n)) (λ n. words_from n (room_behind room 0) cwd [])
+count_from room cwd = due_token (codes "ARGC") (λ n. bare room (within 0 job_words_limit n)) (λ n. words_from n (room_behind room 0) cwd [])
 
 unfoldable pub place_body_from : ℕ → ℕ → Format Got
 place_body_from room n = due_body n (λ cwd. count_from room cwd)
 
 unfoldable pub place_from : ℕ → Format Got
-place_from room = due_token (codes "CDIR") (fits room 1 4096) (λ n. place_body_from (room_behind room n) n)
+place_from room = due_token (codes "CDIR") (fits room 1 word_limit) (λ n. place_body_from (room_behind room n) n)
 
 -- a request of this version
 unfoldable pub request_from : ℕ → ℕ → Format Got
@@ -123,21 +121,21 @@ request_from version room = due_token (codes "DIST") (λ n. bare room (only vers
 
 -- a request at the front of a text
 abbrev pub request_at : Text → Step Got
-request_at bytes = reading (request_from 0x103 most) bytes
+request_at bytes = reading (request_from 0x103 request_limit) bytes
 
 -- WHAT HAS A SPELLING
 
 -- a node within the limits of its token
 abbrev pub IsSpellable : Entry → Type 0
 IsSpellable Dir = Unit {0}
-IsSpellable (File body) = length body ≤ 16777216
-IsSpellable (Link text) = (1 ≤ length text) × (length text ≤ 4095) × (list_any (λ c. c == 0) text ≡ false)
+IsSpellable (File body) = length body ≤ body_limit
+IsSpellable (Link text) = (1 ≤ length text) × (length text ≤ path_limit - 1) × (list_any (λ c. c == 0) text ≡ false)
 
 -- entries may stand behind others, one after another
 abbrev pub MayFollow : Entries → Entries → Type 0
 MayFollow before [] = Unit {0}
 MayFollow before (e ∷ es) =
-    ((judged_path before (spelled e.0) ≡ Ok e.0) × (2 ≤ length (spelled e.0)) × (length (spelled e.0) ≤ 4096)) × IsSpellable e.1 × MayFollow (before ++ e ∷ []) es
+    ((judged_path before (spelled e.0) ≡ Ok e.0) × (2 ≤ length (spelled e.0)) × (length (spelled e.0) ≤ path_limit)) × IsSpellable e.1 × MayFollow (before ++ e ∷ []) es
 
 abbrev pub AreWords : List Text → Type 0
 AreWords words = AllByRecursion IsWord words
@@ -146,32 +144,32 @@ AreWords words = AllByRecursion IsWord words
 -- behind another, and a spelling within the room
 pub record IsRequest (job : Job) (es : Entries) : Type 0 where
   pub is_job : job_of job.setup.cwd job.words ≡ Some job
-  pub place : (1 ≤ length job.setup.cwd) × (length job.setup.cwd ≤ 4096)
-  pub few_words : length job.words ≤ 1000
+  pub place : (1 ≤ length job.setup.cwd) × (length job.setup.cwd ≤ word_limit)
+  pub few_words : length job.words ≤ job_words_limit
   pub words : AreWords job.words
-  pub few : length es ≤ 100000
+  pub few : length es ≤ entry_limit
   pub follow : MayFollow [] es
-  pub small : length (request_bytes job es) ≤ most
+  pub small : length (request_bytes job es) ≤ request_limit
 
 -- a body within the limit of a file
 abbrev pub IsSmall : Entry → Type 0
 IsSmall Dir = Unit {0}
-IsSmall (File body) = length body ≤ 16777216
+IsSmall (File body) = length body ≤ body_limit
 IsSmall (Link text) = Unit {0}
 
 -- a job and a list of entries that makes a tree, each part within the limits of a request
 pub record FitsRequest (job : Job) (es : Entries) : Type 0 where
   pub is_job : job_of job.setup.cwd job.words ≡ Some job
-  pub place : (1 ≤ length job.setup.cwd) × (length job.setup.cwd ≤ 4096)
-  pub few_words : length job.words ≤ 1000
+  pub place : (1 ≤ length job.setup.cwd) × (length job.setup.cwd ≤ word_limit)
+  pub few_words : length job.words ≤ job_words_limit
   pub words : AreWords job.words
   pub tree : IsTrue (makes_tree es)
-  pub few : length es ≤ 100000
+  pub few : length es ≤ entry_limit
   pub bodies : AllByRecursion (λ e. IsSmall e.1) es
 
 -- an entry whose path and node have spellings
 abbrev pub HasSpelling : Path × Entry → Type 0
-HasSpelling e = (length (spelled e.0) ≤ 4096) × IsSpellable e.1
+HasSpelling e = (length (spelled e.0) ≤ path_limit) × IsSpellable e.1
 
 -- the spelling of words
 abbrev pub words_bytes : List Text → Text

@@ -1,7 +1,7 @@
 // The fields of frames, and a frame that is read field by field.
 ghost use Rattle.std.specs.Prelude.{◌≡◌, ◌<◌, ℕ, List, length, Some, true, Ok};
 ghost use Rattle.job_frames.specs.Formats.{Format};
-ghost use Rattle.job_frames.specs.parts.Dues.{due_of, size_of, is_token, behind_token, behind_body, at_letter, Went};
+ghost use Rattle.job_frames.specs.parts.Dues.{due_of, size_of, is_token_due, behind_token, behind_body, at_letter, Went};
 ghost use Rattle.job_frames.specs.declared.field.Field.TheVariants as field;
 
 use crate::FrameError;
@@ -49,7 +49,7 @@ pub trait Frame {
 
     // Takes the number of the token that is due.
     fn take_token(&mut self, n: u32) -> Result<(), FrameError>
-        requires due { is_token (due_of (format self.old)) ≡ true }
+        requires due { is_token_due (due_of (format self.old)) ≡ true }
         requires keeps { Keeps self.old }
         ensures { Went format rank Keeps (behind_token (format self.old) n) (rank self.old) self.new result };
 
@@ -64,5 +64,5 @@ pub trait Frame {
         requires due { due_of (format self.old) ≡ Some field.Letter }
         requires keeps { Keeps self.old }
         ensures went { Went format rank Keeps (at_letter (format self.old) letter) (rank self.old) self.new (Ok tt) }
-        ensures token { is_token (due_of (format self.new)) ≡ true };
+        ensures token { is_token_due (due_of (format self.new)) ≡ true };
 }

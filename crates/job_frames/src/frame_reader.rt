@@ -4,7 +4,7 @@ ghost use Rattle.job_frames.specs.Fields.{short};
 ghost use Rattle.job_frames.specs.Formats.{reading};
 ghost use Rattle.job_frames.specs.Outcomes.{IsFed, IsEnded, number_of, reason, value_of};
 ghost use Rattle.job_frames.specs.declared.Fed.TheVariants.{Refused};
-ghost use Rattle.job_frames.specs.parts.Machines.{left_of, verdict, KeepsReader, IsWhole};
+ghost use Rattle.job_frames.specs.parts.Machines.{left_of, verdict, KeepsReader, IsWholeFrame};
 ghost use Rattle.job_frames.specs.parts.Machines as machines;
 
 use crate::field::{Field, Frame};
@@ -91,7 +91,7 @@ pub fn feed<F: Frame>(r: &mut FrameReader<F>, follows: bool, piece: &[u8]) -> Fe
 // All has come, and nothing was wrong.
 pub fn is_whole<F: Frame>(r: &FrameReader<F>) -> bool
     requires { KeepsReader F.format F.Keeps r.now.stopped r.now.machine }
-    ensures whole { result ≡ true → IsWhole (F.format r.now.machine.frame) }
+    ensures whole { result ≡ true → IsWholeFrame (F.format r.now.machine.frame) }
     ensures running { result ≡ true → r.now.stopped ≡ None }
     ensures empty { result ≡ true → r.now.machine.pending.items ≡ [] }
     ensures other { result ≡ false → (follows : _) → value_of (left_of F.format follows r.now []) ≡ None }

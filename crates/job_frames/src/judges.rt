@@ -1,5 +1,6 @@
 // What the number of a token may be.
 ghost use Rattle.std.specs.Prelude.{◌≡◌, ◌≤◌, ◌+◌, None};
+ghost use Rattle.base_types.specs.Limits.{body_limit};
 ghost use Rattle.job_frames.specs.Fields.{within, fits, bare, only};
 ghost use Rattle.job_frames.specs.parts.Numbers.{told_judge};
 
@@ -8,7 +9,7 @@ use crate::FrameError;
 // A number from low to high, whose token and body fit the room.
 #[tactic(auto, using(std::proofs::lemmas::Bool::Decides::nat_tests))]
 pub fn judge_body(room: u32, low: u32, high: u32, n: u32) -> Option<FrameError>
-    requires { high ≤ 16777216 }
+    requires { high ≤ body_limit }
     ensures answer { told_judge result ≡ fits room low high n }
     ensures room { result ≡ None → 12 + n ≤ room }
     ensures small { result ≡ None → n ≤ high }

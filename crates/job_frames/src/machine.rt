@@ -6,7 +6,7 @@
 // specs/parts/Machines.antt: what is read of every text that may still come.
 ghost use Rattle.std.specs.Prelude.{◌≡◌, ◌≤◌, length, nat_lt, Some};
 ghost use Rattle.job_frames.specs.parts.Dues.{due_of, size_of};
-ghost use Rattle.job_frames.specs.parts.Machines.{Moves, Stands, HasRun};
+ghost use Rattle.job_frames.specs.parts.Machines.{Moves, MachineStands, HasRun};
 ghost use Rattle.job_frames.specs.parts.Filling.{IsTopped};
 ghost use Rattle.job_frames.specs.declared.field.Field.TheVariants as due;
 
@@ -58,7 +58,7 @@ fn top_up(pending: &mut Vec<u8>, wanted: usize, rest: &[u8]) -> Result<usize, Al
 // A move where a token is due.
 fn token_move<F: Frame>(m: &mut Machine<F>, letters: [u8; 4]) -> Move
     requires due { due_of (F.format m.old.frame) ≡ Some (due.Token letters) }
-    requires stands { Stands F.format F.Keeps m.old }
+    requires stands { MachineStands F.format F.Keeps m.old }
     ensures { Moves F.format F.rank F.Keeps (due.Token letters) m.old m.new result }
 {
     match token_number(m.pending.as_slice(), &letters) {
@@ -77,7 +77,7 @@ fn token_move<F: Frame>(m: &mut Machine<F>, letters: [u8; 4]) -> Move
 // A move where a body is due.
 fn body_move<F: Frame>(m: &mut Machine<F>, n: u32) -> Move
     requires due { due_of (F.format m.old.frame) ≡ Some (due.Body n) }
-    requires stands { Stands F.format F.Keeps m.old }
+    requires stands { MachineStands F.format F.Keeps m.old }
     ensures { Moves F.format F.rank F.Keeps (due.Body n) m.old m.new result }
 {
     if lacks(m.pending.len(), n as usize) {
@@ -93,7 +93,7 @@ fn body_move<F: Frame>(m: &mut Machine<F>, n: u32) -> Move
 // A move where a letter tells which token is due.
 fn letter_move<F: Frame>(m: &mut Machine<F>) -> Move
     requires due { due_of (F.format m.old.frame) ≡ Some due.Letter }
-    requires stands { Stands F.format F.Keeps m.old }
+    requires stands { MachineStands F.format F.Keeps m.old }
     ensures { Moves F.format F.rank F.Keeps due.Letter m.old m.new result }
 {
     if m.pending.is_empty() {
@@ -107,7 +107,7 @@ fn letter_move<F: Frame>(m: &mut Machine<F>) -> Move
 // One move.
 fn step<F: Frame>(m: &mut Machine<F>, field: Field) -> Move
     requires due { due_of (F.format m.old.frame) ≡ Some field }
-    requires stands { Stands F.format F.Keeps m.old }
+    requires stands { MachineStands F.format F.Keeps m.old }
     ensures { Moves F.format F.rank F.Keeps field m.old m.new result }
 {
     match field {
@@ -127,7 +127,7 @@ pub struct Ran {
 
 // Makes moves until there is a verdict on a piece behind all that came.
 pub fn run<F: Frame>(m: &mut Machine<F>, piece: &[u8]) -> Ran
-    requires { Stands F.format F.Keeps m.old }
+    requires { MachineStands F.format F.Keeps m.old }
     ensures { HasRun F.format F.Keeps m.old piece.now m.new result }
 {
     let mut at = 0usize;

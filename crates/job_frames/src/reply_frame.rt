@@ -13,6 +13,7 @@ use crate::field::{Field, Frame};
 use crate::judges::judge_version;
 use crate::{Answer, FrameError};
 use base_types::Bytes;
+use base_types::limits::{DIAGNOSTIC_LIMIT, TEXT_LIMIT};
 
 // The tokens: a refusal, or the version, the status, and the lengths of the diagnostic and of the text, which the status
 // may want to be none.
@@ -156,10 +157,10 @@ fn judge(token: ReplyToken, version: u32, greatest: u32, n: u32) -> Option<Frame
         ReplyToken::Refusal => judge_reason(greatest, n),
         ReplyToken::Version => judge_version(version, n),
         ReplyToken::Status => judge_status(n),
-        ReplyToken::NoWords => judge_allowed(65536, 0, 0, n),
-        ReplyToken::Words => judge_allowed(65536, 1, 65536, n),
-        ReplyToken::NoText => judge_allowed(67108864, 0, 0, n),
-        ReplyToken::Text => judge_allowed(67108864, 0, 67108864, n),
+        ReplyToken::NoWords => judge_allowed(DIAGNOSTIC_LIMIT as u32, 0, 0, n),
+        ReplyToken::Words => judge_allowed(DIAGNOSTIC_LIMIT as u32, 1, DIAGNOSTIC_LIMIT as u32, n),
+        ReplyToken::NoText => judge_allowed(TEXT_LIMIT as u32, 0, 0, n),
+        ReplyToken::Text => judge_allowed(TEXT_LIMIT as u32, 0, TEXT_LIMIT as u32, n),
     }
 }
 

@@ -1,12 +1,13 @@
 // A request or an image as far as it was read (docs/FORMATS.md; `request_from` in specs/Request.antt).
 ghost use Rattle.std.specs.Prelude.{◌≡◌, ◌≤◌, ◌+◌, ◌⊎◌, ◌++◌, ◌∷◌, [], ◌*◌, ◌==◌, IfOk, IfErr, Some, None};
 ghost use Rattle.std.specs.List.{list_any};
+ghost use Rattle.base_types.specs.Limits.{body_limit};
 ghost use Rattle.job_frames.specs.Fields.{room_behind};
 ghost use Rattle.job_frames.specs.Request.{Got, path_reason, words_from, count_from, entries_from, judged_then};
 ghost use Rattle.job_frames.specs.Outcomes.{number_of};
 ghost use Rattle.job_frames.specs.parts.Numbers.{told_judge};
-ghost use Rattle.job_frames.specs.parts.Dues.{due_of, is_token, behind_token, behind_body, at_letter};
-ghost use Rattle.job_frames.specs.parts.Stages.{format_of, rank, token_format, token_next, body_format, token_rank, body_rank, words_rank, names_rank, words_due, names_due, node_due, target_due, token_of, letters_of, judge_of, length_of, most_of, field_of, Ready, TokenReady, BodyReady, PathReady, Keeps, Goes, IsJudged, Begins};
+ghost use Rattle.job_frames.specs.parts.Dues.{due_of, is_token_due, behind_token, behind_body, at_letter};
+ghost use Rattle.job_frames.specs.parts.Stages.{format_of, rank, token_format, token_next, body_format, token_rank, body_rank, words_rank, names_rank, words_due, names_due, node_due, target_due, node_token_of, letters_of, judge_of, length_of, most_of, field_of, Ready, TokenReady, BodyReady, PathReady, Keeps, Goes, IsJudged, Begins};
 ghost use Rattle.tree_model.specs.Entries.{judged_path, Increasing};
 ghost use Rattle.job_words.specs.Words.{job_of};
 ghost use Rattle.job_frames.specs.declared.request_due.Due.TheVariants as stage;
@@ -17,6 +18,9 @@ use crate::FrameError;
 use crate::field::{Field, Frame};
 use crate::judges::{judge_bare, judge_body, judge_version, judge_within, judge_zero};
 use crate::request_due::{Body, Due, Token};
+use base_types::limits::{
+    BODY_LIMIT, ENTRY_LIMIT, JOB_WORDS_LIMIT, PATH_LIMIT, REQUEST_LIMIT, WORD_LIMIT,
+};
 use base_types::{Bytes, List};
 use job_words::{Job, WordError, read_words};
 use std::alloc::Global;
@@ -73,7 +77,7 @@ pub fn begin_frame(alloc: Global, token: Token) -> RequestFrame
         due: Due::Token(token),
         read: Read {
             version: 0x103,
-            room: 268435456,
+            room: REQUEST_LIMIT as u32,
             cwd: Bytes::new(alloc),
             words: List::new(alloc),
             job: None,
@@ -118,19 +122,19 @@ fn field(due: Due) -> Field
 fn judge(token: Token, read: &Read, n: u32) -> Option<FrameError>
     ensures answer { told_judge result ≡ judge_of token read.now n }
     ensures room { result ≡ None → 12 + length_of token n ≤ read.now.room }
-    ensures small { result ≡ None → length_of token n ≤ 16777216 }
+    ensures small { result ≡ None → length_of token n ≤ body_limit }
     ensures few { result ≡ None → n ≤ most_of token }
 {
     match token {
         Token::Version => judge_bare(read.room, judge_version(read.version, n)),
-        Token::Place => judge_body(read.room, 1, 4096, n),
-        Token::Argc => judge_bare(read.room, judge_within(1000, n)),
-        Token::Word(_) => judge_body(read.room, 1, 4096, n),
-        Token::Count => judge_bare(read.room, judge_within(100000, n)),
-        Token::Name(_) => judge_body(read.room, 2, 4096, n),
+        Token::Place => judge_body(read.room, 1, WORD_LIMIT as u32, n),
+        Token::Argc => judge_bare(read.room, judge_within(JOB_WORDS_LIMIT as u32, n)),
+        Token::Word(_) => judge_body(read.room, 1, WORD_LIMIT as u32, n),
+        Token::Count => judge_bare(read.room, judge_within(ENTRY_LIMIT as u32, n)),
+        Token::Name(_) => judge_body(read.room, 2, PATH_LIMIT as u32, n),
         Token::Dir(_) => judge_bare(read.room, judge_zero(n)),
-        Token::Link(_) => judge_body(read.room, 1, 4095, n),
-        Token::File(_) => judge_body(read.room, 0, 16777216, n),
+        Token::Link(_) => judge_body(read.room, 1, PATH_LIMIT as u32 - 1, n),
+        Token::File(_) => judge_body(read.room, 0, BODY_LIMIT as u32, n),
     }
 }
 
@@ -360,7 +364,7 @@ fn take_bytes(f: &mut RequestFrame, body: Body, n: u32, bytes: Vec<u8>) -> Resul
 // The token of a node, by its first letter.
 #[tactic(auto, using(std::proofs::lemmas::Bool::Decides::nat_tests))]
 fn node_token(letter: u8, left: u32) -> Token
-    ensures { result ≡ token_of letter left }
+    ensures { result ≡ node_token_of letter left }
 {
     if letter == b'M' {
         return Token::Dir(left);

@@ -1,5 +1,6 @@
 // Writing requests, images and replies.
 ghost use Rattle.std.specs.Prelude.{◌≡◌, ◌≤◌, ◌<◌, ◌++◌, length, IfOk, OnOk, All};
+ghost use Rattle.base_types.specs.Limits.{diagnostic_limit, entry_limit, job_words_limit, text_limit, word_limit};
 ghost use Rattle.job_frames.specs.Fields.{digit, digits, token, field};
 ghost use Rattle.job_frames.specs.declared.answer.Answer.TheVariants as answer;
 ghost use Rattle.job_frames.specs.Reply.{IsAnswer, reply_bytes};
@@ -17,7 +18,7 @@ fn digit_byte(d: u32) -> u8
     requires { d < 16 }
     ensures { result ≡ digit d }
 {
-    if d < 10 { 48 + d as u8 } else { 87 + d as u8 }
+    if d < 10 { b'0' + d as u8 } else { 87 + d as u8 }
 }
 
 // The eight digits of a number.
@@ -45,7 +46,7 @@ fn push_token(out: &mut Vec<u8>, letters: &[u8], n: u32) -> Result<(), AllocErro
 
 // Appends a token and its body.
 fn push_field(out: &mut Vec<u8>, letters: &[u8], body: &[u8]) -> Result<(), AllocError>
-    requires { length body.now ≤ 67108864 }
+    requires { length body.now ≤ text_limit }
     ensures { OnOk result (out.new.items ≡ out.old.items ++ field letters.now body.now) }
 {
     push_token(out, letters, body.len() as u32)?;
@@ -67,7 +68,7 @@ fn push_node(out: &mut Vec<u8>, node: &Entry) -> Result<(), AllocError>
 
 // Appends the entries.
 fn push_entries(out: &mut Vec<u8>, entries: &[(CanonPath, Entry)]) -> Result<(), AllocError>
-    requires few { length entries.now ≤ 100000 }
+    requires few { length entries.now ≤ entry_limit }
     requires fit { All HasSpelling entries.now }
     ensures { OnOk result (out.new.items ≡ out.old.items ++ image_bytes entries.now) }
 {
@@ -81,7 +82,7 @@ fn push_entries(out: &mut Vec<u8>, entries: &[(CanonPath, Entry)]) -> Result<(),
 
 /// The image of entries.
 pub fn write_entries(alloc: Global, entries: &[(CanonPath, Entry)]) -> Result<Bytes, AllocError>
-    requires few { length entries.now ≤ 100000 }
+    requires few { length entries.now ≤ entry_limit }
     requires fit { All HasSpelling entries.now }
     ensures { IfOk result (λ bytes. bytes ≡ image_bytes entries.now) }
 {
@@ -96,7 +97,7 @@ pub fn write_request(
     job: &Job,
     entries: &[(CanonPath, Entry)],
 ) -> Result<Bytes, AllocError>
-    requires few { length entries.now ≤ 100000 }
+    requires few { length entries.now ≤ entry_limit }
     requires fit { All HasSpelling entries.now }
     ensures { IfOk result (λ bytes. bytes ≡ request_bytes job.now entries.now) }
 {
@@ -112,8 +113,8 @@ pub fn write_request(
 
 // Appends words.
 fn push_words(out: &mut Vec<u8>, words: &[Bytes]) -> Result<(), AllocError>
-    requires few { length words.now ≤ 1000 }
-    requires fit { All (λ word. length word ≤ 4096) words.now }
+    requires few { length words.now ≤ job_words_limit }
+    requires fit { All (λ word. length word ≤ word_limit) words.now }
     ensures { OnOk result (out.new.items ≡ out.old.items ++ words_bytes words.now) }
 {
     push_token(out, b"ARGC", words.len() as u32)?;
@@ -125,7 +126,7 @@ fn push_words(out: &mut Vec<u8>, words: &[Bytes]) -> Result<(), AllocError>
 
 // Appends the reply that says a text.
 fn push_text(out: &mut Vec<u8>, text: &[u8]) -> Result<(), AllocError>
-    requires { length text.now ≤ 67108864 }
+    requires { length text.now ≤ text_limit }
     ensures { OnOk result (out.new.items ≡ out.old.items ++ reply_bytes (answer.Text text.now)) }
 {
     push_token(out, b"DONE", 0x103)?;
@@ -137,7 +138,7 @@ fn push_text(out: &mut Vec<u8>, text: &[u8]) -> Result<(), AllocError>
 
 // Appends the reply that says a diagnostic.
 fn push_diagnostic(out: &mut Vec<u8>, words: &[u8]) -> Result<(), AllocError>
-    requires { length words.now ≤ 65536 }
+    requires { length words.now ≤ diagnostic_limit }
     ensures { OnOk result (out.new.items ≡ out.old.items ++ reply_bytes (answer.Diag words.now)) }
 {
     push_token(out, b"DONE", 0x103)?;

@@ -26,9 +26,9 @@ abbrev pub wanted : Option Field → ℕ
 wanted None = 0
 wanted (Some due) = size_of due
 
-abbrev pub is_token : Option Field → Bool
-is_token (Some (Token letters)) = true
-is_token _ = false
+abbrev pub is_token_due : Option Field → Bool
+is_token_due (Some (Token letters)) = true
+is_token_due _ = false
 
 -- a format, where a number passes its judge
 abbrev pub passed : {A : Type 0} → Option ℕ → Format A → Format A

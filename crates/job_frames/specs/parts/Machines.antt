@@ -20,29 +20,29 @@ use Rattle.job_frames.specs.parts.Dues.{due_of, size_of, wanted}
 abbrev pub left_to_read : {F A : Type 0} → (F → Format A) → Machine F → List ℕ → Step A
 left_to_read format m more = reading (format m.frame) (m.pending.items ++ more)
 
-pub record Stands {F A : Type 0} (format : F → Format A) (keeps : F → Type 0) (m : Machine F) : Type 0 where
+pub record MachineStands {F A : Type 0} (format : F → Format A) (keeps : F → Type 0) (m : Machine F) : Type 0 where
   pub fits : length m.pending.items ≤ wanted (due_of (format m.frame))
   pub kept : keeps m.frame
 
 -- all has come
-abbrev pub IsWhole : {A : Type 0} → Format A → Type 0
-IsWhole f = due_of f ≡ Some Whole
+abbrev pub IsWholeFrame : {A : Type 0} → Format A → Type 0
+IsWholeFrame f = due_of f ≡ Some Whole
 
 -- one move: the verdict on what came, or the field that is due has come and the next is due
 abbrev pub Moves : {F A : Type 0} → (F → Format A) → (F → ℕ) → (F → Type 0) → Field → Machine F → Machine F → Move → Type 0
 Moves format rank keeps field old new (Rest fed.More) = (new ≡ old) × (length old.pending.items < size_of field) × (left_to_read format old [] ≡ short)
 Moves format rank keeps field old new (Rest fed.Done) = (new ≡ old) × (field ≡ Whole)
 Moves format rank keeps field old new (Rest (fed.Refused e)) = (e ≡ why.Memory) ⊎ ((more : List ℕ) → left_to_read format old more ≡ refused (number_of e))
-Moves format rank keeps field old new Go = ((more : List ℕ) → left_to_read format new more ≡ left_to_read format old more) × (rank new.frame < rank old.frame) × Stands format keeps new
+Moves format rank keeps field old new Go = ((more : List ℕ) → left_to_read format new more ≡ left_to_read format old more) × (rank new.frame < rank old.frame) × MachineStands format keeps new
 
 -- a machine stands behind a piece as far as this place: what it reads is what it read
 abbrev pub Passed : {F A : Type 0} → (F → Format A) → (F → Type 0) → Machine F → List ℕ → ℕ → Machine F → Type 0
-Passed format keeps old piece at new = (at ≤ length piece) × ((more : List ℕ) → left_to_read format new (drop at piece ++ more) ≡ left_to_read format old (piece ++ more)) × Stands format keeps new
+Passed format keeps old piece at new = (at ≤ length piece) × ((more : List ℕ) → left_to_read format new (drop at piece ++ more) ≡ left_to_read format old (piece ++ more)) × MachineStands format keeps new
 
 -- the verdict on a piece behind all that came
 abbrev pub HasRunTo : {F A : Type 0} → (F → Format A) → (F → Type 0) → Machine F → List ℕ → Machine F → ℕ → Fed → Type 0
-HasRunTo format keeps old piece new at fed.More = ((more : List ℕ) → left_to_read format new more ≡ left_to_read format old (piece ++ more)) × (left_to_read format new [] ≡ short) × Stands format keeps new
-HasRunTo format keeps old piece new at fed.Done = Passed format keeps old piece at new × IsWhole (format new.frame)
+HasRunTo format keeps old piece new at fed.More = ((more : List ℕ) → left_to_read format new more ≡ left_to_read format old (piece ++ more)) × (left_to_read format new [] ≡ short) × MachineStands format keeps new
+HasRunTo format keeps old piece new at fed.Done = Passed format keeps old piece at new × IsWholeFrame (format new.frame)
 HasRunTo format keeps old piece new at (fed.Refused e) = (e ≡ why.Memory) ⊎ ((more : List ℕ) → left_to_read format old (piece ++ more) ≡ refused (number_of e))
 
 abbrev pub HasRun : {F A : Type 0} → (F → Format A) → (F → Type 0) → Machine F → List ℕ → Machine F → Ran → Type 0
@@ -76,8 +76,8 @@ left_of format follows r = left_verdict follows r.stopped (format r.machine.fram
 
 -- a machine that was left at a verdict: all has come, or its field isn't whole
 abbrev pub Settled : {F A : Type 0} → (F → Format A) → Machine F → Type 0
-Settled format m = IsWhole (format m.frame) ⊎ (left_to_read format m [] ≡ short)
+Settled format m = IsWholeFrame (format m.frame) ⊎ (left_to_read format m [] ≡ short)
 
 abbrev pub KeepsReader : {F A : Type 0} → (F → Format A) → (F → Type 0) → Option FrameError → Machine F → Type 0
-KeepsReader format keeps None m = Stands format keeps m × Settled format m
+KeepsReader format keeps None m = MachineStands format keeps m × Settled format m
 KeepsReader format keeps (Some e) m = Unit {0}

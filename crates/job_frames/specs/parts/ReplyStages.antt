@@ -1,5 +1,6 @@
 -- Where a reader of replies stands: which field is due, and the format from there on.
 use Rattle.std.specs.Prelude.{◌≤◌, ℕ, List, Option, Some, None, codes, ◌==◌, if◌then◌else◌, Result}
+use Rattle.base_types.specs.Limits.{diagnostic_limit, text_limit}
 use Rattle.job_frames.specs.declared.FrameError.{FrameError}
 use Rattle.job_frames.specs.declared.answer.Answer.{Answer}
 use Rattle.job_frames.specs.declared.field.Field.{Field}
@@ -18,9 +19,9 @@ use Rattle.job_frames.specs.Reply.{allowed, status_judge, text_body_from, text_f
 use Rattle.job_frames.specs.parts.Dues.{Went}
 
 -- the answer that was read, where there is one
-abbrev pub given : Option Answer → Format Answer
-given None = refuses order_reason
-given (Some a) = gives a
+abbrev pub given_answer : Option Answer → Format Answer
+given_answer None = refuses order_reason
+given_answer (Some a) = gives a
 
 -- the format where a token is due, by the version and the greatest reason, with the answer so far
 unfoldable pub token_format : ReplyToken → ℕ → ℕ → Option Answer → Format Answer
@@ -29,7 +30,7 @@ token_format Version v g o = done_from v
 token_format Status v g o = status_from
 token_format NoWords v g o = no_diagnostic_from
 token_format Words v g o = diagnostic_from
-token_format NoText v g o = due_token (codes "DOTI") (allowed 67108864 0 0) (λ n. given o)
+token_format NoText v g o = due_token (codes "DOTI") (allowed text_limit 0 0) (λ n. given_answer o)
 token_format Text v g o = text_from
 
 unfoldable pub body_format : ReplyBody → ℕ → Format Answer
@@ -40,7 +41,7 @@ abbrev pub format_of : ReplyDue → ℕ → ℕ → Option Answer → Format Ans
 format_of due.Start v g o = reply_from v g
 format_of (due.Token t) v g o = token_format t v g o
 format_of (due.Body b n) v g o = body_format b n
-format_of due.Whole v g o = given o
+format_of due.Whole v g o = given_answer o
 
 -- the letters of a token, and what its number may be
 unfoldable pub letters_of : ReplyToken → List ℕ
@@ -56,10 +57,10 @@ unfoldable pub judge_of : ReplyToken → ℕ → ℕ → ℕ → Option ℕ
 judge_of Refusal v g n = within 1 g n
 judge_of Version v g n = only v version_reason n
 judge_of Status v g n = status_judge n
-judge_of NoWords v g n = allowed 65536 0 0 n
-judge_of Words v g n = allowed 65536 1 65536 n
-judge_of NoText v g n = allowed 67108864 0 0 n
-judge_of Text v g n = allowed 67108864 0 67108864 n
+judge_of NoWords v g n = allowed diagnostic_limit 0 0 n
+judge_of Words v g n = allowed diagnostic_limit 1 diagnostic_limit n
+judge_of NoText v g n = allowed text_limit 0 0 n
+judge_of Text v g n = allowed text_limit 0 text_limit n
 
 -- the token of a reply, by its first letter
 abbrev pub first_of : ℕ → ReplyToken

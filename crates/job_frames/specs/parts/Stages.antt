@@ -1,6 +1,8 @@
 -- Where a reader of requests or images stands: which field is due, and the format from there on.
-use Rattle.std.specs.Prelude.{◌≡◌, ◌⊎◌, ℕ, ◌+◌, ◌*◌, List, [], ◌∷◌, ◌++◌, Option, Some, None, codes, true, ◌==◌, if◌then◌else◌, Result, Ok, Err}
+use Rattle.std.specs.Prelude.{◌≡◌, ◌⊎◌, ℕ, ◌+◌, ◌-◌, ◌*◌, List, [], ◌∷◌, ◌++◌, Option, Some, None, codes, true, ◌==◌, if◌then◌else◌, Result, Ok, Err}
 use Rattle.std.specs.List.{list_any}
+use Rattle.base_types.specs.Ascii as ascii
+use Rattle.base_types.specs.Limits.{body_limit, entry_limit, job_words_limit, path_limit, request_limit, word_limit}
 use Rattle.tree_model.specs.Entries.{Entries, comes_behind, Increasing}
 use Rattle.tree_model.specs.Paths.{spelled}
 use Rattle.tree_model.specs.Paths as path
@@ -22,7 +24,7 @@ use Rattle.job_frames.specs.declared.request_frame.RequestFrame.{RequestFrame}
 use Rattle.job_frames.specs.Fields.{limit_reason, parent_reason, version_reason, within, only, fits, bare}
 use Rattle.job_frames.specs.Formats.{Format, gives, refuses}
 use Rattle.job_frames.specs.Outcomes.{number_of}
-use Rattle.job_frames.specs.Request.{most, Got, path_reason, entries_from, name_then, path_then, node_then, dir_then, link_then, target_then, file_then, file_body_then, image_from, words_from, word_then, word_body_then, count_from, place_body_from, place_from, request_from}
+use Rattle.job_frames.specs.Request.{Got, path_reason, entries_from, name_then, path_then, node_then, dir_then, link_then, target_then, file_then, file_body_then, image_from, words_from, word_then, word_body_then, count_from, place_body_from, place_from, request_from}
 use Rattle.job_frames.specs.parts.Dues.{Went}
 
 -- at the path that came before, where there is one
@@ -69,14 +71,14 @@ letters_of (token.File k) = codes "FILE"
 
 unfoldable pub judge_of : Token → Read → ℕ → Option ℕ
 judge_of token.Version r n = bare r.room (only r.version version_reason n)
-judge_of token.Place r n = fits r.room 1 4096 n
-judge_of token.Argc r n = bare r.room (within 0 1000 n)
-judge_of (token.Word k) r n = fits r.room 1 4096 n
-judge_of token.Count r n = bare r.room (within 0 100000 n)
-judge_of (token.Name k) r n = fits r.room 2 4096 n
+judge_of token.Place r n = fits r.room 1 word_limit n
+judge_of token.Argc r n = bare r.room (within 0 job_words_limit n)
+judge_of (token.Word k) r n = fits r.room 1 word_limit n
+judge_of token.Count r n = bare r.room (within 0 entry_limit n)
+judge_of (token.Name k) r n = fits r.room 2 path_limit n
 judge_of (token.Dir k) r n = bare r.room (only 0 limit_reason n)
-judge_of (token.Link k) r n = fits r.room 1 4095 n
-judge_of (token.File k) r n = fits r.room 0 16777216 n
+judge_of (token.Link k) r n = fits r.room 1 (path_limit - 1) n
+judge_of (token.File k) r n = fits r.room 0 body_limit n
 
 unfoldable pub length_of : Token → ℕ → ℕ
 length_of token.Place n = n
@@ -88,13 +90,13 @@ length_of _ n = 0
 
 -- how many words or entries a token's number may announce
 unfoldable pub most_of : Token → ℕ
-most_of token.Argc = 1000
-most_of token.Count = 100000
+most_of token.Argc = job_words_limit
+most_of token.Count = entry_limit
 most_of _ = 4294967295
 
 -- the token of a node, by its first letter
-abbrev pub token_of : ℕ → ℕ → Token
-token_of c k = if c == 77 then token.Dir k else (if c == 76 then token.Link k else token.File k)
+abbrev pub node_token_of : ℕ → ℕ → Token
+node_token_of c k = if c == ascii.upper_m then token.Dir k else (if c == ascii.upper_l then token.Link k else token.File k)
 
 -- the field that is due
 abbrev pub field_of : Due → Field
@@ -205,7 +207,7 @@ IsJudged (Err e) judged = (e ≡ why.Memory) ⊎ ((fault : MirrorError) × (judg
 pub record Begins (t : Token) (f : RequestFrame) : Type 0 where
   pub due_is : f.due ≡ due.Token t
   pub version : f.read.version ≡ 0x103
-  pub room : f.read.room ≡ most
+  pub room : f.read.room ≡ request_limit
   pub words : f.read.words ≡ []
   pub job : f.read.job ≡ None
   pub entries : f.read.entries ≡ []

@@ -2,7 +2,7 @@ use Rattle.std.proofs.Common.{◌<◌, sym, ◌∙◌, ap, subst}
 use Rattle.job_frames.specs.declared.reply_frame.ReplyDue.{ReplyDue}
 use Rattle.job_frames.specs.declared.reply_frame.ReplyDue.TheVariants as due
 use Rattle.job_frames.specs.declared.reply_frame.ReplyToken.{ReplyToken}
-use Rattle.job_frames.specs.parts.Dues.{is_token, at_letter}
+use Rattle.job_frames.specs.parts.Dues.{is_token_due, at_letter}
 use Rattle.job_frames.specs.parts.ReplyStages.{token_format, format_of, token_rank, rank, Ready}
 use Rattle.job_frames.proofs.ReplyStageLemmas.{field_is, only_start, first_goes, first_ready, first_falls}
 use Rattle.job_frames.proofs.reply_frame.ReplyFrameFrame.choose.Goals as goal
@@ -21,5 +21,5 @@ returns c =
         subst (λ (d : ReplyDue). token_rank c.first_token.result < rank d) (sym start) (subst (λ (t : ReplyToken). token_rank t < 7) (sym chosen) (first_falls c.args.letter)),
         record { small = c.requires.keeps.small; ready = ready },
       );
-      token = ap is_token (field_is (due.Token c.first_token.result) v g f.answer ready);
+      token = ap is_token_due (field_is (due.Token c.first_token.result) v g f.answer ready);
     }

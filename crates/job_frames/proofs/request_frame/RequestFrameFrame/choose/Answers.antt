@@ -2,7 +2,7 @@ use Rattle.std.proofs.Common.{◌<◌, ◌+◌, ◌*◌, sym, ◌∙◌, ap, sub
 use Rattle.job_frames.specs.declared.request_due.Due.{Due}
 use Rattle.job_frames.specs.declared.request_due.Due.TheVariants as due
 use Rattle.job_frames.specs.declared.request_due.Token.{Token}
-use Rattle.job_frames.specs.parts.Dues.{is_token, at_letter}
+use Rattle.job_frames.specs.parts.Dues.{is_token_due, at_letter}
 use Rattle.job_frames.specs.parts.Stages.{token_format, format_of, token_rank, rank, TokenReady, Ready}
 use Rattle.job_frames.proofs.StageLemmas.{field_is, only_kind, node_goes, node_ready, node_falls}
 use Rattle.job_frames.proofs.request_frame.RequestFrameFrame.choose.Goals as goal
@@ -22,7 +22,7 @@ pub returns-in-Kind-clause-token : goal.returns-in-Kind-clause-token
 returns-in-Kind-clause-token c =
     let r = c.args.self.now.read in
     let ready = subst (λ (d : Due). Ready d r) c.in-Kind.is c.requires.keeps.ready in
-    ap is_token (field_is (due.Token c.node_token.result) r (subst (λ (t : Token). TokenReady t r) (sym c.node_token.ensures) (node_ready c.in-Kind.left c.args.letter r ready)))
+    ap is_token_due (field_is (due.Token c.node_token.result) r (subst (λ (t : Token). TokenReady t r) (sym c.node_token.ensures) (node_ready c.in-Kind.left c.args.letter r ready)))
 
 pub returns-in_default : goal.returns-in_default
 returns-in_default c = absurd (only_kind c.args.self.now.due _ (field_is c.args.self.now.due c.args.self.now.read c.requires.keeps.ready) c.requires.due c.in_default.not-Kind)
