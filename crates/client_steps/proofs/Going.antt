@@ -6,7 +6,8 @@ use Rattle.std.proofs.lemmas.List.{map-append}
 use Rattle.base_types.specs.Causes.{Rose}
 use Rattle.base_types.specs.Members.{Member}
 use Rattle.tree_model.specs.Paths.{Path}
-use Rattle.tree_model.specs.Trees.{FileTree, IsTree, body_limit}
+use Rattle.base_types.specs.Limits.{body_limit}
+use Rattle.tree_model.specs.Trees.{FileTree, IsTree}
 use Rattle.tree_model.proofs.MemberLemmas.{Member-append}
 use Rattle.job_words.specs.declared.job.Job.{Job}
 use Rattle.io_edges.specs.declared.wire.Host.{Host}

@@ -5,7 +5,7 @@ use Rattle.std.specs.Option.{ForSome}
 use Rattle.std.specs.List.{list_all}
 use Rattle.std.proofs.lemmas.Bool.{and_parts, or_parts}
 use Rattle.base_types.specs.Members.{Member, Within}
-use Rattle.base_types.specs.Limits.{entry_limit}
+use Rattle.base_types.specs.Limits.{entry_limit, request_limit}
 use Rattle.directive_scan.specs.declared.HeaderName.{HeaderName}
 use Rattle.symbolic_expand.specs.Laws.{MoreKeepHeaders, MoreKeepLongRuns, MoreKeepPresumedRuns, MoreKeepManyRuns}
 use Rattle.tree_model.specs.Paths.{Text, Path, spelled, IsAtOrAbove}
@@ -19,7 +19,7 @@ use Rattle.search_path.specs.Laws.{SearchesLocate}
 use Rattle.search_path.specs.declared.asking.Visit.{Visit}
 use Rattle.job_words.specs.declared.job.Job.{Job}
 use Rattle.job_words.specs.JobOf.{JobData}
-use Rattle.job_frames.specs.Request.{request_bytes, most}
+use Rattle.job_frames.specs.Request.{request_bytes}
 use Rattle.sheet_build.specs.Laws.{PlacesLocate}
 use Rattle.closure_fixpoint.specs.declared.job_analysis.Refusal.{Refusal}
 use Rattle.closure_fixpoint.specs.declared.job_analysis.Refusal.TheVariants as refusal
@@ -239,10 +239,10 @@ module _ (keep : MoreKeepHeaders HeaderName) (long : MoreKeepLongRuns) (presumed
         request-holds : is_over job entries ≡ true → Holds refusal.Request tree job budget
         request-holds over = (entries, are, by_test (nat_lt entry_limit (length entries)) refl over)
           where
-            by_test : (b : Bool) → nat_lt entry_limit (length entries) ≡ b → (b || nat_lt most (length (request_bytes job entries))) ≡ true
-                → (entry_limit < length entries) ⊎ (most < length (request_bytes job entries))
+            by_test : (b : Bool) → nat_lt entry_limit (length entries) ≡ b → (b || nat_lt request_limit (length (request_bytes job entries))) ≡ true
+                → (entry_limit < length entries) ⊎ (request_limit < length (request_bytes job entries))
             by_test true e h = inl (ltb-true entry_limit (length entries) e)
-            by_test false e h = inr (ltb-true most (length (request_bytes job entries)) h)
+            by_test false e h = inr (ltb-true request_limit (length (request_bytes job entries)) h)
 
         nothing : (HasLarge entries → ⊥) → is_over job entries ≡ false → NothingHolds tree job budget
         nothing small fits refusal.Budget h = not-met refusal.Budget h
@@ -251,11 +251,11 @@ module _ (keep : MoreKeepHeaders HeaderName) (long : MoreKeepLongRuns) (presumed
         nothing small fits refusal.Visits h = not-met refusal.Visits h
         nothing small fits refusal.Large (path, node, large) = none-large small path node large
         nothing small fits refusal.Request (others, be, inl many) =
-            few entry_limit (length entries) (or_parts (nat_lt entry_limit (length entries)) (nat_lt most (length (request_bytes job entries))) fits).0
+            few entry_limit (length entries) (or_parts (nat_lt entry_limit (length entries)) (nat_lt request_limit (length (request_bytes job entries))) fits).0
             (subst (λ (e : Entries). entry_limit < length e) (same-entries tree job others entries be are) many)
         nothing small fits refusal.Request (others, be, inr long) =
-            few most (length (request_bytes job entries)) (or_parts (nat_lt entry_limit (length entries)) (nat_lt most (length (request_bytes job entries))) fits).1
-            (subst (λ (e : Entries). most < length (request_bytes job e)) (same-entries tree job others entries be are) long)
+            few request_limit (length (request_bytes job entries)) (or_parts (nat_lt entry_limit (length entries)) (nat_lt request_limit (length (request_bytes job entries))) fits).1
+            (subst (λ (e : Entries). request_limit < length (request_bytes job e)) (same-entries tree job others entries be are) long)
         nothing small fits refusal.NoSource none = done.done.accepted (answers_of tree job) (is_large_in tree) done.is_true refusal.NoSource none
 
       -- what is gathered answers the job

@@ -2,7 +2,8 @@
 use Rattle.std.proofs.Common.{◌≡◌, ℕ, [], ◌∷◌, length, Option, Some, Bool, true, false, inl, inr, refl, sym, ap, subst, ◌∙◌}
 use Rattle.std.specs.Prelude.{IsTrue}
 use Rattle.std.proofs.lemmas.Bool.{lt-ltb}
-use Rattle.tree_model.specs.Trees.{FileTree, body_limit}
+use Rattle.base_types.specs.Limits.{body_limit}
+use Rattle.tree_model.specs.Trees.{FileTree}
 use Rattle.tree_model.proofs.MemberLemmas.{Member-append}
 use Rattle.search_path.specs.Search.{Hit, search}
 use Rattle.search_path.specs.declared.asking.Visit.{Visit}

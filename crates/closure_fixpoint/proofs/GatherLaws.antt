@@ -1,25 +1,27 @@
 -- What is gathered of paths in order.
-use Rattle.std.proofs.Common.{◌≡◌, ◌<◌, ◌+◌, ◌≤◌, ℕ, zero, suc, List, [], ◌∷◌, ◌++◌, length, take, drop, get_or, Option, None, Some, Bool, true, false, ◌&&◌, ◌||◌, cond, refl, sym, ◌∙◌, ap, subst, arith, inl, inr, ◌⊎◌, append_assoc, add-one}
-use Rattle.std.specs.Prelude.{All, IsTrue, nat_eq, nat_lt, ◌==◌, not, ◌↔◌}
+use Rattle.std.proofs.Common.{◌≡◌, ◌<◌, ◌+◌, ◌≤◌, ℕ, zero, suc, List, [], ◌∷◌, ◌++◌, length, take, drop, get_or, Option, None, Some, Bool, true, false, ◌||◌, cond, refl, sym, ◌∙◌, ap, subst, arith, inl, inr, ◌⊎◌, append_assoc, add-one}
+use Rattle.std.specs.Prelude.{All, IsTrue, nat_eq, ◌↔◌}
 use Rattle.std.specs.List.{list_any, list_all}
 use Rattle.std.specs.Ordering.{nat_cmp, is_lt}
 use Rattle.std.specs.Cmp.Lexicographic.{slice_cmp}
 use Rattle.std.proofs.lemmas.Cmp.{nat_cmp_total, tied_itself}
-use Rattle.std.proofs.lemmas.Bool.{and_parts, and_from, lt-ltb}
+use Rattle.std.proofs.lemmas.Bool.{and_parts, and_from}
 use Rattle.std.proofs.lemmas.List.{take-append-drop, take_all}
 use Rattle.std.proofs.lemmas.List.Elements.{All-push}
 use Rattle.std.proofs.lemmas.List.Folds.{list_any-append}
 use lib.Pointwise.{pointwise}
 use Rattle.base_types.specs.Members.{Member, Within}
-use Rattle.tree_model.specs.Paths.{Text, Path, slash, spelled, spelled_below, is_canonical, IsCanonical}
-use Rattle.tree_model.specs.Entries.{Entries, is_increasing, below, is_dir, is_dir_at, has_parent, is_link_text, entry_fits, makes_tree}
+use Rattle.base_types.specs.Ascii.{slash}
+use Rattle.tree_model.specs.Paths.{Text, Path, spelled, spelled_below, is_canonical, IsCanonical}
+use Rattle.tree_model.specs.Entries.{Entries, is_increasing, below, is_dir, is_dir_at, has_parent, entry_fits, makes_tree}
 use Rattle.tree_model.specs.Laws.{ParentsMakeTrees, TestsDecide}
 use Rattle.tree_model.specs.Trees.{FileTree, entry_at, entry_body, IsTooLarge}
 use Rattle.tree_model.specs.declared.entry.Entry.{Entry}
 use Rattle.tree_model.specs.declared.entry.Entry.TheVariants.{Dir, File, Link}
 use Rattle.tree_model.proofs.MemberLemmas.{Member-append, Member-append_left, Member-append_right, list_any-true}
 use Rattle.tree_model.proofs.PathLemmas.{text_same, text_itself}
-use Rattle.job_frames.specs.Request.{HasSpelling, IsSpellable}
+use Rattle.job_frames.specs.Request.{HasSpelling}
+use Rattle.job_frames.proofs.TreeLemmas.{fits_entry}
 use Rattle.macro_defs.proofs.Fronts.{front_at}
 use Rattle.closure_fixpoint.specs.Gathering.{comes_before, are_rising, AreGathered, HasLarge, with_path, kept_at, gathered_from, AreKept, AddsAt, files_there, files_among}
 use Rattle.closure_fixpoint.proofs.Orders.{in_order, at-member}
@@ -334,19 +336,9 @@ pub all-test : {X : Type 0} (test : X → Bool) (xs : List X) → ((x : X) → M
 all-test test [] each = refl
 all-test test (x ∷ xs) each = and_from (test x) (list_all test xs) (each x (inl refl)) (all-test test xs (λ y m. each y (inr m)))
 
-link-fits : (text : Text) → (1 ≤ length text) × (length text ≤ 4095) × (list_any (λ c. c == 0) text ≡ false) → is_link_text text ≡ true
-link-fits text fits =
-    and_from (nat_lt 0 (length text)) (nat_lt (length text) 4096 && not (list_any (λ byte. byte == 0) text)) (lt-ltb 0 (length text) (omega (arith, fits.0)))
-    (and_from (nat_lt (length text) 4096) (not (list_any (λ byte. byte == 0) text)) (lt-ltb (length text) 4096 (omega (arith, fits.1))) (ap not fits.2))
-
-entry-fits : (entry : Entry) → IsSpellable entry → entry_fits entry ≡ true
-entry-fits Dir fits = refl
-entry-fits (File body) fits = refl
-entry-fits (Link text) fits = link-fits text fits
-
 pub tree-made : ParentsMakeTrees → TestsDecide → (nodes : List Path) (entries : Entries) → All IsCanonical nodes → AreKept nodes entries → All HasSpelling entries → IsTrue (makes_tree entries)
 tree-made makes decide nodes entries canonical kept fits =
     makes entries kept.increasing
     (all-test (λ (e : Path × Entry). has_parent entries e.0) entries (λ e m. kept.parents e.0 e.1 m))
     (all-test (λ (e : Path × Entry). is_canonical e.0) entries (λ e m. (decide e.0).1 (at-member IsCanonical nodes canonical e.0 (kept.inside e.0 e.1 m))))
-    (all-test (λ (e : Path × Entry). entry_fits e.1) entries (λ e m. entry-fits e.1 (at-member HasSpelling entries fits e m).1))
+    (all-test (λ (e : Path × Entry). entry_fits e.1) entries (λ e m. fits_entry e.1 (at-member HasSpelling entries fits e m).1))

@@ -4,7 +4,8 @@ use Rattle.base_types.specs.Members.{Member, Within}
 use Rattle.directive_scan.specs.declared.HeaderName.{HeaderName}
 use Rattle.symbolic_expand.specs.Laws.{MoreKeepHeaders}
 use Rattle.tree_model.specs.Paths.{Text, Path, spelled, IsAtOrAbove}
-use Rattle.tree_model.specs.Trees.{FileTree, IsTree, entry_at, body_at, entry_body, body_limit, IsTooLarge}
+use Rattle.base_types.specs.Limits.{body_limit}
+use Rattle.tree_model.specs.Trees.{FileTree, IsTree, entry_at, body_at, entry_body, IsTooLarge}
 use Rattle.tree_model.specs.Bodies.{body_at_path}
 use Rattle.tree_model.specs.Walk.{locate}
 use Rattle.tree_model.specs.Frame.{LocatedHolds, HoldsOfLocated}

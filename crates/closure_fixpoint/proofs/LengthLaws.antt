@@ -1,5 +1,5 @@
 -- The lengths of spellings.
-use Rattle.std.proofs.Common.{◌≡◌, ◌<◌, ◌+◌, ◌/◌, ◌%◌, ℕ, zero, suc, List, [], ◌∷◌, ◌++◌, length, take, get_or, refl, sym, ap, arith, add-one}
+use Rattle.std.proofs.Common.{◌≡◌, ◌<◌, ◌+◌, ℕ, zero, suc, List, [], ◌∷◌, ◌++◌, length, take, get_or, refl, sym, ap, arith, add-one}
 use Rattle.std.specs.Prelude.{codes}
 use Rattle.std.specs.List.{flat_map}
 use Rattle.std.proofs.lemmas.List.{length-append}
@@ -8,42 +8,23 @@ use Rattle.tree_model.specs.Entries.{Entries}
 use Rattle.tree_model.specs.declared.entry.Entry.{Entry}
 use Rattle.tree_model.specs.declared.entry.Entry.TheVariants.{Dir, File, Link}
 use Rattle.job_words.specs.declared.job.Job.{Job}
-use Rattle.job_frames.specs.Fields.{digit, digits, token, field}
+use Rattle.job_frames.specs.Fields.{token, field}
 use Rattle.job_frames.specs.Request.{node_bytes, entry_bytes, image_bytes, words_bytes, request_bytes}
-
-digits-length : (k n : ℕ) → length (digits k n) ≡ k
-unfolding digits
-digits-length zero n = refl
-digits-length (suc k) n =
-    let joined = length-append (digits k (n / 16)) (digit (n % 16) ∷ []) in
-    let before : length (digits k (n / 16)) ≡ k = digits-length k (n / 16) in
-    omega (arith, joined, before)
-
-pub token-length : (letters : List ℕ) (n : ℕ) → length letters ≡ 4 → length (token letters n) ≡ 12
-token-length letters n four =
-    let joined = length-append letters (digits 8 n) in
-    let eight : length (digits 8 n) ≡ 8 = digits-length 8 n in
-    omega (arith, joined, eight, four)
-
-pub field-length : (letters body : List ℕ) → length letters ≡ 4 → length (field letters body) ≡ 12 + length body
-field-length letters body four =
-    let joined = length-append (token letters (length body)) body in
-    let twelve : length (token letters (length body)) ≡ 12 = token-length letters (length body) four in
-    omega (arith, joined, twelve)
+use Rattle.job_frames.proofs.SpellingLemmas.{token_length, field_length}
 
 pub dir-length : 12 ≡ length (node_bytes Dir)
-dir-length = sym (token-length (codes "MDIR") 0 refl)
+dir-length = sym (token_length (codes "MDIR") 0 refl)
 
 pub file-length : (body : Text) → 12 + length body ≡ length (node_bytes (File body))
-file-length body = sym (field-length (codes "FILE") body refl)
+file-length body = sym (field_length (codes "FILE") body refl)
 
 pub link-length : (text : Text) → 12 + length text ≡ length (node_bytes (Link text))
-link-length text = sym (field-length (codes "LINK") text refl)
+link-length text = sym (field_length (codes "LINK") text refl)
 
 pub entry-length : (e : Path × Entry) (path : Text) (node : ℕ) → path ≡ spelled e.0 → node ≡ length (node_bytes e.1) → 12 + length path + node ≡ length (entry_bytes e)
 entry-length e path node is counted =
     let joined = length-append (field (codes "NAME") (spelled e.0)) (node_bytes e.1) in
-    let name : length (field (codes "NAME") (spelled e.0)) ≡ 12 + length (spelled e.0) = field-length (codes "NAME") (spelled e.0) refl in
+    let name : length (field (codes "NAME") (spelled e.0)) ≡ 12 + length (spelled e.0) = field_length (codes "NAME") (spelled e.0) refl in
     let same : length path ≡ length (spelled e.0) = ap length is in
     omega (arith, joined, name, same, counted)
 
@@ -66,14 +47,14 @@ flat-next {X = X} f xs i x below is = rw (add-one i) (by_suc xs i below is)
 pub words-length : (words : List Text) → length (words_bytes words) ≡ 12 + length (flat_map (field (codes "ARGV")) words)
 words-length words =
     let joined = length-append (token (codes "ARGC") (length words)) (flat_map (field (codes "ARGV")) words) in
-    let twelve : length (token (codes "ARGC") (length words)) ≡ 12 = token-length (codes "ARGC") (length words) refl in
+    let twelve : length (token (codes "ARGC") (length words)) ≡ 12 = token_length (codes "ARGC") (length words) refl in
     omega (arith, joined, twelve)
 
 pub image-length : (entries : Entries) → length (image_bytes entries) ≡ 12 + length (flat_map entry_bytes entries)
 unfolding image_bytes
 image-length entries =
     let joined = length-append (token (codes "NFIL") (length entries)) (flat_map entry_bytes entries) in
-    let twelve : length (token (codes "NFIL") (length entries)) ≡ 12 = token-length (codes "NFIL") (length entries) refl in
+    let twelve : length (token (codes "NFIL") (length entries)) ≡ 12 = token_length (codes "NFIL") (length entries) refl in
     omega (arith, joined, twelve)
 
 pub request-length : (job : Job) (entries : Entries) (cwd : Text) (words image : ℕ) → cwd ≡ job.setup.cwd → words ≡ length (words_bytes job.words) → image ≡ length (image_bytes entries)
@@ -89,7 +70,7 @@ request-length job entries cwd words image cwd_is words_are image_is =
     let c = length-append count (list ++ image_bytes entries) in
     let d = length-append list (image_bytes entries) in
     let e = length-append count list in
-    let f : length head ≡ 12 = token-length (codes "DIST") 0x103 refl in
-    let g : length place ≡ 12 + length job.setup.cwd = field-length (codes "CDIR") job.setup.cwd refl in
+    let f : length head ≡ 12 = token_length (codes "DIST") 0x103 refl in
+    let g : length place ≡ 12 + length job.setup.cwd = field_length (codes "CDIR") job.setup.cwd refl in
     let h : length cwd ≡ length job.setup.cwd = ap length cwd_is in
     omega (arith, a, b, c, d, e, f, g, h, words_are, image_is)

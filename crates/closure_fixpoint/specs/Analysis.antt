@@ -1,7 +1,7 @@
 -- What an analysis sends, and why it is refused.
 use Rattle.std.specs.Prelude.{◌≡◌, ◌⊎◌, ◌<◌, ℕ, List, [], length, None, Some}
 use Rattle.base_types.specs.Members.{Member}
-use Rattle.base_types.specs.Limits.{entry_limit}
+use Rattle.base_types.specs.Limits.{entry_limit, request_limit}
 use Rattle.tree_model.specs.Paths.{Path, IsAtOrAbove}
 use Rattle.tree_model.specs.Entries.{Entries, Increasing}
 use Rattle.tree_model.specs.Trees.{FileTree, entry_at, IsTooLarge}
@@ -11,7 +11,7 @@ use Rattle.search_path.specs.Asks.{source_ask}
 use Rattle.search_path.specs.Search.{search}
 use Rattle.search_path.specs.declared.asking.Visit.{Visit}
 use Rattle.job_words.specs.declared.job.Job.{Job}
-use Rattle.job_frames.specs.Request.{request_bytes, most}
+use Rattle.job_frames.specs.Request.{request_bytes}
 use Rattle.closure_fixpoint.specs.Closure.{IsClosureOf, IsKnownSearch, answers_of, IsMetAtClosure}
 use Rattle.closure_fixpoint.specs.declared.job_analysis.Refusal.{Refusal}
 use Rattle.closure_fixpoint.specs.declared.job_analysis.Refusal.TheVariants as refusal
@@ -53,7 +53,7 @@ Holds refusal.Presumed tree job budget = IsMetAtClosure refusal.Presumed tree jo
 Holds refusal.Visits tree job budget = IsMetAtClosure refusal.Visits tree job budget
 Holds refusal.Large tree job budget = (path : Path) × IsNodeOf tree job path × IsTooLarge tree path
 Holds refusal.Request tree job budget =
-    (entries : Entries) × AreEntriesOf tree job entries × ((entry_limit < length entries) ⊎ (most < length (request_bytes job entries)))
+    (entries : Entries) × AreEntriesOf tree job entries × ((entry_limit < length entries) ⊎ (request_limit < length (request_bytes job entries)))
 Holds refusal.NoSource tree job budget = search tree job.setup (source_ask job.source) ≡ None
 
 abbrev pub NothingHolds : FileTree → Job → ℕ → Type 0

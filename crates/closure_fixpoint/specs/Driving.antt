@@ -1,7 +1,8 @@
 -- The analysis of a job over a tree: what an analysis was told of the tree, and how it ends.
 use Rattle.std.specs.Prelude.{◌≡◌, All, ℕ, Bool, false, IsTrue, length, nat_lt, List, Option, None, Some}
 use Rattle.tree_model.specs.Paths.{Path, IsCanonical}
-use Rattle.tree_model.specs.Trees.{FileTree, body_limit}
+use Rattle.base_types.specs.Limits.{body_limit}
+use Rattle.tree_model.specs.Trees.{FileTree}
 use Rattle.search_path.specs.declared.asking.Visit.{Visit}
 use Rattle.job_words.specs.JobOf.{JobData}
 use Rattle.sheet_build.specs.Sheet.{body_of_place}

@@ -2,10 +2,10 @@
 use Rattle.std.specs.Prelude.{◌≡◌, ◌⊎◌, ◌<◌, ℕ, ◌+◌, All, IsTrue, Bool, true, false, not, ◌&&◌, ◌||◌, ◌≤◌, List, [], ◌∷◌, ◌++◌, length, cond, nat_lt, Option, None, Some}
 use Rattle.std.specs.List.{list_all, flat_map}
 use Rattle.base_types.specs.Members.{Member}
-use Rattle.base_types.specs.Limits.{entry_limit}
+use Rattle.base_types.specs.Limits.{entry_limit, body_limit, request_limit}
 use Rattle.tree_model.specs.Paths.{Text, Path, spelled}
 use Rattle.tree_model.specs.Entries.{Entries, Increasing, IsLinkText, below, has_parent, makes_tree}
-use Rattle.tree_model.specs.Trees.{FileTree, entry_at, body_limit}
+use Rattle.tree_model.specs.Trees.{FileTree, entry_at}
 use Rattle.tree_model.specs.declared.walk.Located.{Located}
 use Rattle.tree_model.specs.declared.entry.Entry.{Entry}
 use Rattle.tree_model.specs.declared.entry.Entry.TheVariants.{Dir, File, Link}
@@ -14,7 +14,7 @@ use Rattle.search_path.specs.declared.asking.Visit.{Visit}
 use Rattle.search_path.specs.declared.asking.Ask.{Ask}
 use Rattle.sheet_build.specs.Sheet.{SheetData}
 use Rattle.job_words.specs.JobOf.{JobData}
-use Rattle.job_frames.specs.Request.{HasSpelling, request_bytes, most}
+use Rattle.job_frames.specs.Request.{HasSpelling, request_bytes}
 use Rattle.closure_fixpoint.specs.declared.job_analysis.Refusal.TheVariants as refusal
 use Rattle.closure_fixpoint.specs.declared.entries.Gathered.{Gathered}
 use Rattle.closure_fixpoint.specs.declared.entries.Gathered.TheVariants as gathered
@@ -87,7 +87,7 @@ HasLarge entries = (path : Path) × (body : Text) × Member (path, File body) en
 
 -- entries are too many, or their request has too many bytes
 abbrev pub is_over : JobData → Entries → Bool
-is_over job entries = nat_lt entry_limit (length entries) || nat_lt most (length (request_bytes job entries))
+is_over job entries = nat_lt entry_limit (length entries) || nat_lt request_limit (length (request_bytes job entries))
 
 -- what is gathered of nodes: their entries, or `Large` where a file among these is too large, else `Request` where they are
 -- over the limits

@@ -2,7 +2,7 @@
 -- entering an included file does as a parameter, and on the depth of includes left.
 use Rattle.std.specs.Prelude.{◌≤◌, ℕ, zero, suc, ◌+◌, ◌-◌, ◌==◌, Bool, true, false, not, ◌&&◌, ◌||◌, List, [], ◌∷◌, ◌++◌, length, map, Option, None, Some, Result, Ok, Err, cond, if◌then◌else◌, nat_le, nat_lt, is_some, unwrap_or, ℤ, pos, ◌+ℤ◌, ◌-ℤ◌, codes, bytes_eq}
 use Rattle.std.specs.List.{list_any, list_all, flat_map}
-use Rattle.base_types.specs.Limits.{include_depth_limit, work_limit, diagnostic_limit}
+use Rattle.base_types.specs.Limits.{include_depth_limit, work_limit, diagnostic_limit, body_limit, text_limit}
 use Rattle.pp_tokens.specs.declared.Kind.TheVariants as kind
 use Rattle.pp_tokens.specs.declared.Token.{Token}
 use Rattle.pp_tokens.specs.Marks.{is_identifier, is_word, is_open, is_close}
@@ -37,7 +37,6 @@ use Rattle.cond_eval.specs.declared.CondError.{CondError}
 use Rattle.cond_eval.specs.declared.CondError.TheVariants as cond_error
 use Rattle.cond_eval.specs.Constants.{value_behind, is_digit_in}
 use Rattle.cond_eval.specs.Value.{expression_value}
-use Rattle.base_types.specs.Limits.{body_limit, text_limit}
 use Rattle.cpp_output.specs.Layout.{Event, enter, back, mark, put, pragma}
 use Rattle.cpp_output.specs.Laid.{Laid, begun, after_events, finished}
 use Rattle.tree_model.specs.Paths.{Text, Path, spelled, is_same_path}

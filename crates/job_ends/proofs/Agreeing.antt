@@ -3,10 +3,10 @@ use Rattle.std.proofs.Common.{◌≡◌, ◌⊎◌, ℕ, ◌≤◌, List, [], �
 use Rattle.std.specs.List.{AllByRecursion}
 use Rattle.std.proofs.lemmas.Bool.{cases_lt}
 use Rattle.base_types.specs.Members.{Member}
-use Rattle.base_types.specs.Limits.{entry_limit}
+use Rattle.base_types.specs.Limits.{entry_limit, body_limit, request_limit}
 use Rattle.tree_model.specs.Paths.{Path}
 use Rattle.tree_model.specs.Entries.{Entries, makes_tree}
-use Rattle.tree_model.specs.Trees.{FileTree, IsTree, tree_of, entry_body, body_limit}
+use Rattle.tree_model.specs.Trees.{FileTree, IsTree, tree_of, entry_body}
 use Rattle.tree_model.specs.declared.entry.Entry.{Entry}
 use Rattle.tree_model.specs.declared.entry.Entry.TheVariants.{Dir, File, Link}
 use Rattle.job_words.specs.declared.job.Job.{Job}
@@ -17,7 +17,7 @@ use Rattle.job_frames.specs.declared.answer.Answer.{Answer}
 use Rattle.job_frames.specs.declared.answer.Answer.TheVariants as answer
 use Rattle.job_frames.specs.Daemon.{Daemon, IsReply}
 use Rattle.job_frames.specs.Outcomes.{Verdict, done, whatever_follows}
-use Rattle.job_frames.specs.Request.{Got, FitsRequest, IsSmall, request_at, request_bytes, most}
+use Rattle.job_frames.specs.Request.{Got, FitsRequest, IsSmall, request_at, request_bytes}
 use Rattle.job_frames.specs.Reply.{IsAnswer, reply_bytes}
 use Rattle.job_frames.specs.Laws.{RequestsAreWhole, TreesMakeRequests, RepliesAreApart}
 use Rattle.daemon_cpp.specs.declared.outcome.Outcome.{Outcome}
@@ -52,8 +52,8 @@ module _ (tree : FileTree) (budget : ℕ) (job : Job) (entries : Entries) (are :
   few : length entries ≤ entry_limit
   few = elim (cases_lt entry_limit (length entries)) [ inl many ↦ absurd (none refusal.Request (entries, are, inl many)) | inr le ↦ le ]
 
-  short : length (request_bytes job entries) ≤ most
-  short = elim (cases_lt most (length (request_bytes job entries))) [ inl long ↦ absurd (none refusal.Request (entries, are, inr long)) | inr le ↦ le ]
+  short : length (request_bytes job entries) ≤ request_limit
+  short = elim (cases_lt request_limit (length (request_bytes job entries))) [ inl long ↦ absurd (none refusal.Request (entries, are, inr long)) | inr le ↦ le ]
 
   fits-request : JobsAreShort → IsJob job → IsTrue (makes_tree entries) → FitsRequest job entries
   fits-request jobs is made =
