@@ -9,7 +9,8 @@ use Rattle.directive_scan.specs.declared.Target.{Target}
 use Rattle.directive_scan.specs.declared.Target.TheVariants.{Plain, Computed}
 use Rattle.directive_scan.specs.Directives.{pieces}
 use Rattle.tree_model.specs.Paths.{Text, Path, parent}
-use Rattle.tree_model.specs.Trees.{FileTree, entry_at, body_limit}
+use Rattle.base_types.specs.Limits.{body_limit}
+use Rattle.tree_model.specs.Trees.{FileTree, entry_at}
 use Rattle.tree_model.specs.Walk.{locate}
 use Rattle.tree_model.specs.declared.entry.Entry.TheVariants.{Dir}
 use Rattle.tree_model.specs.declared.walk.Located.{Located}
@@ -18,7 +19,7 @@ use Rattle.search_path.specs.Laws.{SearchesLocate}
 use Rattle.search_path.specs.declared.asking.Visit.{Visit}
 use Rattle.search_path.specs.declared.asking.Ask.{Ask}
 use Rattle.job_words.specs.JobOf.{JobData}
-use Rattle.sheet_build.specs.Sheet.{Asking, asked_for, plain_target, plain_hit, includes_in, probes_in, SheetData, empty_sheet, sheet_from, body_of_place, sheet_of_body, sheet_of}
+use Rattle.sheet_build.specs.Sheet.{AskedTarget, asked_for, plain_target, plain_hit, includes_in, probes_in, SheetData, empty_sheet, sheet_from, body_of_place, sheet_of_body, sheet_of}
 use Rattle.closure_fixpoint.specs.Closure.{answers_of, first_asks, IsKnownSearch, AtFirst, Included, Probed, ByMacros, computed_ask}
 use Rattle.closure_fixpoint.proofs.MemberLaws.{GivenBy, filter_map-Member, MappedBy, map-Member}
 
@@ -44,7 +45,7 @@ pub record IsSearched (tree : FileTree) (job : JobData) (visit : Visit) (hit : H
   pub header : HeaderName
   pub found : search tree job.setup (asked_for visit next header) ≡ Some hit
 
-plain_searched : (tree : FileTree) (job : JobData) (visit : Visit) (a : Asking) (target : Target) (hit : Hit) → plain_target (search tree job.setup) visit a target ≡ Some hit
+plain_searched : (tree : FileTree) (job : JobData) (visit : Visit) (a : AskedTarget) (target : Target) (hit : Hit) → plain_target (search tree job.setup) visit a target ≡ Some hit
     → IsSearched tree job visit hit
 plain_searched tree job visit a (Plain header) hit is = record { next = a.next; header = header; found = is }
 plain_searched tree job visit a (Computed tokens) hit is = absurd (cc)

@@ -1,6 +1,7 @@
 // The memo that threads share, and each client's share in it.
 ghost use Rattle.std.specs.Prelude.{◌≡◌, ℕ, ◌+◌, ◌<◌, ◌≤◌, [], IfOk, OnOk, OnErr, Some, None, length, cond, is_some, map, sum_by, vec_len};
 ghost use Rattle.std.specs.List.{count_by, range_with_len};
+ghost use Rattle.base_types.specs.Limits.{memo_limit};
 ghost use Rattle.closure_memo.specs.History.{is_look, is_hit, is_publication, is_new, is_full};
 ghost use Rattle.closure_memo.specs.Memo.{RightIn, found, after_look, publish_of, after_publish, what_of};
 
@@ -20,7 +21,7 @@ pub struct Booked<M: Memoised, L: Ledger, H: Ledger, P: Ledger, N: Ledger, F: Le
     publications: Book<P>,
     news: Book<N>,
     fulls: Book<F>,
-    ghost limited: { state.limit ≡ 4000000 },
+    ghost limited: { state.limit ≡ memo_limit },
     ghost looks_counted: { count_by (λ call. is_look call.what) state.steps ≡ looks.total },
     ghost hits_counted: { count_by (λ call. is_hit call.what) state.steps ≡ hits.total },
     ghost publications_counted: { count_by (λ call. is_publication call.what) state.steps ≡ publications.total },
@@ -156,7 +157,7 @@ impl<M: Memoised, L: Ledger, H: Ledger, P: Ledger, N: Ledger, F: Ledger> Booked<
         requires all_publications { publications.old.parts ≡ P.parts }
         requires all_news { news.old.parts ≡ N.parts }
         requires all_fulls { fulls.old.parts ≡ F.parts }
-        ensures limit { result.limit ≡ 4000000 }
+        ensures limit { result.limit ≡ memo_limit }
         ensures looks { count_by (λ call. is_look call.what) result.steps ≡ looks.old.amount }
         ensures hits { count_by (λ call. is_hit call.what) result.steps ≡ hits.old.amount }
         ensures publications { count_by (λ call. is_publication call.what) result.steps ≡ publications.old.amount }
@@ -276,7 +277,7 @@ impl<M: Memoised, L: Ledger, H: Ledger, P: Ledger, N: Ledger, F: Ledger> Shared<
     pub fn gather(self, shares: Vec<Share<L, H, P, N, F>>) -> MemoState<M>
         requires some { 0 < length shares.items }
         requires all { (length shares.items ≡ L.parts) × (length shares.items ≡ H.parts) × (length shares.items ≡ P.parts) × (length shares.items ≡ N.parts) × (length shares.items ≡ F.parts) }
-        ensures limit { result.limit ≡ 4000000 }
+        ensures limit { result.limit ≡ memo_limit }
         ensures looks { count_by (λ call. is_look call.what) result.steps ≡ sum_by (λ s. s.looks) shares.items }
         ensures hits { count_by (λ call. is_hit call.what) result.steps ≡ sum_by (λ s. s.hits) shares.items }
         ensures publications { count_by (λ call. is_publication call.what) result.steps ≡ sum_by (λ s. s.publications) shares.items }

@@ -1,10 +1,12 @@
 // The state of a memo.
 ghost use Rattle.std.specs.Prelude.{◌≡◌, ℕ, ◌+◌, ◌<◌, ◌≤◌, ◌^◌, [], IfOk, OnOk, OnErr, Some, None, length, is_some, cond, slice_get};
 ghost use Rattle.std.specs.Option.{option_map};
+ghost use Rattle.base_types.specs.Limits.{memo_limit};
 ghost use Rattle.closure_memo.specs.History.{IsLegal, AreNumbered, has_new, is_new, kept_weight};
 ghost use Rattle.closure_memo.specs.Memo.{RightIn, value_at, with_place, values_after, number_of, with_key, look_of, found, after_look, publication, publish_of, after_publish, what_of};
 
 use crate::{Kept, MemoCall, Memoised, What};
+use base_types::limits::MEMO_LIMIT;
 use indexmap::IndexSet;
 use std::alloc::{AllocError, Global};
 use std::hash::Hash;
@@ -37,9 +39,9 @@ impl<M: Memoised> Model for MemoState<M> {
 impl<M: Memoised> MemoState<M> {
     /// An empty memo whose values weigh at most 4,000,000 together. It takes no memory.
     pub fn new(alloc: Global) -> MemoState<M>
-        ensures { (result.limit ≡ 4000000) × (result.keys ≡ []) × (result.values ≡ []) × (result.steps ≡ []) }
+        ensures { (result.limit ≡ memo_limit) × (result.keys ≡ []) × (result.values ≡ []) × (result.steps ≡ []) }
     {
-        MemoState::with_limit(alloc, 4_000_000)
+        MemoState::with_limit(alloc, MEMO_LIMIT)
     }
 
     /// An empty memo whose values weigh at most `limit` together. It takes no memory.

@@ -22,7 +22,7 @@ use Rattle.macro_expand.specs.Asking.{Failure}
 use Rattle.macro_expand.specs.Expansion.{Expanded}
 use Rattle.macro_expand.specs.Laws.{ChoiceFactHolds}
 use Rattle.tree_model.specs.Paths.{Path}
-use Rattle.tree_model.specs.Trees.{body_limit}
+use Rattle.base_types.specs.Limits.{body_limit}
 use Rattle.tree_model.proofs.MemberLemmas.{Member-append_left, Member-append_right, Member-map, Member-flat_map, Member-filter_map, list_any-true}
 use Rattle.search_path.specs.Asks.{form_of}
 use Rattle.search_path.specs.Search.{Hit}
@@ -31,7 +31,7 @@ use Rattle.search_path.specs.declared.asking.Form.{Form}
 use Rattle.search_path.specs.declared.asking.Ask.{Ask}
 use Rattle.job_words.specs.JobOf.{JobData}
 use Rattle.daemon_cpp.specs.Prep.{World, place_here, State, Gives, reach, tokens_of, expanded_in, line_expanded, header_reached}
-use Rattle.sheet_build.specs.Sheet.{Asking, asking, probes_for, includes_in, probes_in, accepted, definition_in, is_line, ComputedAsk, SheetData, quote_form, computed_of, asked_for, plain_hit, sheet_from}
+use Rattle.sheet_build.specs.Sheet.{AskedTarget, asked_target, probes_for, includes_in, probes_in, accepted, definition_in, is_line, ComputedAsk, SheetData, quote_form, computed_of, asked_for, plain_hit, sheet_from}
 use Rattle.closure_fixpoint.specs.Closure.{AnalysisAnswers, first_definitions, with_angle, known_name, MayFind, ByName, ByTokens, first_asks, first_hits, IsClosedFor, IsKnownSearch, AtFirst, Included, Probed, ByMacros, HasLong, HasPresumed}
 use Rattle.mirror_soundness.proofs.ComputedLaws.{may_be_named}
 use Rattle.mirror_soundness.proofs.Kept.{Holds, KeepsWith, left_holds, knows}
@@ -64,27 +64,27 @@ form_same true true = refl
 
 -- the operands of a line are those of its parts
 pub operands_there : (tokens : List Token) (parts : List ConditionPart) (target : Target) → parts_of tokens ≡ Some parts → Member target (targets_of parts)
-    → Member (asking false true target) (probes_for (operands_of tokens))
+    → Member (asked_target false true target) (probes_for (operands_of tokens))
 operands_there tokens parts target is n =
-    subst (λ (o : Option (List Target)). Member (asking false true target) (probes_for o)) (sym (ap (λ (o : Option (List ConditionPart)). option_map targets_of o) is))
-    (Member-map (asking false true) target (targets_of parts) n)
+    subst (λ (o : Option (List Target)). Member (asked_target false true target) (probes_for o)) (sym (ap (λ (o : Option (List ConditionPart)). option_map targets_of o) is))
+    (Member-map (asked_target false true) target (targets_of parts) n)
 
 -- the targets of a file's includes, those of its operands, and all that it asks for
-abbrev pub IsAskedFor : List Piece → Asking → Type 0
+abbrev pub IsAskedFor : List Piece → AskedTarget → Type 0
 IsAskedFor ps x = Member x (flat_map (λ p. includes_in p ++ probes_in p) ps)
 
-abbrev pub IsIncluded : List Piece → Asking → Type 0
+abbrev pub IsIncluded : List Piece → AskedTarget → Type 0
 IsIncluded ps x = Member x (flat_map includes_in ps) × IsAskedFor ps x
 
-abbrev pub IsProbed : List Piece → Asking → Type 0
+abbrev pub IsProbed : List Piece → AskedTarget → Type 0
 IsProbed ps x = Member x (flat_map probes_in ps) × IsAskedFor ps x
 
 -- what a piece asks for stands in the file's pieces
-pub probes_there : (ps : List Piece) (p : Piece) → Member p ps → (x : Asking) → Member x (probes_in p) → IsProbed ps x
+pub probes_there : (ps : List Piece) (p : Piece) → Member p ps → (x : AskedTarget) → Member x (probes_in p) → IsProbed ps x
 probes_there ps p there x n =
     (Member-flat_map probes_in p x ps there n, Member-flat_map (λ q. includes_in q ++ probes_in q) p x ps there (Member-append_right x (includes_in p) (probes_in p) n))
 
-pub includes_there : (ps : List Piece) (p : Piece) → Member p ps → (x : Asking) → Member x (includes_in p) → IsIncluded ps x
+pub includes_there : (ps : List Piece) (p : Piece) → Member p ps → (x : AskedTarget) → Member x (includes_in p) → IsIncluded ps x
 includes_there ps p there x n =
     (Member-flat_map includes_in p x ps there n, Member-flat_map (λ q. includes_in q ++ probes_in q) p x ps there (Member-append_left x (includes_in p) (probes_in p) n))
 
@@ -139,11 +139,11 @@ module _ (world : World) (sheet : Visit → SheetData) (job : JobData) (visits :
       go (Ok e) is = (left_holds all job visits visit state e.units h, λ header names. computed tokens e header refl is names)
       go (Err f) is = h.touched
 
-  computed_stands : (visit : Visit) (ps : List Piece) (next probes : Bool) (tokens : List Token) → IsRead visit ps → IsAskedFor ps (asking next probes (Computed tokens))
+  computed_stands : (visit : Visit) (ps : List Piece) (next probes : Bool) (tokens : List Token) → IsRead visit ps → IsAskedFor ps (asked_target next probes (Computed tokens))
       → Member (record { form = quote_form next; probe = probes; tokens = tokens }) (sheet visit).computed
   computed_stands visit ps next probes tokens read asked =
       subst (λ (s : SheetData). Member (record { form = quote_form next; probe = probes; tokens = tokens }) s.computed) (sym read.is_sheet)
-      (Member-filter_map computed_of (asking next probes (Computed tokens)) (record { form = quote_form next; probe = probes; tokens = tokens }) _ asked refl)
+      (Member-filter_map computed_of (asked_target next probes (Computed tokens)) (record { form = quote_form next; probe = probes; tokens = tokens }) _ asked refl)
 
   module _ (fact : ChoiceFactHolds) (a : Analyses world sheet job visits Home) where
     -- a file that a computed target finds is one that it may find
@@ -163,11 +163,11 @@ module _ (world : World) (sheet : Visit → SheetData) (job : JobData) (visits :
     }
 
     -- a plain target of an include may be entered
-    plain_enters : (visit : Visit) (ps : List Piece) (next : Bool) (header : HeaderName) → IsRead visit ps → IsIncluded ps (asking next false (Plain header)) → Enters visit next header
+    plain_enters : (visit : Visit) (ps : List Piece) (next : Bool) (header : HeaderName) → IsRead visit ps → IsIncluded ps (asked_target next false (Plain header)) → Enters visit next header
     plain_enters visit ps next header read asked hit is =
         let there : Member hit (sheet visit).plain =
         subst (λ (s : SheetData). Member hit s.plain) (sym read.is_sheet)
-        (Member-filter_map (plain_hit world.find visit) (asking next false (Plain header)) hit (flat_map includes_in ps) asked.0 is) in
+        (Member-filter_map (plain_hit world.find visit) (asked_target next false (Plain header)) hit (flat_map includes_in ps) asked.0 is) in
         let homes = a.next_home visit next header hit read.home is in
         record {
           known = Included visit hit read.inside there;
@@ -178,7 +178,7 @@ module _ (world : World) (sheet : Visit → SheetData) (job : JobData) (visits :
 
     -- and so may each file that a computed one finds
     computed_enters : (visit : Visit) (ps : List Piece) (next : Bool) (tokens : List Token) (state : State) (e : Expanded) (header : HeaderName) → IsRead visit ps → Holds all job visits visit state
-        → IsIncluded ps (asking next false (Computed tokens)) → expanded_in mode.Text tokens state ≡ Ok e → header_named (tokens_of e) ≡ Some header → Enters visit next header
+        → IsIncluded ps (asked_target next false (Computed tokens)) → expanded_in mode.Text tokens state ≡ Ok e → header_named (tokens_of e) ≡ Some header → Enters visit next header
     computed_enters visit ps next tokens state e header read h asked is names hit found =
         let c : ComputedAsk = record { form = quote_form next; probe = false; tokens = tokens } in
         let finds : MayFind all job visits visit c hit = may_find visit ps state c next e header hit read h refl (computed_stands visit ps next false tokens read asked.1) is names found in
@@ -192,29 +192,29 @@ module _ (world : World) (sheet : Visit → SheetData) (job : JobData) (visits :
 
     -- what an include's target gives may be entered
     pub include_keeps : (visit : Visit) (ps : List Piece) (next : Bool) (at : ℕ) (target : Target) (state : State) → IsRead visit ps → Holds all job visits visit state
-        → IsIncluded ps (asking next false target)
+        → IsIncluded ps (asked_target next false target)
         → KeepsWith all job visits visit (λ o. (header : HeaderName) → o ≡ Some header → Enters visit next header) (header_reached at target state)
     include_keeps visit ps next at target state read h asked =
         header_keeps visit at target state (Enters visit next) h
-        (λ header is. plain_enters visit ps next header read (subst (λ (t : Target). IsIncluded ps (asking next false t)) is asked))
-        (λ tokens e header is expands names. computed_enters visit ps next tokens state e header read h (subst (λ (t : Target). IsIncluded ps (asking next false t)) is asked) expands names)
+        (λ header is. plain_enters visit ps next header read (subst (λ (t : Target). IsIncluded ps (asked_target next false t)) is asked))
+        (λ tokens e header is expands names. computed_enters visit ps next tokens state e header read h (subst (λ (t : Target). IsIncluded ps (asked_target next false t)) is asked) expands names)
 
     -- what an operand's target gives is searched by a search that is known
-    pub probe_keeps : (visit : Visit) (ps : List Piece) (at : ℕ) (target : Target) (state : State) → IsRead visit ps → Holds all job visits visit state → IsProbed ps (asking false true target)
+    pub probe_keeps : (visit : Visit) (ps : List Piece) (at : ℕ) (target : Target) (state : State) → IsRead visit ps → Holds all job visits visit state → IsProbed ps (asked_target false true target)
         → KeepsWith all job visits visit (λ o. (header : HeaderName) → o ≡ Some header → KnowsAll visit header) (header_reached at target state)
     probe_keeps visit ps at target state read h asked =
         header_keeps visit at target state (KnowsAll visit) h
-        (λ header is. plain header (subst (λ (t : Target). IsProbed ps (asking false true t)) is asked))
-        (λ tokens e header is expands names. computed tokens e header (subst (λ (t : Target). IsProbed ps (asking false true t)) is asked) expands names)
+        (λ header is. plain header (subst (λ (t : Target). IsProbed ps (asked_target false true t)) is asked))
+        (λ tokens e header is expands names. computed tokens e header (subst (λ (t : Target). IsProbed ps (asked_target false true t)) is asked) expands names)
       where
-        plain : (header : HeaderName) → IsProbed ps (asking false true (Plain header)) → KnowsAll visit header
+        plain : (header : HeaderName) → IsProbed ps (asked_target false true (Plain header)) → KnowsAll visit header
         plain header asked hit is =
             Probed visit hit.1 read.inside
             (subst (λ (s : SheetData). Member hit.1 s.probes) (sym read.is_sheet)
             (Member-map (λ x. x.1) hit (filter_map (plain_hit world.find visit) (flat_map probes_in ps))
-            (Member-filter_map (plain_hit world.find visit) (asking false true (Plain header)) hit (flat_map probes_in ps) asked.0 is)))
+            (Member-filter_map (plain_hit world.find visit) (asked_target false true (Plain header)) hit (flat_map probes_in ps) asked.0 is)))
 
-        computed : (tokens : List Token) (e : Expanded) (header : HeaderName) → IsProbed ps (asking false true (Computed tokens)) → expanded_in mode.Text tokens state ≡ Ok e
+        computed : (tokens : List Token) (e : Expanded) (header : HeaderName) → IsProbed ps (asked_target false true (Computed tokens)) → expanded_in mode.Text tokens state ≡ Ok e
             → header_named (tokens_of e) ≡ Some header → KnowsAll visit header
         computed tokens e header asked expands names hit found =
             let c : ComputedAsk = record { form = quote_form false; probe = true; tokens = tokens } in

@@ -21,8 +21,8 @@ use Rattle.search_path.specs.Search.{Hit}
 use Rattle.search_path.specs.declared.asking.Ask.{Ask}
 use Rattle.search_path.specs.declared.asking.Visit.{Visit}
 use Rattle.tree_model.specs.declared.walk.Located.{Located}
-use Rattle.sheet_build.specs.Sheet.{SheetData, ComputedAsk, Asking, asking, plain_hit, computed_of, includes_in, probes_in, probes_for, definition_in, is_line, sheet_from}
-use Rattle.sheet_build.specs.parts.Stored.{joined, with_includes, with_probes}
+use Rattle.sheet_build.specs.Sheet.{SheetData, ComputedAsk, AskedTarget, asked_target, plain_hit, computed_of, includes_in, probes_in, probes_for, definition_in, is_line, sheet_from}
+use Rattle.sheet_build.specs.parts.Stored.{joined_sheets, with_includes, with_probes}
 
 abbrev sheet_made : List Named → List Hit → List Located → List ComputedAsk → Bool → SheetData
 sheet_made defs plain probes computed has_line = record { defs = defs; plain = plain; probes = probes; computed = computed; has_line = has_line }
@@ -31,18 +31,18 @@ same_sheet : (d d' : List Named) (p p' : List Hit) (q q' : List Located) (c c' :
     sheet_made d p q c b ≡ sheet_made d' p' q' c' b'
 same_sheet d d' p p' q q' c c' b b' ds ps qs cs bs = λ i. sheet_made (ds i) (ps i) (qs i) (cs i) (bs i)
 
-abbrev hits : (Ask → Option Hit) → Visit → List Asking → List Hit
+abbrev hits : (Ask → Option Hit) → Visit → List AskedTarget → List Hit
 hits find visit asks = filter_map (plain_hit find visit) asks
 
-abbrev files : (Ask → Option Hit) → Visit → List Asking → List Located
+abbrev files : (Ask → Option Hit) → Visit → List AskedTarget → List Located
 files find visit asks = map (λ hit. hit.1) (hits find visit asks)
 
-files-append : (find : Ask → Option Hit) (visit : Visit) (xs ys : List Asking) → files find visit (xs ++ ys) ≡ files find visit xs ++ files find visit ys
+files-append : (find : Ask → Option Hit) (visit : Visit) (xs ys : List AskedTarget) → files find visit (xs ++ ys) ≡ files find visit xs ++ files find visit ys
 files-append find visit xs ys =
     ap (λ (hs : List Hit). map (λ hit. hit.1) hs) (filter_map-append (plain_hit find visit) xs ys) ∙ map-append (λ (hit : Hit). hit.1) (hits find visit xs) (hits find visit ys)
 
 -- probes one behind the other
-pub probes-append : (find : Ask → Option Hit) (visit : Visit) (xs ys : List Asking) (s : SheetData) → with_probes find visit (xs ++ ys) s ≡ with_probes find visit ys (with_probes find visit xs s)
+pub probes-append : (find : Ask → Option Hit) (visit : Visit) (xs ys : List AskedTarget) (s : SheetData) → with_probes find visit (xs ++ ys) s ≡ with_probes find visit ys (with_probes find visit xs s)
 probes-append find visit xs ys s =
     same_sheet s.defs s.defs s.plain s.plain
     (s.probes ++ files find visit (xs ++ ys)) ((s.probes ++ files find visit xs) ++ files find visit ys)
@@ -61,36 +61,36 @@ probes-none find visit s =
 -- one operand more was added
 pub operands-next : (find : Ask → Option Hit) (visit : Visit) (target : Target) (rest others whole : List Target) (old new first : SheetData) →
     rest ≡ target ∷ others →
-    with_probes find visit (map (asking false true) rest) old ≡ with_probes find visit (map (asking false true) whole) first →
-    new ≡ with_probes find visit (asking false true target ∷ []) old →
-    with_probes find visit (map (asking false true) others) new ≡ with_probes find visit (map (asking false true) whole) first
+    with_probes find visit (map (asked_target false true) rest) old ≡ with_probes find visit (map (asked_target false true) whole) first →
+    new ≡ with_probes find visit (asked_target false true target ∷ []) old →
+    with_probes find visit (map (asked_target false true) others) new ≡ with_probes find visit (map (asked_target false true) whole) first
 operands-next find visit target rest others whole old new first front before added =
-    ap (λ (s : SheetData). with_probes find visit (map (asking false true) others) s) added
-    ∙ sym (probes-append find visit (asking false true target ∷ []) (map (asking false true) others) old)
-    ∙ ap (λ (ts : List Target). with_probes find visit (map (asking false true) ts) old) (sym front)
+    ap (λ (s : SheetData). with_probes find visit (map (asked_target false true) others) s) added
+    ∙ sym (probes-append find visit (asked_target false true target ∷ []) (map (asked_target false true) others) old)
+    ∙ ap (λ (ts : List Target). with_probes find visit (map (asked_target false true) ts) old) (sym front)
     ∙ before
 
 -- all were
 pub operands-all : (find : Ask → Option Hit) (visit : Visit) (rest whole targets : List Target) (new first : SheetData) →
     rest ≡ [] → whole ≡ targets →
-    with_probes find visit (map (asking false true) rest) new ≡ with_probes find visit (map (asking false true) whole) first →
-    new ≡ with_probes find visit (map (asking false true) targets) first
+    with_probes find visit (map (asked_target false true) rest) new ≡ with_probes find visit (map (asked_target false true) whole) first →
+    new ≡ with_probes find visit (map (asked_target false true) targets) first
 operands-all find visit rest whole targets new first none all before =
     sym (probes-none find visit new)
-    ∙ ap (λ (ts : List Target). with_probes find visit (map (asking false true) ts) new) (sym none)
+    ∙ ap (λ (ts : List Target). with_probes find visit (map (asked_target false true) ts) new) (sym none)
     ∙ before
-    ∙ ap (λ (ts : List Target). with_probes find visit (map (asking false true) ts) first) all
+    ∙ ap (λ (ts : List Target). with_probes find visit (map (asked_target false true) ts) first) all
 
 -- A piece's askings.
-abbrev asks_in : Piece → List Asking
+abbrev asks_in : Piece → List AskedTarget
 asks_in p = includes_in p ++ probes_in p
 
-hits-append : (find : Ask → Option Hit) (visit : Visit) (f : Piece → List Asking) (ps qs : List Piece) → hits find visit (flat_map f (ps ++ qs)) ≡ hits find visit (flat_map f ps) ++ hits find visit (flat_map f qs)
+hits-append : (find : Ask → Option Hit) (visit : Visit) (f : Piece → List AskedTarget) (ps qs : List Piece) → hits find visit (flat_map f (ps ++ qs)) ≡ hits find visit (flat_map f ps) ++ hits find visit (flat_map f qs)
 hits-append find visit f ps qs =
-    ap (λ (xs : List Asking). hits find visit xs) (flat_map-append f ps qs) ∙ filter_map-append (plain_hit find visit) (flat_map f ps) (flat_map f qs)
+    ap (λ (xs : List AskedTarget). hits find visit xs) (flat_map-append f ps qs) ∙ filter_map-append (plain_hit find visit) (flat_map f ps) (flat_map f qs)
 
 -- the sheet of pieces one behind the other
-pub sheet-append : (find : Ask → Option Hit) (visit : Visit) (ps qs : List Piece) → sheet_from find visit (ps ++ qs) ≡ joined (sheet_from find visit ps) (sheet_from find visit qs)
+pub sheet-append : (find : Ask → Option Hit) (visit : Visit) (ps qs : List Piece) → sheet_from find visit (ps ++ qs) ≡ joined_sheets (sheet_from find visit ps) (sheet_from find visit qs)
 sheet-append find visit ps qs =
     let a = sheet_from find visit ps in
     let b = sheet_from find visit qs in
@@ -99,15 +99,15 @@ sheet-append find visit ps qs =
     (filter_map-append definition_in ps qs)
     (hits-append find visit includes_in ps qs)
     (ap (λ (hs : List Hit). map (λ hit. hit.1) hs) (hits-append find visit probes_in ps qs) ∙ map-append (λ (hit : Hit). hit.1) (hits find visit (flat_map probes_in ps)) (hits find visit (flat_map probes_in qs)))
-    (ap (λ (xs : List Asking). filter_map computed_of xs) (flat_map-append asks_in ps qs) ∙ filter_map-append computed_of (flat_map asks_in ps) (flat_map asks_in qs))
+    (ap (λ (xs : List AskedTarget). filter_map computed_of xs) (flat_map-append asks_in ps qs) ∙ filter_map-append computed_of (flat_map asks_in ps) (flat_map asks_in qs))
     (list_any-append is_line ps qs)
 
 -- one piece more was read
 pub pieces-next : (find : Ask → Option Hit) (visit : Visit) (ps : List Piece) (i : ℕ) (p : Piece) (old new : SheetData) → i < length ps → p ≡ get_or ps i p →
-    old ≡ sheet_from find visit (take i ps) → new ≡ joined old (sheet_from find visit (p ∷ [])) → new ≡ sheet_from find visit (take (i + 1) ps)
+    old ≡ sheet_from find visit (take i ps) → new ≡ joined_sheets old (sheet_from find visit (p ∷ [])) → new ≡ sheet_from find visit (take (i + 1) ps)
 pieces-next find visit ps i p old new below is before added =
     added
-    ∙ ap (λ (s : SheetData). joined s (sheet_from find visit (p ∷ []))) before
+    ∙ ap (λ (s : SheetData). joined_sheets s (sheet_from find visit (p ∷ []))) before
     ∙ sym (sheet-append find visit (take i ps) (p ∷ []))
     ∙ ap (λ (q : Piece). sheet_from find visit (take i ps ++ q ∷ [])) is
     ∙ ap (λ (qs : List Piece). sheet_from find visit qs) (sym (take_more ps i p below))
@@ -119,12 +119,12 @@ sheet_on find visit at what = sheet_from find visit (Line at what ∷ [])
 
 -- what a sheet becomes with a directive that is this one
 pub on-line : (find : Ask → Option Hit) (visit : Visit) (at : ℕ) (what shown : Directive) (s : SheetData) {n : SheetData} → what ≡ shown →
-    n ≡ joined s (sheet_on find visit at shown) → n ≡ joined s (sheet_on find visit at what)
-on-line find visit at what shown s is added = added ∙ ap (λ (d : Directive). joined s (sheet_on find visit at d)) (sym is)
+    n ≡ joined_sheets s (sheet_on find visit at shown) → n ≡ joined_sheets s (sheet_on find visit at what)
+on-line find visit at what shown s is added = added ∙ ap (λ (d : Directive). joined_sheets s (sheet_on find visit at d)) (sym is)
 
 -- an include, whose target is asked for so
-include-same : (find : Ask → Option Hit) (visit : Visit) (a : Asking) (s : SheetData) →
-    with_includes find visit (a ∷ []) s ≡ joined s (sheet_made [] (hits find visit (a ∷ [])) [] (filter_map computed_of (a ∷ [])) false)
+include-same : (find : Ask → Option Hit) (visit : Visit) (a : AskedTarget) (s : SheetData) →
+    with_includes find visit (a ∷ []) s ≡ joined_sheets s (sheet_made [] (hits find visit (a ∷ [])) [] (filter_map computed_of (a ∷ [])) false)
 include-same find visit a s =
     let plain = s.plain ++ hits find visit (a ∷ []) in
     let computed = s.computed ++ filter_map computed_of (a ∷ []) in
@@ -132,32 +132,32 @@ include-same find visit a s =
     (sym (append-nil s.defs)) refl (sym (append-nil s.probes)) refl (sym (or-false s.has_line))
 
 pub include-adds : (find : Ask → Option Hit) (visit : Visit) (at : ℕ) (target : Target) (s : SheetData) →
-    with_includes find visit (asking false false target ∷ []) s ≡ joined s (sheet_on find visit at (named.Include target))
-include-adds find visit at target s = include-same find visit (asking false false target) s
+    with_includes find visit (asked_target false false target ∷ []) s ≡ joined_sheets s (sheet_on find visit at (named.Include target))
+include-adds find visit at target s = include-same find visit (asked_target false false target) s
 
 pub next-adds : (find : Ask → Option Hit) (visit : Visit) (at : ℕ) (target : Target) (s : SheetData) →
-    with_includes find visit (asking true false target ∷ []) s ≡ joined s (sheet_on find visit at (named.Next target))
-next-adds find visit at target s = include-same find visit (asking true false target) s
+    with_includes find visit (asked_target true false target ∷ []) s ≡ joined_sheets s (sheet_on find visit at (named.Next target))
+next-adds find visit at target s = include-same find visit (asked_target true false target) s
 
 -- the operands of a condition, which are asked for so
-probes-same : (find : Ask → Option Hit) (visit : Visit) (asks : List Asking) (s : SheetData) →
-    with_probes find visit asks s ≡ joined s (sheet_made [] [] (files find visit (asks ++ [])) (filter_map computed_of (asks ++ [])) false)
+probes-same : (find : Ask → Option Hit) (visit : Visit) (asks : List AskedTarget) (s : SheetData) →
+    with_probes find visit asks s ≡ joined_sheets s (sheet_made [] [] (files find visit (asks ++ [])) (filter_map computed_of (asks ++ [])) false)
 probes-same find visit asks s =
     same_sheet s.defs (s.defs ++ []) s.plain (s.plain ++ [])
     (s.probes ++ files find visit asks) (s.probes ++ files find visit (asks ++ []))
     (s.computed ++ filter_map computed_of asks) (s.computed ++ filter_map computed_of (asks ++ []))
     s.has_line (s.has_line || false)
     (sym (append-nil s.defs)) (sym (append-nil s.plain))
-    (ap (λ (xs : List Asking). s.probes ++ files find visit xs) (sym (append-nil asks)))
-    (ap (λ (xs : List Asking). s.computed ++ filter_map computed_of xs) (sym (append-nil asks)))
+    (ap (λ (xs : List AskedTarget). s.probes ++ files find visit xs) (sym (append-nil asks)))
+    (ap (λ (xs : List AskedTarget). s.computed ++ filter_map computed_of xs) (sym (append-nil asks)))
     (sym (or-false s.has_line))
 
 pub if-adds : (find : Ask → Option Hit) (visit : Visit) (at : ℕ) (tokens : List Token) (s : SheetData) →
-    with_probes find visit (probes_for (operands_of tokens)) s ≡ joined s (sheet_on find visit at (named.If tokens))
+    with_probes find visit (probes_for (operands_of tokens)) s ≡ joined_sheets s (sheet_on find visit at (named.If tokens))
 if-adds find visit at tokens s = probes-same find visit (probes_for (operands_of tokens)) s
 
 pub elif-adds : (find : Ask → Option Hit) (visit : Visit) (at : ℕ) (tokens : List Token) (s : SheetData) →
-    with_probes find visit (probes_for (operands_of tokens)) s ≡ joined s (sheet_on find visit at (named.Elif tokens))
+    with_probes find visit (probes_for (operands_of tokens)) s ≡ joined_sheets s (sheet_on find visit at (named.Elif tokens))
 elif-adds find visit at tokens s = probes-same find visit (probes_for (operands_of tokens)) s
 
 -- ---- a condition without `__has_include` ----
@@ -171,5 +171,5 @@ pub probeless-adds : (find : Ask → Option Hit) (visit : Visit) (tokens : List 
     s ≡ with_probes find visit (probes_for (operands_of tokens)) s
 probeless-adds find visit tokens s parts =
     sym (probes-none find visit s)
-    ∙ ap (λ (ts : List Target). with_probes find visit (map (asking false true) ts) s) (sym (no-targets tokens))
+    ∙ ap (λ (ts : List Target). with_probes find visit (map (asked_target false true) ts) s) (sym (no-targets tokens))
     ∙ ap (λ (o : Option (List ConditionPart)). with_probes find visit (probes_for (option_map targets_of o)) s) (sym parts)

@@ -3,7 +3,8 @@ use Rattle.std.proofs.Common.{◌≡◌, Bool, true, false, Option, Some, None, 
 use Rattle.pp_tokens.specs.Lines.{lexed}
 use Rattle.directive_scan.specs.Directives.{pieces}
 use Rattle.tree_model.specs.Paths.{Text}
-use Rattle.tree_model.specs.Trees.{FileTree, body_limit}
+use Rattle.base_types.specs.Limits.{body_limit}
+use Rattle.tree_model.specs.Trees.{FileTree}
 use Rattle.tree_model.specs.Bodies.{body_within}
 use Rattle.search_path.specs.SetupOf.{SetupData}
 use Rattle.search_path.specs.Search.{Hit, search}

@@ -1,62 +1,22 @@
 -- The place of a located file locates it from the root.
-use Rattle.std.proofs.Common.{◌≡◌, ◌≤◌, ℕ, ◌∷◌, ◌++◌, [], List, length, Option, Some, None, IsSome, Bool, true, false, not, ◌&&◌, refl, sym, ap, subst, ◌∙◌, cond, arith, inl, inr}
+use Rattle.std.proofs.Common.{◌≡◌, ◌≤◌, ℕ, ◌∷◌, ◌++◌, [], List, length, Option, Some, None, IsSome, Bool, true, false, not, ◌&&◌, refl, sym, ap, subst, ◌∙◌, cond, arith}
 use Rattle.std.specs.Prelude.{nat_le, nat_eq, ◌==◌}
-use Rattle.std.specs.List.{onto_first, AllByRecursion}
+use Rattle.std.specs.List.{AllByRecursion}
 use Rattle.std.proofs.lemmas.Bool.{eqb-true, le-leb}
 use Rattle.std.proofs.lemmas.List.{append_assoc, append-nil}
-use Rattle.base_types.specs.Members.{Member}
-use Rattle.tree_model.specs.Paths.{Text, Path, slash, dot, IsName, IsCanonical, spelled, spelled_below}
+use Rattle.base_types.specs.Ascii.{slash, dot}
+use Rattle.tree_model.specs.Paths.{Text, Path, IsName, IsCanonical, spelled, spelled_below}
 use Rattle.tree_model.specs.Trees.{FileTree, IsTree, entry_at}
 use Rattle.tree_model.specs.Walk.{components, Component, Stay, Up, Down, component_of, start, AtDir, AtFile, Walked, entered, Look, taken, walk_with, walk, but_last, last_of, located_at, last_looked_up, can_locate, first_nodes, located_by, locate}
 use Rattle.tree_model.specs.Frame.{HoldsOfLocated}
 use Rattle.tree_model.specs.declared.entry.Entry.{Entry}
 use Rattle.tree_model.specs.declared.entry.Entry.TheVariants.{Dir}
 use Rattle.tree_model.specs.declared.walk.Located.{Located}
+use Rattle.tree_model.proofs.PathLemmas.{parts-append, parts-name}
+use Rattle.tree_model.proofs.CutLemmas.{but_last-append, last_of-append}
 use Rattle.sheet_build.specs.Laws.{PlacesLocate}
 
 -- COMPONENTS OF A SPELLING
-
-abbrev is_slash : ℕ → Bool
-is_slash = λ b. b == slash
-
-record HasFirst (xs : List Text) : Type 0 where
-  head : Text
-  tail : List Text
-  whole : xs ≡ head ∷ tail
-
-has_first : (text : Text) → HasFirst (components text)
-has_first [] = record { head = []; tail = []; whole = refl }
-has_first (b ∷ text) = go (is_slash b) (has_first text)
-  where
-    onto : (xs : List Text) → HasFirst (onto_first b xs)
-    onto [] = record { head = b ∷ []; tail = []; whole = refl }
-    onto (x ∷ xs) = record { head = b ∷ x; tail = xs; whole = refl }
-
-    go : (s : Bool) → HasFirst (components text) → HasFirst (cond s ([] ∷ components text) (onto_first b (components text)))
-    go true first = record { head = []; tail = components text; whole = refl }
-    go false first = onto (components text)
-
-onto_front : (b : ℕ) (xs ys : List Text) → HasFirst xs → onto_first b (xs ++ ys) ≡ onto_first b xs ++ ys
-onto_front b [] ys first = let never : [] ≡ first.head ∷ first.tail = first.whole in absurd (cc)
-onto_front b (x ∷ xs) ys first = refl
-
-joined : (text behind : Text) → components (text ++ slash ∷ behind) ≡ components text ++ components behind
-joined [] behind = refl
-joined (b ∷ text) behind = go (is_slash b) (joined text behind)
-  where
-    go : (s : Bool) → components (text ++ slash ∷ behind) ≡ components text ++ components behind
-        → cond s ([] ∷ components (text ++ slash ∷ behind)) (onto_first b (components (text ++ slash ∷ behind)))
-        ≡ cond s ([] ∷ components text) (onto_first b (components text)) ++ components behind
-    go true rest = ap (λ (xs : List Text). [] ∷ xs) rest
-    go false rest = ap (onto_first b) rest ∙ onto_front b (components text) (components behind) (has_first text)
-
-unslashed : (name : Text) → (Member slash name → ⊥) → components name ≡ name ∷ []
-unslashed [] none = refl
-unslashed (b ∷ name) none = go (is_slash b) refl (unslashed name (λ m. none (inr m)))
-  where
-    go : (s : Bool) → is_slash b ≡ s → components name ≡ name ∷ [] → cond s ([] ∷ components name) (onto_first b (components name)) ≡ (b ∷ name) ∷ []
-    go true is rest = absurd (none (inl (eqb-true b slash is)))
-    go false is rest = ap (onto_first b) rest
 
 -- the components of a path's spelling: an empty one, and then the names from the outside in
 abbrev names_down : Path → List Text
@@ -66,20 +26,9 @@ names_down (name ∷ path) = names_down path ++ name ∷ []
 spelled_down : (path : Path) → AllByRecursion IsName path → components (spelled_below path) ≡ names_down path
 spelled_down [] names = refl
 spelled_down (name ∷ path) names =
-    joined (spelled_below path) name
+    parts-append (spelled_below path) name
     ∙ ap (λ (xs : List Text). xs ++ components name) (spelled_down path names.1)
-    ∙ ap (λ (xs : List Text). names_down path ++ xs) (unslashed name names.0.no_slash)
-
--- lists with a last element
-but_last_of : (xs : List Text) (x : Text) → but_last (xs ++ x ∷ []) ≡ xs
-but_last_of [] x = refl
-but_last_of (y ∷ []) x = refl
-but_last_of (y ∷ z ∷ xs) x = ap (λ (ys : List Text). y ∷ ys) (but_last_of (z ∷ xs) x)
-
-last_is : (xs : List Text) (x : Text) → last_of (xs ++ x ∷ []) ≡ x
-last_is [] x = refl
-last_is (y ∷ []) x = refl
-last_is (y ∷ z ∷ xs) x = last_is (z ∷ xs) x
+    ∙ ap (λ (xs : List Text). names_down path ++ xs) (parts-name name names.0.no_slash)
 
 -- THE WALK DOWN A PATH OF DIRECTORIES
 
@@ -155,10 +104,10 @@ locates_at look name up real canonical dirs leads =
     parts = spelled_down (name ∷ up) canonical.names
 
     last : last_of (components text) ≡ name
-    last = ap last_of parts ∙ last_is (names_down up) name
+    last = ap last_of parts ∙ last_of-append (names_down up) name
 
     first : but_last (components text) ≡ names_down up
-    first = ap but_last parts ∙ but_last_of (names_down up) name
+    first = ap but_last parts ∙ but_last-append (names_down up) name
 
     walked : Walked
     walked = walk look 40 (start [] text) (but_last (components text))

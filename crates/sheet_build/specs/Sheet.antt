@@ -16,7 +16,8 @@ use Rattle.macro_defs.specs.declared.DefineError.{DefineError}
 use Rattle.macro_defs.specs.MacroDefinition.{MacroDefinition}
 use Rattle.macro_defs.specs.Defining.{Named, defined_by}
 use Rattle.tree_model.specs.Paths.{Text, Path, spelled}
-use Rattle.tree_model.specs.Trees.{FileTree, body_limit}
+use Rattle.base_types.specs.Limits.{body_limit}
+use Rattle.tree_model.specs.Trees.{FileTree}
 use Rattle.tree_model.specs.Bodies.{body_at_path}
 use Rattle.tree_model.specs.Walk.{locate}
 use Rattle.tree_model.specs.declared.walk.Located.{Located}
@@ -31,35 +32,35 @@ use Rattle.search_path.specs.declared.asking.Ask.{Ask}
 -- ---- what a line asks for ----
 
 -- a target: by an include_next or not, and whether it is only probed for
-pub record Asking : Type 0 where
+pub record AskedTarget : Type 0 where
   pub next : Bool
   pub probe : Bool
   pub target : Target
 
-abbrev pub asking : Bool → Bool → Target → Asking
-asking next probe target = record { next = next; probe = probe; target = target }
+abbrev pub asked_target : Bool → Bool → Target → AskedTarget
+asked_target next probe target = record { next = next; probe = probe; target = target }
 
 -- the target of an include (6.10.2)
-abbrev pub includes_of : Directive → List Asking
-includes_of (named.Include target) = asking false false target ∷ []
-includes_of (named.Next target) = asking true false target ∷ []
+abbrev pub includes_of : Directive → List AskedTarget
+includes_of (named.Include target) = asked_target false false target ∷ []
+includes_of (named.Next target) = asked_target true false target ∷ []
 includes_of _ = []
 
 -- the operands of `__has_include` on a line that is well formed
-abbrev pub probes_for : Option (List Target) → List Asking
+abbrev pub probes_for : Option (List Target) → List AskedTarget
 probes_for None = []
-probes_for (Some targets) = map (asking false true) targets
+probes_for (Some targets) = map (asked_target false true) targets
 
-abbrev pub probes_of : Directive → List Asking
+abbrev pub probes_of : Directive → List AskedTarget
 probes_of (named.If tokens) = probes_for (operands_of tokens)
 probes_of (named.Elif tokens) = probes_for (operands_of tokens)
 probes_of _ = []
 
-abbrev pub includes_in : Piece → List Asking
+abbrev pub includes_in : Piece → List AskedTarget
 includes_in (Run tokens) = []
 includes_in (Line at what) = includes_of what
 
-abbrev pub probes_in : Piece → List Asking
+abbrev pub probes_in : Piece → List AskedTarget
 probes_in (Run tokens) = []
 probes_in (Line at what) = probes_of what
 
@@ -109,11 +110,11 @@ abbrev pub quote_form : Bool → Form
 quote_form false = Quote
 quote_form true = NextQuote
 
-abbrev pub computed_target : Asking → Target → Option ComputedAsk
+abbrev pub computed_target : AskedTarget → Target → Option ComputedAsk
 computed_target a (Plain header) = None
 computed_target a (Computed tokens) = Some (record { form = quote_form a.next; probe = a.probe; tokens = tokens })
 
-abbrev pub computed_of : Asking → Option ComputedAsk
+abbrev pub computed_of : AskedTarget → Option ComputedAsk
 computed_of a = computed_target a a.target
 
 -- what a visited file asks for by a name, in an include, an include_next or a probe
@@ -121,11 +122,11 @@ abbrev pub asked_for : Visit → Bool → HeaderName → Ask
 asked_for visit next header = header_ask visit next header.angle header.name
 
 -- what a search for a plain target gives
-abbrev pub plain_target : (Ask → Option Hit) → Visit → Asking → Target → Option Hit
+abbrev pub plain_target : (Ask → Option Hit) → Visit → AskedTarget → Target → Option Hit
 plain_target find visit a (Plain header) = find (asked_for visit a.next header)
 plain_target find visit a (Computed tokens) = None
 
-abbrev pub plain_hit : (Ask → Option Hit) → Visit → Asking → Option Hit
+abbrev pub plain_hit : (Ask → Option Hit) → Visit → AskedTarget → Option Hit
 plain_hit find visit a = plain_target find visit a a.target
 
 -- the sheet of a file with these pieces, which was visited so

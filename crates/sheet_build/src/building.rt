@@ -5,7 +5,7 @@ ghost use Rattle.base_types.specs.Causes.{HasCause};
 ghost use Rattle.pp_tokens.specs.Lines.{lexed};
 ghost use Rattle.directive_scan.specs.Directives as scanning;
 ghost use Rattle.tree_model.specs.Bodies.{body_within};
-ghost use Rattle.tree_model.specs.Trees.{body_limit};
+ghost use Rattle.base_types.specs.Limits.{body_limit};
 ghost use Rattle.search_path.specs.Search.{search};
 ghost use Rattle.sheet_build.specs.Sheet.{sheet_of, sheet_from, body_of_place, IsLargeAt};
 ghost use Rattle.sheet_build.specs.parts.Stored.{sheet_of_parts};
@@ -49,7 +49,7 @@ fn body_at<T: Tree>(
 ) -> Result<Option<Bytes>, TreeError>
     ensures same { T.told tree.new ≡ T.told tree.old }
     ensures body { ForSome (T.told tree.old) (λ told. IfOk result (λ body. body ≡ body_within (body_of_place told place.now))) }
-    ensures within { IfOk result (λ body. IfSome body (λ bytes. length bytes ≤ 16777216)) }
+    ensures within { IfOk result (λ body. IfSome body (λ bytes. length bytes ≤ body_limit)) }
     ensures never_large { IsErrOf result TreeError.Large → ⊥ }
     ensures cause { HasCause TreeError.Fault (T.faults tree.old) (T.faults tree.new) result }
     ensures one_read { T.reads tree.new ≤ T.reads tree.old + 1 }
@@ -69,7 +69,7 @@ fn parts_of_body<T: Tree>(
     visit: &Visit,
     body: &[u8],
 ) -> Result<Parts, TreeError>
-    requires { length body.now ≤ 16777216 }
+    requires { length body.now ≤ body_limit }
     ensures same { T.told tree.new ≡ T.told tree.old }
     ensures parts { ForSome (T.told tree.old) (λ told. IfOk result (λ parts. sheet_of_parts parts ≡ sheet_from (search told setup.now) visit.now (scanning.pieces (lexed setup.now.trigraphs body.now).lines))) }
     ensures cause { HasCause TreeError.Fault (T.faults tree.old) (T.faults tree.new) result }

@@ -8,7 +8,7 @@ use Rattle.search_path.specs.Search.{Hit, search}
 use Rattle.search_path.specs.declared.asking.Ask.{Ask}
 use Rattle.search_path.specs.declared.asking.Visit.{Visit}
 use Rattle.tree_model.specs.Trees.{FileTree}
-use Rattle.sheet_build.specs.Sheet.{SheetData, Asking, plain_hit, computed_of, sheet_from, named_pair}
+use Rattle.sheet_build.specs.Sheet.{SheetData, AskedTarget, plain_hit, computed_of, sheet_from, named_pair}
 use Rattle.sheet_build.specs.declared.sheets.Parts.{Parts}
 
 -- the sheet of these parts
@@ -16,8 +16,8 @@ abbrev pub sheet_of_parts : Parts → SheetData
 sheet_of_parts p = record { defs = map named_pair p.defs; plain = p.plain; probes = p.probes; computed = p.computed; has_line = p.has_line }
 
 -- the sheet of some pieces with that of the pieces behind them
-abbrev pub joined : SheetData → SheetData → SheetData
-joined s t = record {
+abbrev pub joined_sheets : SheetData → SheetData → SheetData
+joined_sheets s t = record {
   defs = s.defs ++ t.defs;
   plain = s.plain ++ t.plain;
   probes = s.probes ++ t.probes;
@@ -27,14 +27,14 @@ joined s t = record {
 
 -- what some pieces add to parts
 abbrev pub Adds : FileTree → SetupData → Visit → List Piece → Parts → Parts → Type 0
-Adds told setup visit ps old new = sheet_of_parts new ≡ joined (sheet_of_parts old) (sheet_from (search told setup) visit ps)
+Adds told setup visit ps old new = sheet_of_parts new ≡ joined_sheets (sheet_of_parts old) (sheet_from (search told setup) visit ps)
 
 -- a sheet with more definitions
 abbrev pub with_definitions : List Named → SheetData → SheetData
 with_definitions defs s = record { defs = s.defs ++ defs; plain = s.plain; probes = s.probes; computed = s.computed; has_line = s.has_line }
 
 -- a sheet with what includes ask for
-abbrev pub with_includes : (Ask → Option Hit) → Visit → List Asking → SheetData → SheetData
+abbrev pub with_includes : (Ask → Option Hit) → Visit → List AskedTarget → SheetData → SheetData
 with_includes find visit asks s = record {
   defs = s.defs;
   plain = s.plain ++ filter_map (plain_hit find visit) asks;
@@ -44,7 +44,7 @@ with_includes find visit asks s = record {
 }
 
 -- a sheet with what operands of `__has_include` ask for
-abbrev pub with_probes : (Ask → Option Hit) → Visit → List Asking → SheetData → SheetData
+abbrev pub with_probes : (Ask → Option Hit) → Visit → List AskedTarget → SheetData → SheetData
 with_probes find visit asks s = record {
   defs = s.defs;
   plain = s.plain;

@@ -6,12 +6,12 @@ use Rattle.directive_scan.specs.declared.Piece.TheVariants.{Line}
 use Rattle.directive_scan.specs.Spots.{piece_seen}
 use Rattle.search_path.specs.Search.{search}
 use Rattle.sheet_build.specs.Sheet.{sheet_from}
-use Rattle.sheet_build.specs.parts.Stored.{sheet_of_parts, joined}
+use Rattle.sheet_build.specs.parts.Stored.{sheet_of_parts, joined_sheets}
 use Rattle.sheet_build.proofs.directives.add_piece.Goals as goal
 
 pub returns-in_ok-what-in-Line-clause-adds : goal.returns-in_ok-what-in-Line-clause-adds
 returns-in_ok-what-in-Line-clause-adds g c = λ told is.
     let seen : Line c.in-Line.at c.in_ok-what-in-Line.what ≡ piece_seen c.args.piece = ap (λ (d : Directive). Line c.in-Line.at d) c.in_ok-what-in-Line.ensures ∙ sym (ap piece_seen c.in-Line.is) in
     on_ok_weaker c.add_directive.result
-    (λ added. added c.in-Line.at ∙ ap (λ (p : Piece). joined (sheet_of_parts c.args.parts.now) (sheet_from (search told c.args.setup.now) c.args.visit.now (p ∷ []))) seen)
+    (λ added. added c.in-Line.at ∙ ap (λ (p : Piece). joined_sheets (sheet_of_parts c.args.parts.now) (sheet_from (search told c.args.setup.now) c.args.visit.now (p ∷ []))) seen)
     (c.add_directive.ensures.adds told is)
