@@ -16,7 +16,7 @@ flat_map-agree f g (x ∷ xs) h =
     ap₂ (λ u v. u ++ v) (h x (contains_first x xs)) (flat_map-agree f g xs (λ y c. h y (contains_later y x xs c)))
 
 -- the names met where a name is left or replaced by one of these
-names_of : (Choice → List (List ℕ)) → List MacroDefinition → List (List ℕ)
+unfoldable pub names_of : (Choice → List (List ℕ)) → List MacroDefinition → List (List ℕ)
 names_of next [] = next None
 names_of next (d ∷ ds) = flat_map next (None ∷ map Some (d ∷ ds))
 

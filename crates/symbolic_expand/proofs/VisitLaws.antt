@@ -11,6 +11,7 @@ use Rattle.macro_expand.proofs.RunLaws.{contains_map_from, contains_flat_map_fro
 use Rattle.symbolic_expand.specs.parts.Enumeration.{Visit, ended_so, meets, choices_of, visits_of, visits, run_at}
 use Rattle.symbolic_expand.proofs.Elements.{contains_tail, contains_none}
 use Rattle.symbolic_expand.proofs.EnumerationLaws.{visits_from-nil, visits_from-step}
+use Rattle.symbolic_expand.proofs.SupportLaws.{names_of}
 
 -- How runs end.
 
@@ -109,11 +110,6 @@ meets_choice f cs c n k (v, inside, m) = (v, contains_flat_map f cs c v k inside
 meets_some_choice : {A : Type 0} (f : Choice → List (Visit A)) (cs : List Choice) (n : List ℕ) → Meets (flat_map f cs) n →
     (c : Choice) × (Contains cs c) × Meets (f c) n
 meets_some_choice f cs n (v, inside, m) = let from = contains_flat_map_from f cs v inside in (from.0, from.1, (v, from.2, m))
-
--- the names met where a name is left or replaced by one of these
-names_of : (Choice → List (List ℕ)) → List MacroDefinition → List (List ℕ)
-names_of next [] = next None
-names_of next (d ∷ ds) = flat_map next (None ∷ map Some (d ∷ ds))
 
 choice_visit : {A : Type 0} (f : Choice → List (Visit A)) (ds : List MacroDefinition) → ((v : Visit A) × Contains (f None) v) →
     (v : Visit A) × Contains (visits_of f ds) v
