@@ -14,7 +14,7 @@ use Rattle.directive_scan.specs.declared.directive.Piece.TheVariants.{Run, Line}
 use Rattle.directive_scan.specs.declared.spots.Spot.{Spot}
 use Rattle.directive_scan.specs.declared.spots.Spot.TheVariants as spot
 use Rattle.directive_scan.specs.Directives.{onto_run}
-use Rattle.directive_scan.specs.Gathered.{tokens_of_line}
+use Rattle.directive_scan.specs.Gathered.{tokens_at_line}
 use Rattle.directive_scan.specs.Spots.{tokens_before, tokens_between, piece_at, KnowsRole, EachKnowsRole, so_far, BeginsBefore}
 
 -- a stretch that ends behind one of three parts
@@ -28,9 +28,9 @@ stretch a l r from low =
 
 -- a file's tokens, before a line, on it, and behind it
 parts : (file : LexedFile) (line : ℕ) → line < length file.lines
-    → all_tokens file ≡ flat_map (λ l. l) (take line file.lines) ++ (tokens_of_line file line ++ flat_map (λ l. l) (drop (line + 1) file.lines))
+    → all_tokens file ≡ flat_map (λ l. l) (take line file.lines) ++ (tokens_at_line file line ++ flat_map (λ l. l) (drop (line + 1) file.lines))
 parts file line below =
-    let begins : drop line file.lines ≡ tokens_of_line file line ∷ drop (line + 1) file.lines =
+    let begins : drop line file.lines ≡ tokens_at_line file line ∷ drop (line + 1) file.lines =
     at_drop_more (λ (ls : List (List Token)). ls) file.lines line [] below
     ∙ ap (λ (l : List Token). l ∷ drop (line + 1) file.lines) (sym (unwrap_or-slice_get file.lines line [])) in
     ap (flat_map (λ l. l)) (sym (take-append-drop line file.lines))
@@ -38,26 +38,26 @@ parts file line below =
     ∙ ap (λ (ls : List (List Token)). flat_map (λ l. l) (take line file.lines) ++ flat_map (λ l. l) ls) begins
 
 before_next : (file : LexedFile) (line : ℕ) → line < length file.lines
-    → flat_map (λ l. l) (take (line + 1) file.lines) ≡ flat_map (λ l. l) (take line file.lines) ++ tokens_of_line file line
+    → flat_map (λ l. l) (take (line + 1) file.lines) ≡ flat_map (λ l. l) (take line file.lines) ++ tokens_at_line file line
 before_next file line below =
     let e : line + 1 ≡ suc line = omega arith in
-    let one : take (line + 1) file.lines ≡ take line file.lines ++ (tokens_of_line file line ∷ []) =
+    let one : take (line + 1) file.lines ≡ take line file.lines ++ (tokens_at_line file line ∷ []) =
     ap (λ n. take n file.lines) e ∙ take-suc file.lines line [] below
     ∙ ap (λ (l : List Token). take line file.lines ++ (l ∷ [])) (sym (unwrap_or-slice_get file.lines line [])) in
     ap (flat_map (λ l. l)) one
-    ∙ flat_map-append (λ l. l) (take line file.lines) (tokens_of_line file line ∷ [])
-    ∙ ap (λ (ts : List Token). flat_map (λ l. l) (take line file.lines) ++ ts) (append-nil (tokens_of_line file line))
+    ∙ flat_map-append (λ l. l) (take line file.lines) (tokens_at_line file line ∷ [])
+    ∙ ap (λ (ts : List Token). flat_map (λ l. l) (take line file.lines) ++ ts) (append-nil (tokens_at_line file line))
 
 -- a run that goes on over one line more
 pub longer : (file : LexedFile) (line from : ℕ) → line < length file.lines → from ≤ tokens_before file line
-    → tokens_between file from (tokens_before file (line + 1)) ≡ tokens_between file from (tokens_before file line) ++ tokens_of_line file line
+    → tokens_between file from (tokens_before file (line + 1)) ≡ tokens_between file from (tokens_before file line) ++ tokens_at_line file line
 longer file line from below low =
     rw (before_next file line below, parts file line below)
-    (stretch (flat_map (λ l. l) (take line file.lines)) (tokens_of_line file line) (flat_map (λ l. l) (drop (line + 1) file.lines)) from low)
+    (stretch (flat_map (λ l. l) (take line file.lines)) (tokens_at_line file line) (flat_map (λ l. l) (drop (line + 1) file.lines)) from low)
 
 pub before_more : (file : LexedFile) (line : ℕ) → line < length file.lines → tokens_before file line ≤ tokens_before file (line + 1)
 before_more file line below =
-    omega (arith, ap length (before_next file line below), length-append (flat_map (λ l. l) (take line file.lines)) (tokens_of_line file line))
+    omega (arith, ap length (before_next file line below), length-append (flat_map (λ l. l) (take line file.lines)) (tokens_at_line file line))
 
 -- a line behind a run
 onto_both : (run line : List Token) (others : List Piece) → onto_run (run ++ line) others ≡ onto_run run (onto_run line others)
@@ -67,15 +67,15 @@ onto_both run line (Line at what ∷ ps) = refl
 
 pub text_more : (file : LexedFile) (spots : List Spot) (run : Option ℕ) (line from : ℕ) (others : List Piece) → line < length file.lines
     → BeginsBefore file run line → from ≡ unwrap_or run (tokens_before file line)
-    → so_far file spots (Some from) (line + 1) others ≡ so_far file spots run line (onto_run (tokens_of_line file line) others)
+    → so_far file spots (Some from) (line + 1) others ≡ so_far file spots run line (onto_run (tokens_at_line file line) others)
 text_more file spots None line from others below low is =
     let none : tokens_between file (tokens_before file line) (tokens_before file line) ≡ [] =
     (let e : tokens_before file line - tokens_before file line ≡ 0 = omega arith in rw e refl) in
-    let all : tokens_between file (tokens_before file line) (tokens_before file (line + 1)) ≡ tokens_of_line file line =
-    longer file line (tokens_before file line) below (omega arith) ∙ ap (λ (ts : List Token). ts ++ tokens_of_line file line) none in
+    let all : tokens_between file (tokens_before file line) (tokens_before file (line + 1)) ≡ tokens_at_line file line =
+    longer file line (tokens_before file line) below (omega arith) ∙ ap (λ (ts : List Token). ts ++ tokens_at_line file line) none in
     rw (is, all) refl
 text_more file spots (Some n) line from others below low is =
-    rw (is, longer file line n below low) (ap (λ (ps : List Piece). map (piece_at file) spots ++ ps) (onto_both (tokens_between file n (tokens_before file line)) (tokens_of_line file line) others))
+    rw (is, longer file line n below low) (ap (λ (ps : List Piece). map (piece_at file) spots ++ ps) (onto_both (tokens_between file n (tokens_before file line)) (tokens_at_line file line) others))
 
 pub text_ended : (file : LexedFile) (spots : List Spot) (from line : ℕ)
     → map (piece_at file) (spots ++ spot.Text from (tokens_before file line) ∷ []) ≡ so_far file spots (Some from) line []

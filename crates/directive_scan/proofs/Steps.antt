@@ -8,7 +8,7 @@ use Rattle.pp_tokens.specs.Lines.{LexedFile, spells_hash}
 use Rattle.directive_scan.specs.declared.directive.Piece.{Piece}
 use Rattle.directive_scan.specs.declared.directive.Piece.TheVariants.{Line}
 use Rattle.directive_scan.specs.Directives.{directive_of, onto_run, line_before, pieces}
-use Rattle.directive_scan.specs.Gathered.{tokens_of_line, hash_of}
+use Rattle.directive_scan.specs.Gathered.{tokens_at_line, hash_of}
 
 -- a line that begins with `#` is a directive
 pub line-directive : (line : List Token) (at : ℕ) (others : List Piece) → Some at ≡ hash_of line → line_before line others ≡ Line at (directive_of (drop 1 line)) ∷ others
@@ -31,7 +31,7 @@ line-text (t ∷ ts) others is = begun (spells_hash t.text) is
     begun false same = refl
 
 -- the pieces from a line on
-pub pieces-from : (file : LexedFile) (line : ℕ) → line < length file.lines → pieces (drop line file.lines) ≡ line_before (tokens_of_line file line) (pieces (drop (line + 1) file.lines))
+pub pieces-from : (file : LexedFile) (line : ℕ) → line < length file.lines → pieces (drop line file.lines) ≡ line_before (tokens_at_line file line) (pieces (drop (line + 1) file.lines))
 unfolding pieces
 pieces-from file line below =
     at_drop_more pieces file.lines line [] below

@@ -7,8 +7,8 @@ use Rattle.directive_scan.specs.declared.directive.Piece.{Piece}
 use Rattle.directive_scan.specs.Directives.{onto_run}
 
 -- the tokens of a logical line, none behind the last one
-abbrev pub tokens_of_line : LexedFile → ℕ → List Token
-tokens_of_line file line = unwrap_or (slice_get file.lines line) []
+abbrev pub tokens_at_line : LexedFile → ℕ → List Token
+tokens_at_line file line = unwrap_or (slice_get file.lines line) []
 
 -- the physical line of the `#` of a directive; none where the logical line is text (6.10 paragraph 2)
 unfoldable pub hash_of : List Token → Option ℕ

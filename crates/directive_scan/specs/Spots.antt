@@ -16,7 +16,7 @@ use Rattle.directive_scan.specs.declared.spots.Spot.{Spot}
 use Rattle.directive_scan.specs.declared.spots.Spot.TheVariants as spot
 use Rattle.directive_scan.specs.declared.directive.Directive.{Directive}
 use Rattle.directive_scan.specs.Directives.{directive_of}
-use Rattle.directive_scan.specs.Gathered.{tokens_of_line, gathered_pieces}
+use Rattle.directive_scan.specs.Gathered.{tokens_at_line, gathered_pieces}
 use Rattle.directive_scan.specs.Groups.{Role, single, opening, elif_line, else_line, endif_line, directive_role}
 
 -- the role that a line's kind in the nesting is
@@ -29,7 +29,7 @@ role_told (nesting.Branch name.Endif) = endif_line
 
 -- the directive on a logical line
 abbrev pub directive_on : LexedFile → ℕ → Directive
-directive_on file line = directive_of (drop 1 (tokens_of_line file line))
+directive_on file line = directive_of (drop 1 (tokens_at_line file line))
 
 -- how many tokens stand on the lines before one
 abbrev pub tokens_before : LexedFile → ℕ → ℕ

@@ -2,7 +2,7 @@
 ghost use Rattle.std.specs.Prelude.{◌≡◌, drop, List};
 ghost use Rattle.pp_tokens.specs.declared.Token.{Token};
 ghost use Rattle.directive_scan.specs.Directives.{directive_named, directive_of};
-ghost use Rattle.directive_scan.specs.Gathered.{tokens_of_line};
+ghost use Rattle.directive_scan.specs.Gathered.{tokens_at_line};
 ghost use Rattle.directive_scan.specs.Groups.{directive_role};
 ghost use Rattle.directive_scan.specs.Spots.{role_told, directive_on};
 

@@ -3,7 +3,7 @@ ghost use Rattle.std.specs.Prelude as seen;
 ghost use Rattle.std.specs.Prelude.{◌≡◌, ◌++◌, ◌∷◌, [], map, drop, false, bytes_eq, codes, unwrap_or, slice_get, IfOk, OnOk};
 ghost use Rattle.pp_tokens.specs.Tokens.{rest_of};
 ghost use Rattle.directive_scan.specs.Directives.{header_name, target_of, pragma_of, directive_named, directive_of, pieces};
-ghost use Rattle.directive_scan.specs.Gathered.{tokens_of_line};
+ghost use Rattle.directive_scan.specs.Gathered.{tokens_at_line};
 ghost use Rattle.directive_scan.specs.Spots.{piece_at};
 
 use crate::directive::{Directive, HeaderName, Piece, Target};
@@ -62,7 +62,7 @@ fn copied(alloc: Global, lent: Tokens<'_>) -> Result<List<Token>, AllocError>
 // The directive on a line, by its tokens behind the `#`.
 #[tactic(auto, unfolding(crate::specs::Directives::directive_of))]
 pub fn directive_at(alloc: Global, lexed: &Lexed, line: usize) -> Result<Directive, AllocError>
-    ensures { IfOk result (λ what. what ≡ directive_of (drop 1 (tokens_of_line lexed.now line))) }
+    ensures { IfOk result (λ what. what ≡ directive_of (drop 1 (tokens_at_line lexed.now line))) }
 {
     match lexed.token(line, 1) {
         Some(name) => named_at(alloc, lexed, line, name.text),
@@ -73,7 +73,7 @@ pub fn directive_at(alloc: Global, lexed: &Lexed, line: usize) -> Result<Directi
 // The directive on a line, by its name.
 #[tactic(auto, unfolding(crate::specs::Directives::directive_named))]
 fn named_at(alloc: Global, lexed: &Lexed, line: usize, name: &[u8]) -> Result<Directive, AllocError>
-    ensures { IfOk result (λ what. what ≡ directive_named name.now (drop 2 (tokens_of_line lexed.now line))) }
+    ensures { IfOk result (λ what. what ≡ directive_named name.now (drop 2 (tokens_at_line lexed.now line))) }
 {
     if name == b"include".as_slice() {
         Ok(Directive::Include(target_at(alloc, lexed, line)?))
@@ -123,7 +123,7 @@ fn directive_with(name: &[u8], tokens: List<Token>) -> Directive
 // What an include names.
 #[tactic(auto, unfolding(crate::specs::Directives::target_of))]
 fn target_at(alloc: Global, lexed: &Lexed, line: usize) -> Result<Target, AllocError>
-    ensures { IfOk result (λ target. target ≡ target_of (drop 2 (tokens_of_line lexed.now line))) }
+    ensures { IfOk result (λ target. target ≡ target_of (drop 2 (tokens_at_line lexed.now line))) }
 {
     match lexed.token(line, 2) {
         Some(first) => {
@@ -160,7 +160,7 @@ fn pragma_with(tokens: List<Token>) -> Directive
 
 // The tokens of a line behind its `#` and the directive's name.
 fn behind_name(alloc: Global, lexed: &Lexed, line: usize) -> Result<List<Token>, AllocError>
-    ensures { IfOk result (λ ts. ts ≡ drop 2 (tokens_of_line lexed.now line)) }
+    ensures { IfOk result (λ ts. ts ≡ drop 2 (tokens_at_line lexed.now line)) }
 {
     Ok(List::of(tokens_from(alloc, lexed, line, 2)?))
 }
@@ -188,7 +188,7 @@ fn add_tokens(
     place: usize,
     tokens: &mut Vec<Token>,
 ) -> Result<(), AllocError>
-    ensures { OnOk result (tokens.new.items ≡ tokens.old.items ++ drop place (tokens_of_line lexed.now line)) }
+    ensures { OnOk result (tokens.new.items ≡ tokens.old.items ++ drop place (tokens_at_line lexed.now line)) }
 {
     for at in place..lexed.token_count(line) {
         if let Some(token) = lexed.token(line, at) {

@@ -2,7 +2,7 @@
 ghost use Rattle.std.specs.Prelude.{◌≡◌, ◌<◌, ◌≤◌, ◌+◌, ◌∷◌, [], ℕ, Some, None, length, map, drop, IfOk, OnOk, List};
 ghost use Rattle.directive_scan.specs.declared.directive.Piece.{Piece};
 ghost use Rattle.directive_scan.specs.Directives.{line_before, onto_run, pieces};
-ghost use Rattle.directive_scan.specs.Gathered.{tokens_of_line, hash_of};
+ghost use Rattle.directive_scan.specs.Gathered.{tokens_at_line, hash_of};
 ghost use Rattle.directive_scan.specs.Spots.{piece_at, EachKnowsRole, so_far, BeginsBefore, directive_on};
 
 use crate::role::{Nesting, nesting_at};
@@ -51,7 +51,7 @@ pub fn spots(alloc: Global, file: &Lexed) -> Result<Vec<Spot>, AllocError>
 fn with_line(file: &Lexed, line: usize, gathered: Gathered) -> Result<Gathered, AllocError>
     requires below { line < length file.now.lines }
     requires begins { BeginsBefore file.now gathered.run line }
-    ensures shown { IfOk result (λ g. (others : List Piece) → so_far file.now g.ended.items g.run (line + 1) others ≡ so_far file.now gathered.ended.items gathered.run line (line_before (tokens_of_line file.now line) others)) }
+    ensures shown { IfOk result (λ g. (others : List Piece) → so_far file.now g.ended.items g.run (line + 1) others ≡ so_far file.now gathered.ended.items gathered.run line (line_before (tokens_at_line file.now line) others)) }
     ensures roles { IfOk result (λ g. EachKnowsRole file.now gathered.ended.items → EachKnowsRole file.now g.ended.items) }
     ensures begins { IfOk result (λ g. BeginsBefore file.now g.run (line + 1)) }
 {
@@ -86,7 +86,7 @@ fn with_directive(
 fn with_text(file: &Lexed, line: usize, gathered: Gathered) -> Gathered
     requires below { line < length file.now.lines }
     requires begins { BeginsBefore file.now gathered.run line }
-    ensures shown { (others : List Piece) → so_far file.now result.ended.items result.run (line + 1) others ≡ so_far file.now gathered.ended.items gathered.run line (onto_run (tokens_of_line file.now line) others) }
+    ensures shown { (others : List Piece) → so_far file.now result.ended.items result.run (line + 1) others ≡ so_far file.now gathered.ended.items gathered.run line (onto_run (tokens_at_line file.now line) others) }
     ensures same { result.ended.items ≡ gathered.ended.items }
     ensures begins { BeginsBefore file.now result.run (line + 1) }
 {
@@ -114,7 +114,7 @@ fn all_ended(file: &Lexed, line: usize, gathered: Gathered) -> Result<Vec<Spot>,
 // The physical line of the `#` that begins a line; None where the line is text.
 #[tactic(auto, unfolding(crate::specs::Gathered::hash_of))]
 fn hash_at(lexed: &Lexed, line: usize) -> Option<u32>
-    ensures { result ≡ hash_of (tokens_of_line lexed.now line) }
+    ensures { result ≡ hash_of (tokens_at_line lexed.now line) }
 {
     let first = lexed.token(line, 0)?;
     if first.text == b"#".as_slice() || first.text == b"%:".as_slice() {

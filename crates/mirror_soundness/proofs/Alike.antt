@@ -31,7 +31,7 @@ use Rattle.search_path.specs.declared.asking.Ask.{Ask}
 use Rattle.job_words.specs.JobOf.{JobData}
 use Rattle.daemon_cpp.specs.Diagnostics.{WorkLimit, TooLarge}
 use Rattle.daemon_cpp.specs.Prep.{World, here_at, presumed_line, State, PrepStep, Go, Stop, and_then, Reached, Gives, Ends, with_value, reach, complain, complain_of_job, limited, say, touch, Entering, header_reached, is_marked, answer_token, answered_condition, probed, probe_named, probe, answer_parts, parts_condition, condition, directive_test, piece_test, unless_marked, found_file, include_named, include, directive_step, piece_step, group_or, run_group, run_branches, malformed_step, run_outline, run_file, paid, opening_cost, open_file, back_in, enter_file, first_state, run_forced}
-use Rattle.sheet_build.specs.Sheet.{asked_target, SheetData, asked_for, sheet_from}
+use Rattle.sheet_build.specs.Sheet.{asked_so, SheetData, asked_for, sheet_from}
 use Rattle.closure_fixpoint.specs.Closure.{AnalysisAnswers, first_definitions, IsKnownSearch}
 use Rattle.mirror_soundness.proofs.TableLaws.{first_among}
 use Rattle.mirror_soundness.proofs.Kept as kept
@@ -140,7 +140,7 @@ module _ (fact : ChoiceFactHolds) (outlines : OutlineHolds) (m g : World) (sheet
         probed_keeps visit state (g.find (asked_for visit false header)) h (known header refl),
       )
 
-  probe_alike : (visit : Visit) (ps : List Piece) (at : ℕ) (target : Target) (state : State) → IsRead visit ps → Holds visit state → IsProbed ps (asked_target false true target)
+  probe_alike : (visit : Visit) (ps : List Piece) (at : ℕ) (target : Target) (state : State) → IsRead visit ps → Holds visit state → IsProbed ps (asked_so false true target)
       → AlikeWith visit Any (probe m at target state) (probe g at target state)
   probe_alike visit ps at target state read h asked =
       reach_alike visit (λ o. (header : HeaderName) → o ≡ Some header → KnowsAll visit header) Any (header_reached at target state) (header_reached at target state)
@@ -150,7 +150,7 @@ module _ (fact : ChoiceFactHolds) (outlines : OutlineHolds) (m g : World) (sheet
 
   -- operands from left to right
   answered_alike : (visit : Visit) (ps : List Piece) (at : ℕ) (parts : List ConditionPart) (state : State) → IsRead visit ps → Holds visit state
-      → ((target : Target) → Member target (targets_of parts) → IsProbed ps (asked_target false true target))
+      → ((target : Target) → Member target (targets_of parts) → IsProbed ps (asked_so false true target))
       → AlikeWith visit Any (answer_parts m at parts state) (answer_parts g at parts state)
   unfolding answer_parts targets_of
   answered_alike visit ps at [] state read h asked = (refl, (h, tt))
@@ -168,7 +168,7 @@ module _ (fact : ChoiceFactHolds) (outlines : OutlineHolds) (m g : World) (sheet
       (answered_alike visit ps at parts after read k (λ other n. asked other (inr n))) (λ ts more l any. (refl, (l, tt))))
 
   parts_alike : (visit : Visit) (ps : List Piece) (at : ℕ) (parts : Option (List ConditionPart)) (state : State) → IsRead visit ps → Holds visit state
-      → ((some : List ConditionPart) → parts ≡ Some some → (target : Target) → Member target (targets_of some) → IsProbed ps (asked_target false true target))
+      → ((some : List ConditionPart) → parts ≡ Some some → (target : Target) → Member target (targets_of some) → IsProbed ps (asked_so false true target))
       → AlikeWith visit Any (parts_condition m at parts state) (parts_condition g at parts state)
   parts_alike visit ps at None state read h asked = (refl, h.touched)
   parts_alike visit ps at (Some parts) state read h asked =
@@ -182,10 +182,10 @@ module _ (fact : ChoiceFactHolds) (outlines : OutlineHolds) (m g : World) (sheet
   unfolding condition
   directive_test_alike visit ps at (named.If tokens) state read h there =
       parts_alike visit ps at (parts_of tokens) state read h
-      (λ some is target n. probes_there ps (Line at (named.If tokens)) there (asked_target false true target) (operands_there tokens some target is n))
+      (λ some is target n. probes_there ps (Line at (named.If tokens)) there (asked_so false true target) (operands_there tokens some target is n))
   directive_test_alike visit ps at (named.Elif tokens) state read h there =
       parts_alike visit ps at (parts_of tokens) state read h
-      (λ some is target n. probes_there ps (Line at (named.Elif tokens)) there (asked_target false true target) (operands_there tokens some target is n))
+      (λ some is target n. probes_there ps (Line at (named.Elif tokens)) there (asked_so false true target) (operands_there tokens some target is n))
   directive_test_alike visit ps at (named.Ifdef tokens) state read h there = (refl, kept.name_keeps all job visits visit at true tokens state h)
   directive_test_alike visit ps at (named.Ifndef tokens) state read h there = (refl, kept.name_keeps all job visits visit at false tokens state h)
   directive_test_alike visit ps at (named.Include target) state read h there = (refl, (h, tt))
@@ -241,7 +241,7 @@ module _ (fact : ChoiceFactHolds) (outlines : OutlineHolds) (m g : World) (sheet
         (found_file g d at header.angle header.name state (g.find (asked_for v next header))))
         (sym h.in_file) (searched_alike visit at header.angle header.name state (asked_for visit next header) h (may header refl))
 
-    include_alike : (visit : Visit) (ps : List Piece) (next : Bool) (at : ℕ) (target : Target) (state : State) → IsRead visit ps → Holds visit state → IsIncluded ps (asked_target next false target)
+    include_alike : (visit : Visit) (ps : List Piece) (next : Bool) (at : ℕ) (target : Target) (state : State) → IsRead visit ps → Holds visit state → IsIncluded ps (asked_so next false target)
         → Alike visit (include m e next at target state) (include g d next at target state)
     include_alike visit ps next at target state read h asked =
         value_alike visit (λ o. (header : HeaderName) → o ≡ Some header → Enters visit next header) (header_reached at target state) (header_reached at target state)
@@ -252,9 +252,9 @@ module _ (fact : ChoiceFactHolds) (outlines : OutlineHolds) (m g : World) (sheet
     directive_alike : (visit : Visit) (ps : List Piece) (at : ℕ) (what : Directive) (state : State) → IsRead visit ps → Holds visit state → Member (Line at what) ps
         → Alike visit (directive_step m e at what state) (directive_step g d at what state)
     directive_alike visit ps at (named.Include target) state read h there =
-        include_alike visit ps false at target state read h (includes_there ps (Line at (named.Include target)) there (asked_target false false target) (inl refl))
+        include_alike visit ps false at target state read h (includes_there ps (Line at (named.Include target)) there (asked_so false false target) (inl refl))
     directive_alike visit ps at (named.Next target) state read h there =
-        include_alike visit ps true at target state read h (includes_there ps (Line at (named.Next target)) there (asked_target true false target) (inl refl))
+        include_alike visit ps true at target state read h (includes_there ps (Line at (named.Next target)) there (asked_so true false target) (inl refl))
     directive_alike visit ps at (named.Define tokens) state read h there =
         (refl, kept.define_keeps all job visits visit at (defined_by tokens) state h (asked_by.defined_there g sheet job visits Home visit ps at tokens read there))
     directive_alike visit ps at (named.Undef tokens) state read h there = (refl, kept.undef_keeps all job visits visit at tokens state h)

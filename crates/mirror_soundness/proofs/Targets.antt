@@ -31,7 +31,7 @@ use Rattle.search_path.specs.declared.asking.Form.{Form}
 use Rattle.search_path.specs.declared.asking.Ask.{Ask}
 use Rattle.job_words.specs.JobOf.{JobData}
 use Rattle.daemon_cpp.specs.Prep.{World, place_here, State, Gives, reach, tokens_of, expanded_in, line_expanded, header_reached}
-use Rattle.sheet_build.specs.Sheet.{AskedTarget, asked_target, probes_for, includes_in, probes_in, accepted, definition_in, is_line, ComputedAsk, SheetData, quote_form, computed_of, asked_for, plain_hit, sheet_from}
+use Rattle.sheet_build.specs.Sheet.{AskedTarget, asked_so, probes_for, includes_in, probes_in, accepted, definition_in, is_line, ComputedAsk, SheetData, quote_form, computed_of, asked_for, plain_hit, sheet_from}
 use Rattle.closure_fixpoint.specs.Closure.{AnalysisAnswers, first_definitions, with_angle, known_name, MayFind, ByName, ByTokens, first_asks, first_hits, IsClosedFor, IsKnownSearch, AtFirst, Included, Probed, ByMacros, HasLong, HasPresumed}
 use Rattle.mirror_soundness.proofs.ComputedLaws.{may_be_named}
 use Rattle.mirror_soundness.proofs.Kept.{Holds, KeepsWith, left_holds, knows}
@@ -64,10 +64,10 @@ form_same true true = refl
 
 -- the operands of a line are those of its parts
 pub operands_there : (tokens : List Token) (parts : List ConditionPart) (target : Target) → parts_of tokens ≡ Some parts → Member target (targets_of parts)
-    → Member (asked_target false true target) (probes_for (operands_of tokens))
+    → Member (asked_so false true target) (probes_for (operands_of tokens))
 operands_there tokens parts target is n =
-    subst (λ (o : Option (List Target)). Member (asked_target false true target) (probes_for o)) (sym (ap (λ (o : Option (List ConditionPart)). option_map targets_of o) is))
-    (Member-map (asked_target false true) target (targets_of parts) n)
+    subst (λ (o : Option (List Target)). Member (asked_so false true target) (probes_for o)) (sym (ap (λ (o : Option (List ConditionPart)). option_map targets_of o) is))
+    (Member-map (asked_so false true) target (targets_of parts) n)
 
 -- the targets of a file's includes, those of its operands, and all that it asks for
 abbrev pub IsAskedFor : List Piece → AskedTarget → Type 0
@@ -139,11 +139,11 @@ module _ (world : World) (sheet : Visit → SheetData) (job : JobData) (visits :
       go (Ok e) is = (left_holds all job visits visit state e.units h, λ header names. computed tokens e header refl is names)
       go (Err f) is = h.touched
 
-  computed_stands : (visit : Visit) (ps : List Piece) (next probes : Bool) (tokens : List Token) → IsRead visit ps → IsAskedFor ps (asked_target next probes (Computed tokens))
+  computed_stands : (visit : Visit) (ps : List Piece) (next probes : Bool) (tokens : List Token) → IsRead visit ps → IsAskedFor ps (asked_so next probes (Computed tokens))
       → Member (record { form = quote_form next; probe = probes; tokens = tokens }) (sheet visit).computed
   computed_stands visit ps next probes tokens read asked =
       subst (λ (s : SheetData). Member (record { form = quote_form next; probe = probes; tokens = tokens }) s.computed) (sym read.is_sheet)
-      (Member-filter_map computed_of (asked_target next probes (Computed tokens)) (record { form = quote_form next; probe = probes; tokens = tokens }) _ asked refl)
+      (Member-filter_map computed_of (asked_so next probes (Computed tokens)) (record { form = quote_form next; probe = probes; tokens = tokens }) _ asked refl)
 
   module _ (fact : ChoiceFactHolds) (a : Analyses world sheet job visits Home) where
     -- a file that a computed target finds is one that it may find
@@ -163,11 +163,11 @@ module _ (world : World) (sheet : Visit → SheetData) (job : JobData) (visits :
     }
 
     -- a plain target of an include may be entered
-    plain_enters : (visit : Visit) (ps : List Piece) (next : Bool) (header : HeaderName) → IsRead visit ps → IsIncluded ps (asked_target next false (Plain header)) → Enters visit next header
+    plain_enters : (visit : Visit) (ps : List Piece) (next : Bool) (header : HeaderName) → IsRead visit ps → IsIncluded ps (asked_so next false (Plain header)) → Enters visit next header
     plain_enters visit ps next header read asked hit is =
         let there : Member hit (sheet visit).plain =
         subst (λ (s : SheetData). Member hit s.plain) (sym read.is_sheet)
-        (Member-filter_map (plain_hit world.find visit) (asked_target next false (Plain header)) hit (flat_map includes_in ps) asked.0 is) in
+        (Member-filter_map (plain_hit world.find visit) (asked_so next false (Plain header)) hit (flat_map includes_in ps) asked.0 is) in
         let homes = a.next_home visit next header hit read.home is in
         record {
           known = Included visit hit read.inside there;
@@ -178,7 +178,7 @@ module _ (world : World) (sheet : Visit → SheetData) (job : JobData) (visits :
 
     -- and so may each file that a computed one finds
     computed_enters : (visit : Visit) (ps : List Piece) (next : Bool) (tokens : List Token) (state : State) (e : Expanded) (header : HeaderName) → IsRead visit ps → Holds all job visits visit state
-        → IsIncluded ps (asked_target next false (Computed tokens)) → expanded_in mode.Text tokens state ≡ Ok e → header_named (tokens_of e) ≡ Some header → Enters visit next header
+        → IsIncluded ps (asked_so next false (Computed tokens)) → expanded_in mode.Text tokens state ≡ Ok e → header_named (tokens_of e) ≡ Some header → Enters visit next header
     computed_enters visit ps next tokens state e header read h asked is names hit found =
         let c : ComputedAsk = record { form = quote_form next; probe = false; tokens = tokens } in
         let finds : MayFind all job visits visit c hit = may_find visit ps state c next e header hit read h refl (computed_stands visit ps next false tokens read asked.1) is names found in
@@ -192,29 +192,29 @@ module _ (world : World) (sheet : Visit → SheetData) (job : JobData) (visits :
 
     -- what an include's target gives may be entered
     pub include_keeps : (visit : Visit) (ps : List Piece) (next : Bool) (at : ℕ) (target : Target) (state : State) → IsRead visit ps → Holds all job visits visit state
-        → IsIncluded ps (asked_target next false target)
+        → IsIncluded ps (asked_so next false target)
         → KeepsWith all job visits visit (λ o. (header : HeaderName) → o ≡ Some header → Enters visit next header) (header_reached at target state)
     include_keeps visit ps next at target state read h asked =
         header_keeps visit at target state (Enters visit next) h
-        (λ header is. plain_enters visit ps next header read (subst (λ (t : Target). IsIncluded ps (asked_target next false t)) is asked))
-        (λ tokens e header is expands names. computed_enters visit ps next tokens state e header read h (subst (λ (t : Target). IsIncluded ps (asked_target next false t)) is asked) expands names)
+        (λ header is. plain_enters visit ps next header read (subst (λ (t : Target). IsIncluded ps (asked_so next false t)) is asked))
+        (λ tokens e header is expands names. computed_enters visit ps next tokens state e header read h (subst (λ (t : Target). IsIncluded ps (asked_so next false t)) is asked) expands names)
 
     -- what an operand's target gives is searched by a search that is known
-    pub probe_keeps : (visit : Visit) (ps : List Piece) (at : ℕ) (target : Target) (state : State) → IsRead visit ps → Holds all job visits visit state → IsProbed ps (asked_target false true target)
+    pub probe_keeps : (visit : Visit) (ps : List Piece) (at : ℕ) (target : Target) (state : State) → IsRead visit ps → Holds all job visits visit state → IsProbed ps (asked_so false true target)
         → KeepsWith all job visits visit (λ o. (header : HeaderName) → o ≡ Some header → KnowsAll visit header) (header_reached at target state)
     probe_keeps visit ps at target state read h asked =
         header_keeps visit at target state (KnowsAll visit) h
-        (λ header is. plain header (subst (λ (t : Target). IsProbed ps (asked_target false true t)) is asked))
-        (λ tokens e header is expands names. computed tokens e header (subst (λ (t : Target). IsProbed ps (asked_target false true t)) is asked) expands names)
+        (λ header is. plain header (subst (λ (t : Target). IsProbed ps (asked_so false true t)) is asked))
+        (λ tokens e header is expands names. computed tokens e header (subst (λ (t : Target). IsProbed ps (asked_so false true t)) is asked) expands names)
       where
-        plain : (header : HeaderName) → IsProbed ps (asked_target false true (Plain header)) → KnowsAll visit header
+        plain : (header : HeaderName) → IsProbed ps (asked_so false true (Plain header)) → KnowsAll visit header
         plain header asked hit is =
             Probed visit hit.1 read.inside
             (subst (λ (s : SheetData). Member hit.1 s.probes) (sym read.is_sheet)
             (Member-map (λ x. x.1) hit (filter_map (plain_hit world.find visit) (flat_map probes_in ps))
-            (Member-filter_map (plain_hit world.find visit) (asked_target false true (Plain header)) hit (flat_map probes_in ps) asked.0 is)))
+            (Member-filter_map (plain_hit world.find visit) (asked_so false true (Plain header)) hit (flat_map probes_in ps) asked.0 is)))
 
-        computed : (tokens : List Token) (e : Expanded) (header : HeaderName) → IsProbed ps (asked_target false true (Computed tokens)) → expanded_in mode.Text tokens state ≡ Ok e
+        computed : (tokens : List Token) (e : Expanded) (header : HeaderName) → IsProbed ps (asked_so false true (Computed tokens)) → expanded_in mode.Text tokens state ≡ Ok e
             → header_named (tokens_of e) ≡ Some header → KnowsAll visit header
         computed tokens e header asked expands names hit found =
             let c : ComputedAsk = record { form = quote_form false; probe = true; tokens = tokens } in

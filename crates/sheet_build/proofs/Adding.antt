@@ -21,7 +21,7 @@ use Rattle.search_path.specs.Search.{Hit}
 use Rattle.search_path.specs.declared.asking.Ask.{Ask}
 use Rattle.search_path.specs.declared.asking.Visit.{Visit}
 use Rattle.tree_model.specs.declared.walk.Located.{Located}
-use Rattle.sheet_build.specs.Sheet.{SheetData, ComputedAsk, AskedTarget, asked_target, plain_hit, computed_of, includes_in, probes_in, probes_for, definition_in, is_line, sheet_from}
+use Rattle.sheet_build.specs.Sheet.{SheetData, ComputedAsk, AskedTarget, asked_so, plain_hit, computed_of, includes_in, probes_in, probes_for, definition_in, is_line, sheet_from}
 use Rattle.sheet_build.specs.parts.Stored.{joined_sheets, with_includes, with_probes}
 
 abbrev sheet_made : List Named → List Hit → List Located → List ComputedAsk → Bool → SheetData
@@ -61,25 +61,25 @@ probes-none find visit s =
 -- one operand more was added
 pub operands-next : (find : Ask → Option Hit) (visit : Visit) (target : Target) (rest others whole : List Target) (old new first : SheetData) →
     rest ≡ target ∷ others →
-    with_probes find visit (map (asked_target false true) rest) old ≡ with_probes find visit (map (asked_target false true) whole) first →
-    new ≡ with_probes find visit (asked_target false true target ∷ []) old →
-    with_probes find visit (map (asked_target false true) others) new ≡ with_probes find visit (map (asked_target false true) whole) first
+    with_probes find visit (map (asked_so false true) rest) old ≡ with_probes find visit (map (asked_so false true) whole) first →
+    new ≡ with_probes find visit (asked_so false true target ∷ []) old →
+    with_probes find visit (map (asked_so false true) others) new ≡ with_probes find visit (map (asked_so false true) whole) first
 operands-next find visit target rest others whole old new first front before added =
-    ap (λ (s : SheetData). with_probes find visit (map (asked_target false true) others) s) added
-    ∙ sym (probes-append find visit (asked_target false true target ∷ []) (map (asked_target false true) others) old)
-    ∙ ap (λ (ts : List Target). with_probes find visit (map (asked_target false true) ts) old) (sym front)
+    ap (λ (s : SheetData). with_probes find visit (map (asked_so false true) others) s) added
+    ∙ sym (probes-append find visit (asked_so false true target ∷ []) (map (asked_so false true) others) old)
+    ∙ ap (λ (ts : List Target). with_probes find visit (map (asked_so false true) ts) old) (sym front)
     ∙ before
 
 -- all were
 pub operands-all : (find : Ask → Option Hit) (visit : Visit) (rest whole targets : List Target) (new first : SheetData) →
     rest ≡ [] → whole ≡ targets →
-    with_probes find visit (map (asked_target false true) rest) new ≡ with_probes find visit (map (asked_target false true) whole) first →
-    new ≡ with_probes find visit (map (asked_target false true) targets) first
+    with_probes find visit (map (asked_so false true) rest) new ≡ with_probes find visit (map (asked_so false true) whole) first →
+    new ≡ with_probes find visit (map (asked_so false true) targets) first
 operands-all find visit rest whole targets new first none all before =
     sym (probes-none find visit new)
-    ∙ ap (λ (ts : List Target). with_probes find visit (map (asked_target false true) ts) new) (sym none)
+    ∙ ap (λ (ts : List Target). with_probes find visit (map (asked_so false true) ts) new) (sym none)
     ∙ before
-    ∙ ap (λ (ts : List Target). with_probes find visit (map (asked_target false true) ts) first) all
+    ∙ ap (λ (ts : List Target). with_probes find visit (map (asked_so false true) ts) first) all
 
 -- A piece's askings.
 abbrev asks_in : Piece → List AskedTarget
@@ -132,12 +132,12 @@ include-same find visit a s =
     (sym (append-nil s.defs)) refl (sym (append-nil s.probes)) refl (sym (or-false s.has_line))
 
 pub include-adds : (find : Ask → Option Hit) (visit : Visit) (at : ℕ) (target : Target) (s : SheetData) →
-    with_includes find visit (asked_target false false target ∷ []) s ≡ joined_sheets s (sheet_on find visit at (named.Include target))
-include-adds find visit at target s = include-same find visit (asked_target false false target) s
+    with_includes find visit (asked_so false false target ∷ []) s ≡ joined_sheets s (sheet_on find visit at (named.Include target))
+include-adds find visit at target s = include-same find visit (asked_so false false target) s
 
 pub next-adds : (find : Ask → Option Hit) (visit : Visit) (at : ℕ) (target : Target) (s : SheetData) →
-    with_includes find visit (asked_target true false target ∷ []) s ≡ joined_sheets s (sheet_on find visit at (named.Next target))
-next-adds find visit at target s = include-same find visit (asked_target true false target) s
+    with_includes find visit (asked_so true false target ∷ []) s ≡ joined_sheets s (sheet_on find visit at (named.Next target))
+next-adds find visit at target s = include-same find visit (asked_so true false target) s
 
 -- the operands of a condition, which are asked for so
 probes-same : (find : Ask → Option Hit) (visit : Visit) (asks : List AskedTarget) (s : SheetData) →
@@ -171,5 +171,5 @@ pub probeless-adds : (find : Ask → Option Hit) (visit : Visit) (tokens : List 
     s ≡ with_probes find visit (probes_for (operands_of tokens)) s
 probeless-adds find visit tokens s parts =
     sym (probes-none find visit s)
-    ∙ ap (λ (ts : List Target). with_probes find visit (map (asked_target false true) ts) s) (sym (no-targets tokens))
+    ∙ ap (λ (ts : List Target). with_probes find visit (map (asked_so false true) ts) s) (sym (no-targets tokens))
     ∙ ap (λ (o : Option (List ConditionPart)). with_probes find visit (probes_for (option_map targets_of o)) s) (sym parts)

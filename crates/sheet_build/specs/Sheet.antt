@@ -37,19 +37,19 @@ pub record AskedTarget : Type 0 where
   pub probe : Bool
   pub target : Target
 
-abbrev pub asked_target : Bool → Bool → Target → AskedTarget
-asked_target next probe target = record { next = next; probe = probe; target = target }
+abbrev pub asked_so : Bool → Bool → Target → AskedTarget
+asked_so next probe target = record { next = next; probe = probe; target = target }
 
 -- the target of an include (6.10.2)
 abbrev pub includes_of : Directive → List AskedTarget
-includes_of (named.Include target) = asked_target false false target ∷ []
-includes_of (named.Next target) = asked_target true false target ∷ []
+includes_of (named.Include target) = asked_so false false target ∷ []
+includes_of (named.Next target) = asked_so true false target ∷ []
 includes_of _ = []
 
 -- the operands of `__has_include` on a line that is well formed
 abbrev pub probes_for : Option (List Target) → List AskedTarget
 probes_for None = []
-probes_for (Some targets) = map (asked_target false true) targets
+probes_for (Some targets) = map (asked_so false true) targets
 
 abbrev pub probes_of : Directive → List AskedTarget
 probes_of (named.If tokens) = probes_for (operands_of tokens)

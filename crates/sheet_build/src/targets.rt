@@ -4,7 +4,7 @@ ghost use Rattle.std.specs.Option.{ForSome};
 ghost use Rattle.base_types.specs.Causes.{HasCause};
 ghost use Rattle.directive_scan.specs.Operands.{operands_of};
 ghost use Rattle.search_path.specs.Search as searches;
-ghost use Rattle.sheet_build.specs.Sheet.{asked_target, asked_for, probes_for, quote_form};
+ghost use Rattle.sheet_build.specs.Sheet.{asked_so, asked_for, probes_for, quote_form};
 ghost use Rattle.sheet_build.specs.parts.Stored.{sheet_of_parts, with_includes, with_probes};
 ghost use Rattle.sheet_build.specs.declared.sheets.Parts.{Parts};
 
@@ -28,7 +28,7 @@ pub fn add_include<T: Tree>(
     parts: &mut Parts,
 ) -> Result<(), TreeError>
     ensures same { T.told tree.new ≡ T.told tree.old }
-    ensures adds { ForSome (T.told tree.old) (λ told. OnOk result (sheet_of_parts parts.new ≡ with_includes (searches.search told setup.now) visit.now (asked_target next false target ∷ []) (sheet_of_parts parts.old))) }
+    ensures adds { ForSome (T.told tree.old) (λ told. OnOk result (sheet_of_parts parts.new ≡ with_includes (searches.search told setup.now) visit.now (asked_so next false target ∷ []) (sheet_of_parts parts.old))) }
     ensures cause { HasCause TreeError.Fault (T.faults tree.old) (T.faults tree.new) result }
     ensures never_large { IsErrOf result TreeError.Large → ⊥ }
     ensures no_read { T.reads tree.new ≡ T.reads tree.old }
@@ -50,7 +50,7 @@ fn add_included<T: Tree>(
     parts: &mut Parts,
 ) -> Result<(), TreeError>
     ensures same { T.told tree.new ≡ T.told tree.old }
-    ensures adds { ForSome (T.told tree.old) (λ told. OnOk result (sheet_of_parts parts.new ≡ with_includes (searches.search told setup.now) visit.now (asked_target next false (Target.Plain header.now) ∷ []) (sheet_of_parts parts.old))) }
+    ensures adds { ForSome (T.told tree.old) (λ told. OnOk result (sheet_of_parts parts.new ≡ with_includes (searches.search told setup.now) visit.now (asked_so next false (Target.Plain header.now) ∷ []) (sheet_of_parts parts.old))) }
     ensures cause { HasCause TreeError.Fault (T.faults tree.old) (T.faults tree.new) result }
     ensures never_large { IsErrOf result TreeError.Large → ⊥ }
     ensures no_read { T.reads tree.new ≡ T.reads tree.old }
@@ -140,7 +140,7 @@ fn add_operands<T: Tree>(
     parts: &mut Parts,
 ) -> Result<(), TreeError>
     ensures same { T.told tree.new ≡ T.told tree.old }
-    ensures adds { ForSome (T.told tree.old) (λ told. OnOk result (sheet_of_parts parts.new ≡ with_probes (searches.search told setup.now) visit.now (map (asked_target false true) targets) (sheet_of_parts parts.old))) }
+    ensures adds { ForSome (T.told tree.old) (λ told. OnOk result (sheet_of_parts parts.new ≡ with_probes (searches.search told setup.now) visit.now (map (asked_so false true) targets) (sheet_of_parts parts.old))) }
     ensures cause { HasCause TreeError.Fault (T.faults tree.old) (T.faults tree.new) result }
     ensures never_large { IsErrOf result TreeError.Large → ⊥ }
     ensures no_read { T.reads tree.new ≡ T.reads tree.old }
@@ -161,7 +161,7 @@ fn add_operand<T: Tree>(
     parts: &mut Parts,
 ) -> Result<(), TreeError>
     ensures same { T.told tree.new ≡ T.told tree.old }
-    ensures adds { ForSome (T.told tree.old) (λ told. OnOk result (sheet_of_parts parts.new ≡ with_probes (searches.search told setup.now) visit.now (asked_target false true target ∷ []) (sheet_of_parts parts.old))) }
+    ensures adds { ForSome (T.told tree.old) (λ told. OnOk result (sheet_of_parts parts.new ≡ with_probes (searches.search told setup.now) visit.now (asked_so false true target ∷ []) (sheet_of_parts parts.old))) }
     ensures cause { HasCause TreeError.Fault (T.faults tree.old) (T.faults tree.new) result }
     ensures never_large { IsErrOf result TreeError.Large → ⊥ }
     ensures no_read { T.reads tree.new ≡ T.reads tree.old }
@@ -182,7 +182,7 @@ fn add_probed<T: Tree>(
     parts: &mut Parts,
 ) -> Result<(), TreeError>
     ensures same { T.told tree.new ≡ T.told tree.old }
-    ensures adds { ForSome (T.told tree.old) (λ told. OnOk result (sheet_of_parts parts.new ≡ with_probes (searches.search told setup.now) visit.now (asked_target false true (Target.Plain header.now) ∷ []) (sheet_of_parts parts.old))) }
+    ensures adds { ForSome (T.told tree.old) (λ told. OnOk result (sheet_of_parts parts.new ≡ with_probes (searches.search told setup.now) visit.now (asked_so false true (Target.Plain header.now) ∷ []) (sheet_of_parts parts.old))) }
     ensures cause { HasCause TreeError.Fault (T.faults tree.old) (T.faults tree.new) result }
     ensures never_large { IsErrOf result TreeError.Large → ⊥ }
     ensures no_read { T.reads tree.new ≡ T.reads tree.old }
