@@ -1,6 +1,7 @@
 -- Replies: their one spelling, and their format, from its last field to its first.
 use Rattle.std.specs.Prelude.{ℕ, ◌+◌, ◌*◌, ◌≤◌, ◌&&◌, ◌||◌, List, ◌++◌, length, if◌then◌else◌, nat_lt, nat_le, ◌==◌, Option, Some, None, codes}
 use Rattle.base_types.specs.Limits.{diagnostic_limit, text_limit}
+use Rattle.base_types.specs.Ascii as ascii
 use Rattle.job_frames.specs.declared.answer.Answer.{Answer}
 use Rattle.job_frames.specs.declared.answer.Answer.TheVariants.{Text, Diag, Refused}
 use Rattle.job_frames.specs.Fields.{Step, version_reason, limit_reason, order_reason, token, field, within, only}
@@ -61,7 +62,7 @@ refusal_from greatest = due_token (codes "RFSE") (within 1 greatest) (λ n. give
 
 -- a reply of this version; its first letter tells which token is due
 unfoldable pub reply_from : ℕ → ℕ → Format Answer
-reply_from version greatest = due_letter (λ c. if c == 82 then refusal_from greatest else done_from version)
+reply_from version greatest = due_letter (λ c. if c == ascii.upper_r then refusal_from greatest else done_from version)
 
 -- a reply at the front of a text
 abbrev pub reply_at : List ℕ → Step Answer

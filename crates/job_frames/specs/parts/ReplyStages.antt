@@ -1,6 +1,7 @@
 -- Where a reader of replies stands: which field is due, and the format from there on.
 use Rattle.std.specs.Prelude.{◌≤◌, ℕ, List, Option, Some, None, codes, ◌==◌, if◌then◌else◌, Result}
 use Rattle.base_types.specs.Limits.{diagnostic_limit, text_limit}
+use Rattle.base_types.specs.Ascii as ascii
 use Rattle.job_frames.specs.declared.FrameError.{FrameError}
 use Rattle.job_frames.specs.declared.answer.Answer.{Answer}
 use Rattle.job_frames.specs.declared.field.Field.{Field}
@@ -64,7 +65,7 @@ judge_of Text v g n = allowed text_limit 0 text_limit n
 
 -- the token of a reply, by its first letter
 abbrev pub first_of : ℕ → ReplyToken
-first_of c = if c == 82 then Refusal else Version
+first_of c = if c == ascii.upper_r then Refusal else Version
 
 -- the field that is due
 abbrev pub field_of : ReplyDue → Field
