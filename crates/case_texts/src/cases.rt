@@ -7,42 +7,28 @@ use std::io::{Input, Read};
 use std::process::ExitCode;
 
 /// Who answers the lines of cases.
-pub trait Cases {
-    /// Begins a case. An empty line ends the one before it.
-    fn begin(&mut self, alloc: Global) -> Result<(), Wrong>;
+pub trait Lines {
+    /// Takes a line, and appends it with what it gives.
+    fn take(&mut self, alloc: Global, out: &mut String, line: &str) -> Result<(), Wrong>;
 
-    /// Takes a line, by its word and what stands behind it, and appends what it gives.
-    fn take(
-        &mut self,
-        alloc: Global,
-        out: &mut String,
-        word: &str,
-        rest: &str,
-    ) -> Result<(), Wrong>;
-}
-
-/// What a line of cases is.
-#[derive(Clone, Copy, Drop)]
-pub enum Line<'a> {
-    /// It is empty, and ends a case.
-    Ends,
-    Comment,
-    /// A word, and what stands behind it.
-    Says(&'a str, &'a str),
+    /// Whether the last line may be the last.
+    fn end(&self) -> Result<(), Wrong> {
+        Ok(())
+    }
 }
 
 /// Does the cases on standard input: prints each line, and what it gives. What stands before a line out of form is done. The
 /// status is 0, or 2 where the cases aren't UTF-8 or a line is out of form.
-pub fn answer_cases<R: Input + AllocGlobal + Print + Eprint, C: Cases>(
+pub fn answer_cases<R: Input + AllocGlobal + Print + Eprint, L: Lines>(
     rt: &R,
     program: &str,
-    cases: &mut C,
+    lines: &mut L,
 ) -> io::Result<ExitCode> {
-    let Some(lines) = read_cases(rt, program)? else {
+    let Some(cases) = read_cases(rt, program)? else {
         return Ok(ExitCode::from(2));
     };
     let mut out = String::new(rt.alloc());
-    let done = do_lines(rt.alloc(), &mut out, cases, &lines);
+    let done = do_lines(rt.alloc(), &mut out, lines, &cases);
     rt.print(out)?;
     end_cases(rt, program, done)
 }
@@ -55,7 +41,7 @@ pub fn read_cases<R: Input + AllocGlobal + Eprint>(
     let mut input = Vec::new(rt.alloc());
     rt.reader().read_to_end(&mut input)?;
     match String::from_utf8(input) {
-        Ok(lines) => Ok(Some(lines)),
+        Ok(cases) => Ok(Some(cases)),
         Err(_) => {
             tell(rt, program, "the cases aren't UTF-8");
             Ok(None)
@@ -79,46 +65,19 @@ pub fn end_cases<R: Eprint>(
     }
 }
 
-/// Reads a line, and repeats it in front of its answers.
-pub fn read_line<'a>(out: &mut String, line: &'a str) -> Result<Line<'a>, Wrong> {
-    out.push_str(line)?;
-    out.push('\n')?;
-    if line.is_empty() {
-        Ok(Line::Ends)
-    } else if line.starts_with('#') {
-        Ok(Line::Comment)
-    } else {
-        let (word, rest) = line.split_once(' ').unwrap_or((line, ""));
-        Ok(Line::Says(word, rest))
-    }
-}
-
 // An error has the number of its line.
-fn do_lines<C: Cases>(
+fn do_lines<L: Lines>(
     alloc: Global,
     out: &mut String,
-    cases: &mut C,
-    lines: &str,
+    lines: &mut L,
+    cases: &str,
 ) -> Result<(), (u32, Wrong)> {
     let mut number = 0u32;
-    for line in lines.lines() {
+    for line in cases.lines() {
         number = number.saturating_add(1);
-        if let Err(wrong) = do_line(alloc, out, cases, line) {
+        if let Err(wrong) = lines.take(alloc, out, line) {
             return Err((number, wrong));
         }
     }
-    Ok(())
-}
-
-fn do_line<C: Cases>(
-    alloc: Global,
-    out: &mut String,
-    cases: &mut C,
-    line: &str,
-) -> Result<(), Wrong> {
-    match read_line(out, line)? {
-        Line::Ends => cases.begin(alloc),
-        Line::Comment => Ok(()),
-        Line::Says(word, rest) => cases.take(alloc, out, word, rest),
-    }
+    lines.end().map_err(|wrong| (number, wrong))
 }

@@ -123,7 +123,7 @@ impl Nodes {
 
 // A text that a link may have.
 #[tactic(auto, using(std::proofs::lemmas::Bool::Decides::nat_tests))]
-fn is_link_text(text: &[u8]) -> bool
+pub(crate) fn is_link_text(text: &[u8]) -> bool
     ensures { result ≡ is_link_text text.now }
 {
     0 < text.len() && (text.len() < 4096 && !has_zero(text))

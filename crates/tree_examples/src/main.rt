@@ -7,10 +7,8 @@ mod frames;
 mod paths;
 
 use case::Case;
-use case_texts::answer_cases;
-use command_line::{ended, refuse, show, words_of};
+use case_texts::{WordLines, run_program};
 use std::process::ExitCode;
-use std::{env, io};
 
 const HELP: &str = "usage: tree_examples < CASES
 
@@ -57,17 +55,10 @@ status: 0, 2 wrong words or a line out of form, 4 a failed read or write, 5 out
 of memory";
 
 fn main(rt: HostRuntime) -> ExitCode {
-    let answer = answer(&rt);
-    ended(&rt, "tree_examples", answer)
-}
-
-fn answer(rt: &HostRuntime) -> io::Result<ExitCode> {
-    let arguments = env::args(rt)?.collect(rt.alloc())?;
-    let words = words_of(rt.alloc(), &arguments)?;
-    match words.as_slice() {
-        [] => answer_cases(rt, "tree_examples", &mut Case::new(rt.alloc())),
-        ["--help"] => show(rt, HELP),
-        ["--version"] => show(rt, "tree_examples 0.1.0"),
-        _ => refuse(rt, HELP),
-    }
+    run_program(
+        &rt,
+        "tree_examples",
+        HELP,
+        &mut WordLines(Case::new(rt.alloc())),
+    )
 }
