@@ -1,42 +1,30 @@
-// Cases as lines.
+// Expressions, one on a line.
 ghost use Rattle.std.specs.Prelude.{◌≤◌, length};
 
 use base_types::limits::BODY_LIMIT;
+use case_texts::{Lines, Wrong, is_heading};
 use cond_eval::{CondError, Num, value};
 use pp_tokens::{Token, lex};
 use std::alloc::{AllocError, Global};
-use std::io::{self, ErrorKind};
 
-/// The number of lines that were read.
+/// Lines of which each is an expression, unless it is empty or a heading.
 #[derive(Drop)]
-pub struct Cases {
-    pub line_number: u64,
-}
+pub struct Expressions;
 
-impl Cases {
-    /// Prints the lines of standard input, each expression with its value. The error is `InvalidData` at a line out of form, and
-    /// else the host's.
-    pub fn print<R: Input + AllocGlobal + Print>(&mut self, rt: &R) -> io::Result<()> {
-        for line in rt.lines(rt.alloc()) {
-            self.line_number = self.line_number.saturating_add(1);
-            print_line(rt, line?.as_str())?;
+impl Lines for Expressions {
+    fn take(&mut self, alloc: Global, out: &mut String, line: &str) -> Result<(), Wrong> {
+        if is_heading(line) {
+            return Ok(writeln!(out, "{line}")?);
         }
-        Ok(())
+        let result = result_of(alloc, line.as_bytes())?;
+        Ok(writeln!(out, "{line} => {result}")?)
     }
-}
-
-fn print_line<R: AllocGlobal + Print>(rt: &R, line: &str) -> io::Result<()> {
-    if line.is_empty() || line.starts_with("//") {
-        return println!(rt; "{line}");
-    }
-    let result = result_of(rt.alloc(), line.as_bytes())?;
-    println!(rt; "{line} => {result}")
 }
 
 // What is printed of an expression.
-fn result_of(alloc: Global, line: &[u8]) -> io::Result<String> {
+fn result_of(alloc: Global, line: &[u8]) -> Result<String, Wrong> {
     if line.len() > BODY_LIMIT {
-        return Err(io::Error::new(ErrorKind::InvalidData, "a text of more than 16 MiB"));
+        return Err(Wrong::Form("a text of more than 16 MiB"));
     }
     let tokens = tokens_of(alloc, line)?;
     Ok(shown(alloc, value(alloc, &tokens))?)
