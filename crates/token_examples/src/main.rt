@@ -4,16 +4,10 @@
 
 mod cases;
 mod results;
-mod table;
 
-use bstr::ByteSlice;
-use cases::do_line;
-use command_line::{ended, failure_status, refuse, show, words_of};
-use std::alloc::Global;
-use std::io::Read;
+use case_texts::{WordLines, run_program};
+use cases::Bodies;
 use std::process::ExitCode;
-use std::{env, io};
-use table::Table;
 
 const HELP: &str = "usage: token_examples < CASES
 
@@ -46,50 +40,5 @@ status: 0, 2 wrong words or a wrong line, 4 a failed read or write, 5 out of
 memory; what is wrong has a line on standard error";
 
 fn main(rt: HostRuntime) -> ExitCode {
-    let answer = answer(&rt);
-    ended(&rt, "token_examples", answer)
-}
-
-fn answer(rt: &HostRuntime) -> io::Result<ExitCode> {
-    let arguments = env::args(rt)?.collect(rt.alloc())?;
-    let words = words_of(rt.alloc(), &arguments)?;
-    obey(rt, words.as_slice())
-}
-
-// Does what the words ask for, and answers the status.
-fn obey(rt: &HostRuntime, words: &[&str]) -> io::Result<ExitCode> {
-    match words {
-        [] => do_cases(rt),
-        ["--help"] => show(rt, HELP),
-        ["--version"] => show(rt, "token_examples 0.1.0"),
-        _ => refuse(rt, HELP),
-    }
-}
-
-// Does the cases on standard input, and answers the status.
-fn do_cases(rt: &HostRuntime) -> io::Result<ExitCode> {
-    let mut cases = Vec::new(rt.alloc());
-    rt.reader().read_to_end(&mut cases)?;
-    let mut table = Table::new(rt.alloc());
-    let done = do_lines(rt.alloc(), &mut table, &cases);
-    print!(rt; "{}", table.text()?)?;
-    match done {
-        Ok(()) => Ok(ExitCode::SUCCESS),
-        Err((line, error)) => {
-            eprintln!(rt; "token_examples: line {line}: {error}")?;
-            Ok(ExitCode::from(failure_status(&error)))
-        }
-    }
-}
-
-// Does each line, up to the first that fails, which is answered by its number.
-fn do_lines(alloc: Global, table: &mut Table, cases: &[u8]) -> Result<(), (u64, io::Error)> {
-    let mut number = 0u64;
-    for line in cases.lines() {
-        number = number.saturating_add(1);
-        if let Err(error) = do_line(alloc, table, line) {
-            return Err((number, error));
-        }
-    }
-    Ok(())
+    run_program(&rt, "token_examples", HELP, &mut WordLines(Bodies))
 }
