@@ -2,6 +2,7 @@
 ghost use Rattle.std.specs.Prelude.{◌≤◌, length};
 
 use base_types::{Bytes, List};
+use case_texts::{Texts, Wrong, spelled};
 use directive_scan::{Directive, HeaderName, Piece, scan};
 use macro_defs::{DefineError, MacroTable, read_define};
 use pp_tokens::{Token, lex};
@@ -10,17 +11,30 @@ use symbolic_expand::{DefSets, Names, SymError, names};
 
 const FILE: &[u8] = b"/w/a.c";
 
-/// How many lists of choices a text may have, whether its file has a `#line`, and whether it begins with the macros that
-/// every translation begins with.
+/// What the runs of texts may name.
+#[derive(Drop)]
+pub struct Choices;
+
+impl Texts for Choices {
+    fn result_of(&self, alloc: Global, way: &str, text: &[u8]) -> Result<String, Wrong> {
+        match Way::named(way) {
+            Some(way) => Ok(choices_of(alloc, way, text)?),
+            None => Err(Wrong::Form("no way to read a text")),
+        }
+    }
+}
+
+// How many lists of choices a text may have, whether its file has a `#line`, and whether it begins with the macros that every
+// translation begins with.
 #[derive(Clone, Copy, Drop)]
-pub struct Way {
+struct Way {
     budget: u32,
     has_line: bool,
     is_initial: bool,
 }
 
 impl Way {
-    pub fn named(words: &str) -> Option<Way> {
+    fn named(words: &str) -> Option<Way> {
         match words.strip_prefix("initial ") {
             Some(words) => Way::in_file(words, true),
             None => Way::in_file(words, false),
@@ -54,8 +68,8 @@ impl Way {
     }
 }
 
-/// What the runs of a text may name, each under the definitions before it.
-pub fn choices_of(alloc: Global, way: Way, body: &[u8]) -> Result<String, AllocError>
+// What the runs of a text may name, each under the definitions before it.
+fn choices_of(alloc: Global, way: Way, body: &[u8]) -> Result<String, AllocError>
     requires { length body.now ≤ 16777216 }
 {
     let pieces = pieces_of(alloc, body)?;
@@ -160,9 +174,4 @@ impl Reading {
         }
         Ok(())
     }
-}
-
-// A spelling as text. Those of a text in UTF-8 are UTF-8 too.
-fn spelled(bytes: &Bytes) -> &str {
-    std::str::from_utf8(bytes.as_slice()).unwrap_or("?")
 }

@@ -3,15 +3,29 @@ ghost use Rattle.std.specs.Prelude.{◌≤◌, length};
 
 use crate::nowhere::Nowhere;
 use base_types::{Bytes, List};
+use case_texts::{Texts, Wrong, spelled};
 use directive_scan::{Directive, Piece, scan};
 use macro_defs::{DefineError, MacroTable, names_macro, read_define};
 use macro_expand::{ExpandError, Mode, Presumed, RunError, Work, expand, expand_for};
 use pp_tokens::{Token, lex};
 use std::alloc::{AllocError, Global};
 
-/// How a text is expanded, and what is shown of it.
+/// What texts become.
+#[derive(Drop)]
+pub struct Expansions;
+
+impl Texts for Expansions {
+    fn result_of(&self, alloc: Global, way: &str, text: &[u8]) -> Result<String, Wrong> {
+        match Way::named(way) {
+            Some(way) => Ok(expansion_of(alloc, way, text)?),
+            None => Err(Wrong::Form("no way to expand a text")),
+        }
+    }
+}
+
+// How a text is expanded, and what is shown of it.
 #[derive(Clone, Copy, Drop)]
-pub enum Way {
+enum Way {
     Text,
     Lines,
     Condition,
@@ -20,7 +34,7 @@ pub enum Way {
 }
 
 impl Way {
-    pub fn named(words: &str) -> Option<Way> {
+    fn named(words: &str) -> Option<Way> {
         match words {
             "text" => Some(Way::Text),
             "lines" => Some(Way::Lines),
@@ -31,9 +45,8 @@ impl Way {
     }
 }
 
-/// What a text becomes, whose `#define` and `#undef` lines are obeyed in order; those that define nothing are passed
-/// over.
-pub fn expansion_of(alloc: Global, way: Way, body: &[u8]) -> Result<String, AllocError>
+// What a text becomes, whose `#define` and `#undef` lines are obeyed in order; those that define nothing are passed over.
+fn expansion_of(alloc: Global, way: Way, body: &[u8]) -> Result<String, AllocError>
     requires { length body.now ≤ 16777216 }
 {
     let pieces = pieces_of(alloc, body)?;
@@ -186,11 +199,6 @@ fn add_named(
         write!(text, " {}", spelled(spelling))?;
     }
     write!(text, " {line}")
-}
-
-// A spelling as text. Those of a text in UTF-8 are UTF-8 too.
-fn spelled(bytes: &Bytes) -> &str {
-    std::str::from_utf8(bytes.as_slice()).unwrap_or("?")
 }
 
 fn run_error(error: ExpandError) -> RunError {

@@ -1,17 +1,12 @@
 //! The program: expands small C texts, and prints each with what it becomes.
 #![tactic(auto)]
 
-mod cases;
 mod expansion;
 mod nowhere;
 
-use cases::Cases;
-use command_line::{ended, refuse, show, tell, words_of};
-use std::io::ErrorKind;
+use case_texts::{TextLines, run_program};
+use expansion::Expansions;
 use std::process::ExitCode;
-use std::{env, io};
-
-const PROGRAM: &str = "expansion_examples";
 
 const HELP: &str = "usage: expansion_examples < CASES
 
@@ -34,34 +29,10 @@ status: 0, 2 wrong words or a line out of form, 4 a failed read or write, 5 out
 of memory";
 
 fn main(rt: HostRuntime) -> ExitCode {
-    let answer = answer(&rt);
-    ended(&rt, PROGRAM, answer)
-}
-
-fn answer(rt: &HostRuntime) -> io::Result<ExitCode> {
-    let arguments = env::args(rt)?.collect(rt.alloc())?;
-    let words = words_of(rt.alloc(), &arguments)?;
-    match words.as_slice() {
-        [] => print_cases(rt),
-        ["--help"] => show(rt, HELP),
-        ["--version"] => show(rt, "expansion_examples 0.1.0"),
-        _ => refuse(rt, HELP),
-    }
-}
-
-// Prints the cases of standard input up to the first line out of form, and answers the status.
-fn print_cases<R: Input + AllocGlobal + Print + Eprint>(rt: &R) -> io::Result<ExitCode> {
-    let mut cases = Cases {
-        line_number: 0,
-        text: String::new(rt.alloc()),
-    };
-    match cases.print(rt) {
-        Ok(()) => Ok(ExitCode::SUCCESS),
-        Err(e) if e.kind() == ErrorKind::InvalidData => {
-            let number = cases.line_number;
-            tell(rt, PROGRAM, format_args!("line {number}: {e}"));
-            Ok(ExitCode::from(2))
-        }
-        Err(e) => Err(e),
-    }
+    run_program(
+        &rt,
+        "expansion_examples",
+        HELP,
+        &mut TextLines::new(rt.alloc(), Expansions),
+    )
 }
