@@ -1,8 +1,9 @@
 // The lines of the input: what they say of a frame, and the cases that they make of it.
 use crate::feeding::{Frame, add_frame};
 use crate::images::{add_directories, add_image};
-use anyhow::{Result, bail, ensure};
+use base_types::Bytes;
 use bstr::ByteVec;
+use case_texts::{Cases, Wrong, number_of};
 use job_frames::{ReplyReader, RequestReader};
 use std::alloc::{AllocError, Global};
 use std::ops::Range;
@@ -17,19 +18,51 @@ enum Kind {
 
 /// What the lines so far say.
 #[derive(Drop)]
-pub struct Cases<'x> {
+pub struct Frames {
     alloc: Global,
     kind: Kind,
     frame: Vec<u8>,
     // Each part's name, and where its token begins in the frame.
-    parts: Vec<(&'x str, usize)>,
+    parts: Vec<(Bytes, usize)>,
     // What is fed behind each frame.
     behind: Vec<u8>,
 }
 
-impl<'x> Cases<'x> {
-    pub fn new(alloc: Global) -> Self {
-        Cases {
+impl Cases for Frames {
+    fn take(
+        &mut self,
+        alloc: Global,
+        out: &mut String,
+        word: &str,
+        rest: &str,
+    ) -> Result<(), Wrong> {
+        let (name, escaped) = rest.rsplit_once(' ').unwrap_or(("", rest));
+        if !is_due(word, !name.is_empty(), !escaped.is_empty()) {
+            return Err(Wrong::Form("too few words, or too many"));
+        }
+        let bytes = Vec::unescape_bytes(alloc, escaped)?;
+        let mut results = Vec::new(alloc);
+        self.obey(&mut results, word, name, &bytes)?;
+        Ok(add_results(out, results)?)
+    }
+}
+
+// Adds the results of a line's cases, equal ones behind one another once.
+fn add_results(out: &mut String, mut results: Vec<String>) -> Result<(), AllocError> {
+    let count = results.len();
+    if count > 1 {
+        writeln!(out, "    {count} times:")?;
+    }
+    results.dedup();
+    for result in &results {
+        out.push_str(result)?;
+    }
+    Ok(())
+}
+
+impl Frames {
+    pub fn new(alloc: Global) -> Frames {
+        Frames {
             alloc,
             kind: Kind::Request,
             frame: Vec::new(alloc),
@@ -38,29 +71,13 @@ impl<'x> Cases<'x> {
         }
     }
 
-    /// Takes a line, and adds the result of each case that it makes. An error says what is wrong with the line, or that
-    /// memory is wanting.
-    pub fn take(&mut self, results: &mut Vec<String>, line: &'x str) -> Result<()> {
-        if line.is_empty() || line.starts_with('#') {
-            return Ok(());
-        }
-        let (word, rest) = line.split_once(' ').unwrap_or((line, ""));
-        let (name, escaped) = rest.rsplit_once(' ').unwrap_or(("", rest));
-        ensure!(
-            is_due(word, !name.is_empty(), !escaped.is_empty()),
-            "too few words, or too many"
-        );
-        let bytes = Vec::unescape_bytes(self.alloc, escaped)?;
-        self.obey(results, word, name, &bytes)
-    }
-
     fn obey(
         &mut self,
         results: &mut Vec<String>,
         word: &str,
-        name: &'x str,
+        name: &str,
         bytes: &[u8],
-    ) -> Result<()> {
+    ) -> Result<(), Wrong> {
         match word {
             "request" => Ok(self.begin(Kind::Request)),
             "reply" => Ok(self.begin(Kind::Reply)),
@@ -78,7 +95,8 @@ impl<'x> Cases<'x> {
         self.parts.clear();
     }
 
-    fn add_part(&mut self, name: &'x str, bytes: &[u8]) -> Result<(), AllocError> {
+    fn add_part(&mut self, name: &str, bytes: &[u8]) -> Result<(), AllocError> {
+        let name = Bytes::copy_of(self.alloc, name.as_bytes())?;
         self.parts.push((name, self.frame.len()))?;
         self.frame.extend_from_slice(bytes)
     }
@@ -95,7 +113,7 @@ impl<'x> Cases<'x> {
         word: &str,
         name: &str,
         bytes: &[u8],
-    ) -> Result<()> {
+    ) -> Result<(), Wrong> {
         match word {
             "whole" | "then" => Ok(self.add(results, [b"", &self.frame, bytes])?),
             "before" => Ok(self.add(results, [b"", bytes, &self.frame])?),
@@ -104,19 +122,19 @@ impl<'x> Cases<'x> {
             "letters" => Ok(self.put_each(results, 0..4, bytes)?),
             "digits" => Ok(self.put_each(results, 4..12, bytes)?),
             "fronts" => Ok(self.fronts(results)?),
-            "times" => Ok(self.times(results, name.parse()?, bytes)?),
-            "directories" => Ok(self.directories(results, name.parse()?, bytes)?),
-            _ => bail!("no such word"),
+            "times" => Ok(self.times(results, number_of(name)? as usize, bytes)?),
+            "directories" => Ok(self.directories(results, number_of(name)? as usize, bytes)?),
+            _ => Err(Wrong::Form("no such word")),
         }
     }
 
-    fn place_of(&self, name: &str) -> Result<usize> {
+    fn place_of(&self, name: &str) -> Result<usize, Wrong> {
         for (other, place) in &self.parts {
-            if *other == name {
+            if other.as_slice() == name.as_bytes() {
                 return Ok(*place);
             }
         }
-        bail!("no such part")
+        Err(Wrong::Form("no such part"))
     }
 
     // The frame up to a place, the bytes, and behind them what stands behind as many of the frame's own, or nothing.

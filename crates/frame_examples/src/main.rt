@@ -7,13 +7,9 @@ mod feeding;
 mod images;
 mod shown;
 
-use bstr::ByteSlice;
-use cases::Cases;
-use command_line::{ended, refuse, show, tell, words_of};
-use std::fmt::Display;
-use std::io::Read;
+use case_texts::{WordLines, run_program};
+use cases::Frames;
 use std::process::ExitCode;
-use std::{env, io, str};
 
 const HELP: &str = "usage: frame_examples < CASES
 
@@ -50,71 +46,10 @@ status: 0, 2 wrong words or a line that can't be done, 4 a failed read or write,
 out of memory";
 
 fn main(rt: HostRuntime) -> ExitCode {
-    let answer = answer(&rt);
-    ended(&rt, "frame_examples", answer)
-}
-
-fn answer(rt: &HostRuntime) -> io::Result<ExitCode> {
-    let arguments = env::args(rt)?.collect(rt.alloc())?;
-    let words = words_of(rt.alloc(), &arguments)?;
-    match words.as_slice() {
-        [] => do_input(rt),
-        ["--help"] => show(rt, HELP),
-        ["--version"] => show(rt, "frame_examples 0.1.0"),
-        _ => refuse(rt, HELP),
-    }
-}
-
-fn do_input(rt: &HostRuntime) -> io::Result<ExitCode> {
-    let mut input = Vec::new(rt.alloc());
-    rt.reader().read_to_end(&mut input)?;
-    do_lines(rt, input.as_slice())
-}
-
-// Does each line, up to the first that can't be done.
-fn do_lines(rt: &HostRuntime, input: &[u8]) -> io::Result<ExitCode> {
-    let mut cases = Cases::new(rt.alloc());
-    for (n, line) in input.lines().enumerate() {
-        if !do_line(rt, &mut cases, n.saturating_add(1), line)? {
-            return Ok(ExitCode::from(2));
-        }
-    }
-    Ok(ExitCode::SUCCESS)
-}
-
-// Whether a line can be done. One that can't has a line on standard error.
-fn do_line<'x>(
-    rt: &HostRuntime,
-    cases: &mut Cases<'x>,
-    number: usize,
-    line: &'x [u8],
-) -> io::Result<bool> {
-    let Ok(line) = str::from_utf8(line) else {
-        return Ok(not_done(rt, number, "not UTF-8"));
-    };
-    let mut results = Vec::new(rt.alloc());
-    if let Err(error) = cases.take(&mut results, line) {
-        return Ok(not_done(rt, number, error));
-    }
-    print_results(rt, line, results)?;
-    Ok(true)
-}
-
-fn not_done<D: Display + Drop>(rt: &HostRuntime, number: usize, why: D) -> bool {
-    tell(rt, "frame_examples", format_args!("line {number}: {why}"));
-    false
-}
-
-// Prints a line and the results of its cases, equal ones behind one another once.
-fn print_results(rt: &HostRuntime, line: &str, mut results: Vec<String>) -> io::Result<()> {
-    println!(rt; "{line}")?;
-    let count = results.len();
-    if count > 1 {
-        println!(rt; "    {count} times:")?;
-    }
-    results.dedup();
-    for result in &results {
-        print!(rt; "{result}")?;
-    }
-    Ok(())
+    run_program(
+        &rt,
+        "frame_examples",
+        HELP,
+        &mut WordLines(Frames::new(rt.alloc())),
+    )
 }
