@@ -1,25 +1,17 @@
 // The lines that describe a tree, and the questions about it.
-ghost use Rattle.std.specs.Prelude.{◌≡◌, ◌==◌, IfOk, IsTrue};
-ghost use Rattle.std.specs.List.{list_any};
-ghost use Rattle.tree_model.specs.Entries.{entry_fits, is_link_text, links_fit};
+ghost use Rattle.std.specs.Prelude.{IfOk, IsTrue};
+ghost use Rattle.tree_model.specs.Entries.{links_fit};
 
 use anyhow::{Result, bail};
 use base_types::Bytes;
+use case_texts::{Stands, add_node};
 use std::alloc::{AllocError, Global};
 use tree_model::{CanonPath, Entry, Located, MemTree, Tree, TreeError, Unnamed, locate};
 
-/// What stands at a path.
-#[derive(Clone, Copy, Drop)]
-pub enum Node<'a> {
-    Dir,
-    File,
-    Link(&'a [u8]),
-}
-
-// A line: a node by its path, or the question what a text locates from a directory.
+// A line: a path, what stands there, and a link's text; or the question what a text locates from a directory.
 #[derive(Clone, Copy, Drop)]
 enum Line<'a> {
-    Node(&'a [u8], Node<'a>),
+    Node(&'a [u8], Stands, &'a [u8]),
     Question(&'a [u8], &'a [u8]),
 }
 
@@ -27,11 +19,11 @@ enum Line<'a> {
 fn line_of(line: &[u8]) -> Option<Line<'_>> {
     let (letter, rest) = cut(line)?;
     match letter {
-        b"d" => Some(Line::Node(rest, Node::Dir)),
-        b"f" => Some(Line::Node(rest, Node::File)),
+        b"d" => Some(Line::Node(rest, Stands::Dir, b"")),
+        b"f" => Some(Line::Node(rest, Stands::File, b"")),
         b"l" => {
             let (path, text) = cut(rest)?;
-            Some(Line::Node(path, Node::Link(text)))
+            Some(Line::Node(path, Stands::Link, text))
         }
         b"?" => {
             let (path, text) = cut(rest)?;
@@ -51,66 +43,14 @@ fn cut(text: &[u8]) -> Option<(&[u8], &[u8])> {
     None
 }
 
-// A text that a link may have.
-#[tactic(auto, using(std::proofs::lemmas::Bool::Decides::nat_tests))]
-fn is_link_text(text: &[u8]) -> bool
-    ensures { result ≡ is_link_text text.now }
-{
-    0 < text.len() && (text.len() < 4096 && !has_zero(text))
-}
-
-fn has_zero(text: &[u8]) -> bool
-    ensures { result ≡ list_any (λ byte. byte == 0) text.now }
-{
-    text.iter().any(|byte| *byte == 0)
-}
-
-// An entry; a link of a text that no link may have is a directory.
-fn entry(alloc: Global, node: Node<'_>) -> Result<Entry, AllocError>
-    ensures { IfOk result (λ entry. IsTrue (entry_fits entry)) }
-{
-    match node {
-        Node::Dir => Ok(Entry::Dir),
-        Node::File => Ok(Entry::File(Bytes::new(alloc))),
-        Node::Link(text) => link(alloc, text),
-    }
-}
-
-fn link(alloc: Global, text: &[u8]) -> Result<Entry, AllocError>
-    ensures { IfOk result (λ entry. IsTrue (entry_fits entry)) }
-{
-    if !is_link_text(text) {
-        return Ok(Entry::Dir);
-    }
-    Ok(Entry::Link(Bytes::copy_of(alloc, text)?))
-}
-
-/// Adds a node, where its path is canonical.
-pub fn add(
-    alloc: Global,
-    entries: &mut Vec<(CanonPath, Entry)>,
-    path: &[u8],
-    node: Node<'_>,
-) -> Result<(), AllocError>
-    requires { IsTrue (links_fit entries.old.items) }
-    ensures { IsTrue (links_fit entries.new.items) }
-{
-    let Some(path) = CanonPath::read(alloc, path)? else {
-        return Ok(());
-    };
-    let entry = entry(alloc, node)?;
-    entries.push((path, entry))?;
-    Ok(())
-}
-
 // The entries of all lines that describe nodes.
 fn entries_of(alloc: Global, text: &[u8]) -> Result<Vec<(CanonPath, Entry)>, AllocError>
     ensures { IfOk result (λ entries. IsTrue (links_fit entries.items)) }
 {
     let mut entries = Vec::new(alloc);
     for line in text.split(|b| *b == b'\n') {
-        if let Some(Line::Node(path, node)) = line_of(line) {
-            add(alloc, &mut entries, path, node)?;
+        if let Some(Line::Node(path, stands, text)) = line_of(line) {
+            add_node(alloc, &mut entries, path, stands, text)?;
         }
     }
     Ok(entries)

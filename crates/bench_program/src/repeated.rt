@@ -3,9 +3,9 @@ ghost use Rattle.std.specs.Prelude.{IfOk, IsTrue};
 ghost use Rattle.search_path.specs.Search.{NeedsFrom};
 ghost use Rattle.tree_model.specs.Entries.{links_fit};
 
-use crate::described::{Node, add};
 use anyhow::{Context, Result, bail};
 use base_types::{Bytes, List};
+use case_texts::{Stands, add_node};
 use job_words::{Job, read_words};
 use search_path::{Ask, Form, Found, Visit, search};
 use std::alloc::{AllocError, Global};
@@ -50,8 +50,8 @@ fn entries_with(alloc: Global, directories: u32) -> Result<Vec<(CanonPath, Entry
     ensures { IfOk result (λ entries. IsTrue (links_fit entries.items)) }
 {
     let mut entries = Vec::new(alloc);
-    add(alloc, &mut entries, b"/w", Node::Dir)?;
-    add(alloc, &mut entries, b"/w/a.c", Node::File)?;
+    add_node(alloc, &mut entries, b"/w", Stands::Dir, b"")?;
+    add_node(alloc, &mut entries, b"/w/a.c", Stands::File, b"")?;
     for number in 0..directories {
         add_directory(alloc, &mut entries, number)?;
     }
@@ -71,7 +71,7 @@ fn add_directory(
 {
     let name = directory(alloc, number)?;
     let place = format!(in alloc; "/w/{name}")?;
-    add(alloc, entries, place.as_bytes(), Node::Dir)
+    add_node(alloc, entries, place.as_bytes(), Stands::Dir, b"")
 }
 
 // Adds the header in a directory.
@@ -85,7 +85,7 @@ fn add_header(
 {
     let name = directory(alloc, number)?;
     let header = format!(in alloc; "/w/{name}/x.h")?;
-    add(alloc, entries, header.as_bytes(), Node::File)
+    add_node(alloc, entries, header.as_bytes(), Stands::File, b"")
 }
 
 /// Searches `<x.h>` so often in so many directories, over a tree that remembers; how often it was found.

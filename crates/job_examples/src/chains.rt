@@ -1,6 +1,6 @@
 // Includes of all forms, by the directories of the words (ISO C 6.10.2; `#include_next` as in GCC's documentation).
-use crate::checked::Stands::{Dir, File};
 use crate::checked::{Case, Node};
+use case_texts::Stands::{Dir, File};
 
 // Sources that include names in quotes and in angles, and directories that hold the files of these names.
 const QUOTES: [Node<'static>; 11] = [

@@ -1,23 +1,15 @@
 // A tree and a job by rows, and what preprocessing the job gives.
-ghost use Rattle.std.specs.Prelude.{◌≡◌, ◌==◌, IfOk, IsTrue};
-ghost use Rattle.std.specs.List.{list_any};
-ghost use Rattle.tree_model.specs.Entries.{entry_fits, is_link_text, links_fit};
+ghost use Rattle.std.specs.Prelude.{IfOk, IsTrue};
+ghost use Rattle.tree_model.specs.Entries.{links_fit};
 
 use base_types::{Bytes, List};
+use case_texts::{Stands, add_node};
 use daemon_cpp::{CppError, Outcome, preprocess};
 use job_words::read_words;
 use std::alloc::{AllocError, Global};
 use std::process::Abort;
 use std::test::Fail;
 use tree_model::{CanonPath, Entry, MemTree, Tree, Unnamed};
-
-/// What stands at a path.
-#[derive(Clone, Copy, Drop)]
-pub enum Stands {
-    Dir,
-    File,
-    Link,
-}
 
 /// A path, what stands at it, and a file's bytes or a link's text.
 pub type Node<'x> = (&'x str, Stands, &'x str);
@@ -30,64 +22,19 @@ pub struct Case<'x> {
     pub rows: &'x [(&'x str, &'x str)],
 }
 
-// A text that a link may have.
-#[tactic(auto, using(std::proofs::lemmas::Bool::Decides::nat_tests))]
-fn is_link_text(text: &[u8]) -> bool
-    ensures { result ≡ is_link_text text.now }
-{
-    0 < text.len() && (text.len() < 4096 && !has_zero(text))
-}
-
-fn has_zero(text: &[u8]) -> bool
-    ensures { result ≡ list_any (λ byte. byte == 0) text.now }
-{
-    text.iter().any(|byte| *byte == 0)
-}
-
-// A link of this text; a text that no link may have gives a directory.
-fn link(alloc: Global, text: &[u8]) -> Result<Entry, AllocError>
-    ensures { IfOk result (λ entry. IsTrue (entry_fits entry)) }
-{
-    if !is_link_text(text) {
-        return Ok(Entry::Dir);
-    }
-    Ok(Entry::Link(Bytes::copy_of(alloc, text)?))
-}
-
-fn entry(alloc: Global, stands: Stands, text: &[u8]) -> Result<Entry, AllocError>
-    ensures { IfOk result (λ entry. IsTrue (entry_fits entry)) }
-{
-    match stands {
-        Stands::Dir => Ok(Entry::Dir),
-        Stands::File => Ok(Entry::File(Bytes::copy_of(alloc, text)?)),
-        Stands::Link => link(alloc, text),
-    }
-}
-
-// Adds an entry, where its path is canonical.
-fn add(
-    alloc: Global,
-    entries: &mut Vec<(CanonPath, Entry)>,
-    node: Node<'_>,
-) -> Result<(), AllocError>
-    requires { IsTrue (links_fit entries.old.items) }
-    ensures { IsTrue (links_fit entries.new.items) }
-{
-    let (path, stands, text) = node;
-    let Some(path) = CanonPath::read(alloc, path.as_bytes())? else {
-        return Ok(());
-    };
-    let entry = entry(alloc, stands, text.as_bytes())?;
-    entries.push((path, entry))?;
-    Ok(())
-}
-
 fn entries_of(alloc: Global, nodes: &[Node<'_>]) -> Result<Vec<(CanonPath, Entry)>, AllocError>
     ensures { IfOk result (λ entries. IsTrue (links_fit entries.items)) }
 {
     let mut entries = Vec::new(alloc);
     for node in nodes {
-        add(alloc, &mut entries, *node)?;
+        let (path, stands, text) = *node;
+        add_node(
+            alloc,
+            &mut entries,
+            path.as_bytes(),
+            stands,
+            text.as_bytes(),
+        )?;
     }
     Ok(entries)
 }

@@ -1,6 +1,6 @@
 // Files that the words include in front of the source.
 use crate::checked::Case;
-use crate::checked::Stands::{Dir, File};
+use case_texts::Stands::{Dir, File};
 
 pub const CASES: [Case<'static>; 2] = [
     Case {

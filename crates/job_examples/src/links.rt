@@ -1,6 +1,6 @@
 // Includes through links: the directory behind a link is where `..` goes up from, and the 41st link ends a search.
-use crate::checked::Stands::{Dir, File, Link};
 use crate::checked::{Case, Node, check_rows};
+use case_texts::Stands::{Dir, File, Link};
 use std::alloc::{AllocError, Global};
 use std::process::Abort;
 use std::test::Fail;
