@@ -6,6 +6,7 @@ ghost use Rattle.tree_model.specs.Entries.{entry_fits, is_link_text, links_fit};
 use crate::Wrong;
 use crate::spelling::{bytes_of, number_of};
 use base_types::Bytes;
+use base_types::limits::PATH_LIMIT;
 use std::alloc::{AllocError, Global};
 use tree_model::{CanonPath, Entry};
 
@@ -126,7 +127,7 @@ impl Nodes {
 pub(crate) fn is_link_text(text: &[u8]) -> bool
     ensures { result ≡ is_link_text text.now }
 {
-    0 < text.len() && (text.len() < 4096 && !has_zero(text))
+    0 < text.len() && (text.len() < PATH_LIMIT && !has_zero(text))
 }
 
 fn has_zero(text: &[u8]) -> bool

@@ -3,7 +3,7 @@ ghost use Rattle.std.specs.Prelude.{◌≤◌, length};
 
 use crate::{Lines, Wrong};
 use base_types::Bytes;
-use command_line::BODY_LIMIT;
+use base_types::limits::BODY_LIMIT;
 use std::alloc::{AllocError, Global};
 
 /// Who says what texts of C give.

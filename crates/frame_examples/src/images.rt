@@ -3,6 +3,7 @@ ghost use Rattle.std.specs.Prelude.{All, IsTrue};
 ghost use Rattle.job_frames.specs.Request.{HasSpelling, IsSpellable};
 
 use crate::shown::{add_bytes, add_entries};
+use base_types::limits::PATH_LIMIT;
 use base_types::{Bytes, List};
 use job_frames::{read_entries, write_entries};
 use std::alloc::{AllocError, Global};
@@ -38,7 +39,7 @@ fn fits(entry: &(CanonPath, Entry)) -> bool
     ensures { IsTrue result → HasSpelling entry.now }
 {
     let path = entry.0.bytes();
-    path.len() <= 4096 && node_fits(&entry.1)
+    path.len() <= PATH_LIMIT && node_fits(&entry.1)
 }
 
 fn node_fits(entry: &Entry) -> bool

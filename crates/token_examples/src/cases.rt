@@ -1,6 +1,6 @@
 // Cases: the body of each, and what it asks for.
-use base_types::limits::BODY_LIMIT;
 use crate::results::{add_counts, add_header, add_nesting, add_pieces, add_result, add_tokens};
+use base_types::limits::BODY_LIMIT;
 use bstr::ByteVec;
 use case_texts::{Cases, Wrong, cut, number_of};
 use pp_tokens::{Lexed, is_plain, is_simple_name, lex, lex_directives, single_token};

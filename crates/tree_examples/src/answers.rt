@@ -1,15 +1,13 @@
 // The answers to questions about a tree.
 use crate::frames::{answer_reply, answer_request};
 use crate::paths::{answer_child, answer_first, answer_path};
+use base_types::limits::DEFAULT_BUDGET;
 use base_types::{Bytes, List};
 use case_texts::{Wrong, path_of, push_bytes, say, say_lines, say_value, say_word};
 use closure_fixpoint::{Analysed, analyse};
 use job_words::{Job, read_words};
 use std::alloc::{AllocError, Global};
 use tree_model::{CanonPath, Located, Node, Tree, TreeError, locate, read_body};
-
-// The budget of each analysis.
-const BUDGET: u32 = 4096;
 
 /// Answers a question by its word and what stands behind that.
 pub fn answer<T: Tree>(
@@ -62,7 +60,7 @@ fn answer_analysis<T: Tree>(
     tree: &mut T,
     job: &Job,
 ) -> Result<(), Wrong> {
-    match analyse(alloc, tree, job, BUDGET) {
+    match analyse(alloc, tree, job, DEFAULT_BUDGET) {
         Ok(Analysed::Request(request)) => say(out, "request", request.as_slice()),
         Ok(Analysed::Refused(refusal)) => say_value(out, "refused", &refusal),
         Err(error) => say_value(out, "error", &error),
@@ -75,7 +73,7 @@ fn answer_length<T: Tree>(
     tree: &mut T,
     job: &Job,
 ) -> Result<(), Wrong> {
-    match analyse(alloc, tree, job, BUDGET) {
+    match analyse(alloc, tree, job, DEFAULT_BUDGET) {
         Ok(Analysed::Request(request)) => say_value(out, "length", &request.len()),
         Ok(Analysed::Refused(refusal)) => say_value(out, "refused", &refusal),
         Err(error) => say_value(out, "error", &error),
