@@ -19,7 +19,7 @@ use Rattle.search_path.specs.Laws.{SearchesLocate}
 use Rattle.search_path.specs.declared.asking.Visit.{Visit}
 use Rattle.job_words.specs.declared.job.Job.{Job}
 use Rattle.job_words.specs.JobOf.{JobData}
-use Rattle.job_frames.specs.Request.{request_bytes}
+use Rattle.job_frames.specs.Spelling.{request_bytes}
 use Rattle.sheet_build.specs.Laws.{PlacesLocate}
 use Rattle.closure_fixpoint.specs.declared.job_analysis.Refusal.{Refusal}
 use Rattle.closure_fixpoint.specs.declared.job_analysis.Refusal.TheVariants as refusal

@@ -20,7 +20,7 @@ use Rattle.tree_model.specs.declared.entry.Entry.{Entry}
 use Rattle.tree_model.specs.declared.entry.Entry.TheVariants.{Dir, File, Link}
 use Rattle.tree_model.proofs.MemberLemmas.{Member-append, Member-append_left, Member-append_right, list_any-true}
 use Rattle.tree_model.proofs.PathLemmas.{text_same, text_itself}
-use Rattle.job_frames.specs.Request.{HasSpelling}
+use Rattle.job_frames.specs.Spelling.{HasSpelling}
 use Rattle.job_frames.proofs.TreeLemmas.{fits_entry}
 use Rattle.macro_defs.proofs.Fronts.{front_at}
 use Rattle.closure_fixpoint.specs.Gathering.{comes_before, are_rising, AreGathered, HasLarge, with_path, kept_at, gathered_from, AreKept, AddsAt, files_there, files_among}

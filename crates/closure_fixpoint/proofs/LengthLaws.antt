@@ -8,8 +8,7 @@ use Rattle.tree_model.specs.Entries.{Entries}
 use Rattle.tree_model.specs.declared.entry.Entry.{Entry}
 use Rattle.tree_model.specs.declared.entry.Entry.TheVariants.{Dir, File, Link}
 use Rattle.job_words.specs.declared.job.Job.{Job}
-use Rattle.job_frames.specs.Fields.{token, field}
-use Rattle.job_frames.specs.Request.{node_bytes, entry_bytes, image_bytes, words_bytes, request_bytes}
+use Rattle.job_frames.specs.Spelling.{token, field, node_bytes, entry_bytes, image_bytes, words_bytes, request_bytes}
 use Rattle.job_frames.proofs.SpellingLemmas.{token_length, field_length}
 
 pub dir-length : 12 ≡ length (node_bytes Dir)

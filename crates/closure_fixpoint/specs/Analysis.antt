@@ -11,7 +11,7 @@ use Rattle.search_path.specs.Asks.{source_ask}
 use Rattle.search_path.specs.Search.{search}
 use Rattle.search_path.specs.declared.asking.Visit.{Visit}
 use Rattle.job_words.specs.declared.job.Job.{Job}
-use Rattle.job_frames.specs.Request.{request_bytes}
+use Rattle.job_frames.specs.Spelling.{request_bytes}
 use Rattle.closure_fixpoint.specs.Closure.{IsClosureOf, IsKnownSearch, answers_of, IsMetAtClosure}
 use Rattle.closure_fixpoint.specs.declared.job_analysis.Refusal.{Refusal}
 use Rattle.closure_fixpoint.specs.declared.job_analysis.Refusal.TheVariants as refusal

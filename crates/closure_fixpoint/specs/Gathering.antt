@@ -14,7 +14,7 @@ use Rattle.search_path.specs.declared.asking.Visit.{Visit}
 use Rattle.search_path.specs.declared.asking.Ask.{Ask}
 use Rattle.sheet_build.specs.Sheet.{SheetData}
 use Rattle.job_words.specs.JobOf.{JobData}
-use Rattle.job_frames.specs.Request.{HasSpelling, request_bytes}
+use Rattle.job_frames.specs.Spelling.{HasSpelling, request_bytes}
 use Rattle.closure_fixpoint.specs.declared.job_analysis.Refusal.TheVariants as refusal
 use Rattle.closure_fixpoint.specs.declared.entries.Gathered.{Gathered}
 use Rattle.closure_fixpoint.specs.declared.entries.Gathered.TheVariants as gathered

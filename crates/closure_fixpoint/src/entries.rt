@@ -8,7 +8,7 @@ ghost use Rattle.tree_model.specs.Entries as lists;
 ghost use Rattle.tree_model.specs.Entries.{Increasing, is_dir_at};
 ghost use Rattle.tree_model.specs.Trees as trees;
 ghost use Rattle.tree_model.specs.Trees.{IsTooLarge, node_at};
-ghost use Rattle.job_frames.specs.Request.{HasSpelling};
+ghost use Rattle.job_frames.specs.Spelling.{HasSpelling};
 ghost use Rattle.closure_fixpoint.specs.Gathering.{IsSendable, are_rising, kept_at, gathered_from, files_there, files_among, GathersNodes, GatheredFits, ReadsFiles, AreKept, AddsAt, HasLarge};
 
 use crate::lengths::is_too_long;

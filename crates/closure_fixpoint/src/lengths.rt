@@ -1,7 +1,7 @@
 // How many bytes a request has.
 ghost use Rattle.std.specs.Prelude.{◌≡◌, ◌≤◌, length, All};
 ghost use Rattle.base_types.specs.Limits.{entry_limit, job_words_limit, word_limit};
-ghost use Rattle.job_frames.specs.Request.{entry_bytes, node_bytes, image_bytes, words_bytes, request_bytes, IsSpellable, HasSpelling};
+ghost use Rattle.job_frames.specs.Spelling.{entry_bytes, node_bytes, image_bytes, words_bytes, request_bytes, IsSpellable, HasSpelling};
 ghost use Rattle.closure_fixpoint.specs.Gathering.{is_over};
 
 use base_types::Bytes;

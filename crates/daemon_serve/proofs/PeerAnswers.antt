@@ -6,7 +6,7 @@ use Rattle.base_types.specs.Told.{added}
 use Rattle.job_frames.specs.declared.answer.Answer.TheVariants as answer
 use Rattle.job_frames.specs.Outcomes.{Verdict, going, done, reason}
 use Rattle.job_frames.specs.Request.{Got}
-use Rattle.job_frames.specs.Reply.{reply_bytes}
+use Rattle.job_frames.specs.Spelling.{reply_bytes}
 use Rattle.job_frames.specs.Daemon.{IsReply, Daemon}
 use Rattle.daemon_serve.specs.declared.serving.Served.{Served}
 use Rattle.daemon_serve.specs.declared.serving.Served.TheVariants.{Replied, Refused}

@@ -9,9 +9,8 @@ use Rattle.job_frames.specs.declared.FrameError.{FrameError}
 use Rattle.job_frames.specs.declared.FrameError.TheVariants as why
 use Rattle.job_frames.specs.declared.answer.Answer.{Answer}
 use Rattle.job_frames.specs.declared.answer.Answer.TheVariants as answer
-use Rattle.job_frames.specs.Fields.{digits}
+use Rattle.job_frames.specs.Spelling.{digits, reply_bytes}
 use Rattle.job_frames.specs.Outcomes.{number_of}
-use Rattle.job_frames.specs.Reply.{reply_bytes}
 use Rattle.job_frames.specs.Daemon.{IsAnswerTo}
 use Rattle.daemon_serve.specs.declared.serving.Served.{Served}
 use Rattle.daemon_serve.specs.declared.serving.Served.TheVariants.{Replied, Memory}

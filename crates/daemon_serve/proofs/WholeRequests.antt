@@ -6,7 +6,8 @@ use Rattle.job_words.specs.declared.job.Job.{Job}
 use Rattle.job_frames.specs.Fields.{Step, short, refused, taken}
 use Rattle.job_frames.specs.Outcomes.{Verdict, going, done, reason, whatever_follows}
 use Rattle.job_frames.specs.parts.Readers.{request_of}
-use Rattle.job_frames.specs.Request.{Got, IsRequest, request_at}
+use Rattle.job_frames.specs.Spelling.{IsRequest}
+use Rattle.job_frames.specs.Request.{Got, request_at}
 use Rattle.job_frames.specs.Laws.{RequestsAreSpelled}
 
 -- a verdict that gives a request is that of its job and entries

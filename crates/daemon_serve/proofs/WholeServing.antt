@@ -12,7 +12,7 @@ use Rattle.job_frames.specs.declared.answer.Answer.{Answer}
 use Rattle.job_frames.specs.declared.answer.Answer.TheVariants as answer
 use Rattle.job_frames.specs.Outcomes.{Verdict, going, done, reason, number_of}
 use Rattle.job_frames.specs.Request.{Got}
-use Rattle.job_frames.specs.Reply.{reply_bytes}
+use Rattle.job_frames.specs.Spelling.{reply_bytes}
 use Rattle.job_frames.specs.Daemon.{IsReply}
 use Rattle.job_frames.specs.Laws.{RequestsAreFirm}
 use Rattle.daemon_serve.specs.declared.reading.NoRequest.{NoRequest}

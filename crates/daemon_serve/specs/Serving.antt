@@ -11,7 +11,7 @@ use Rattle.job_frames.specs.declared.answer.Answer.{Answer}
 use Rattle.job_frames.specs.declared.answer.Answer.TheVariants as answer
 use Rattle.job_frames.specs.Outcomes.{Verdict, going, done, reason, whatever_follows}
 use Rattle.job_frames.specs.Request.{Got, request_at}
-use Rattle.job_frames.specs.Reply.{reply_bytes}
+use Rattle.job_frames.specs.Spelling.{reply_bytes}
 use Rattle.job_frames.specs.Daemon.{IsAnswerTo, IsReply}
 use Rattle.daemon_serve.specs.declared.serving.Served.{Served}
 use Rattle.daemon_serve.specs.declared.serving.Served.TheVariants.{Replied, Refused, ReadFault, WriteFault, Memory}

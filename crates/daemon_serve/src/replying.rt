@@ -4,7 +4,7 @@ ghost use Rattle.tree_model.specs.Entries.{bodies_fit, makes_tree};
 ghost use Rattle.job_frames.specs.declared.answer.Answer.TheVariants.{Refused};
 ghost use Rattle.job_frames.specs.Daemon.{IsAnswerTo};
 ghost use Rattle.job_frames.specs.Outcomes.{number_of};
-ghost use Rattle.job_frames.specs.Reply.{reply_bytes};
+ghost use Rattle.job_frames.specs.Spelling.{reply_bytes};
 ghost use Rattle.daemon_answers.specs.Answers.{Answers};
 ghost use Rattle.daemon_serve.specs.parts.Parts.{refusal_served, AnswersBy, OnlyReply, IsReplyPut};
 

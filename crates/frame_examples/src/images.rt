@@ -1,6 +1,6 @@
 // Images: the entries of a request alone.
 ghost use Rattle.std.specs.Prelude.{All, IsTrue};
-ghost use Rattle.job_frames.specs.Request.{HasSpelling, IsSpellable};
+ghost use Rattle.job_frames.specs.Spelling.{HasSpelling, IsSpellable};
 
 use crate::shown::{add_bytes, add_entries};
 use base_types::limits::PATH_LIMIT;

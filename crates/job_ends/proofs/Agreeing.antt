@@ -17,8 +17,8 @@ use Rattle.job_frames.specs.declared.answer.Answer.{Answer}
 use Rattle.job_frames.specs.declared.answer.Answer.TheVariants as answer
 use Rattle.job_frames.specs.Daemon.{Daemon, IsReply}
 use Rattle.job_frames.specs.Outcomes.{Verdict, done, whatever_follows}
-use Rattle.job_frames.specs.Request.{Got, FitsRequest, IsSmall, request_at, request_bytes}
-use Rattle.job_frames.specs.Reply.{IsAnswer, reply_bytes}
+use Rattle.job_frames.specs.Spelling.{FitsRequest, IsSmall, request_bytes, IsAnswer, reply_bytes}
+use Rattle.job_frames.specs.Request.{Got, request_at}
 use Rattle.job_frames.specs.Laws.{RequestsAreWhole, TreesMakeRequests, RepliesAreApart}
 use Rattle.daemon_cpp.specs.declared.outcome.Outcome.{Outcome}
 use Rattle.daemon_cpp.specs.declared.outcome.Outcome.TheVariants as outcome

@@ -9,7 +9,8 @@ use Rattle.job_frames.specs.declared.answer.Answer.{Answer}
 use Rattle.job_frames.specs.declared.answer.Answer.TheVariants as answer
 use Rattle.job_frames.specs.Fields.{Step, short, refused, taken}
 use Rattle.job_frames.specs.Outcomes.{value_of, nothing_follows}
-use Rattle.job_frames.specs.Reply.{IsAnswer, reply_at, reply_bytes, longest_reply}
+use Rattle.job_frames.specs.Spelling.{IsAnswer, reply_bytes, longest_reply}
+use Rattle.job_frames.specs.Reply.{reply_at}
 use Rattle.job_frames.specs.Laws.{RepliesAreSpelled, OthersAreNoReplies, RepliesHaveEnds}
 use Rattle.daemon_cpp.specs.declared.outcome.Outcome.TheVariants as outcome
 use Rattle.closure_fixpoint.specs.Analysis.{IsRequestOf}

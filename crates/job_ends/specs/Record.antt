@@ -6,7 +6,7 @@ use Rattle.job_words.specs.declared.job.Job.{Job}
 use Rattle.io_edges.specs.declared.wire.Exchange.{Exchange}
 use Rattle.job_frames.specs.declared.answer.Answer.{Answer}
 use Rattle.job_frames.specs.declared.answer.Answer.TheVariants as answer
-use Rattle.job_frames.specs.Reply.{reply_bytes, IsAnswer}
+use Rattle.job_frames.specs.Spelling.{reply_bytes, IsAnswer}
 use Rattle.base_types.specs.Causes.{Rose}
 use Rattle.base_types.specs.Told.{added}
 use Rattle.std.specs.List.{AllByRecursion}

@@ -9,7 +9,7 @@ use Rattle.job_words.specs.declared.job.Job.{Job}
 use Rattle.io_edges.specs.declared.wire.Exchange.{Exchange}
 use Rattle.io_edges.specs.declared.wire.Host.{Host}
 use Rattle.job_frames.specs.declared.answer.Answer.TheVariants as answer
-use Rattle.job_frames.specs.Reply.{IsAnswer, reply_bytes}
+use Rattle.job_frames.specs.Spelling.{IsAnswer, reply_bytes}
 use Rattle.daemon_cpp.specs.declared.outcome.Outcome.{Outcome}
 use Rattle.daemon_cpp.specs.declared.outcome.Outcome.TheVariants as outcome
 use Rattle.daemon_cpp.specs.Prep.{outcome_over}

@@ -3,7 +3,8 @@ ghost use Rattle.std.specs.Prelude.{◌≡◌, ◌<◌, length, false, IfOk};
 ghost use Rattle.io_edges.specs.Talk.{EachAnswered};
 ghost use Rattle.job_ends.specs.Outside.{seen_end};
 ghost use Rattle.job_frames.specs.Outcomes.{nothing_follows, value_of};
-ghost use Rattle.job_frames.specs.Reply.{longest_reply, reply_at};
+ghost use Rattle.job_frames.specs.Spelling.{longest_reply};
+ghost use Rattle.job_frames.specs.Reply.{reply_at};
 ghost use Rattle.job_ends.specs.Steps.{Asks, AsksWire, Says};
 
 use crate::talking::{Reply, exchange};

@@ -3,7 +3,7 @@ ghost use Rattle.std.specs.Prelude.{◌≡◌, ◌<◌, ℕ, ◌∷◌, [], List
 ghost use Rattle.base_types.specs.Causes.{HasCause};
 ghost use Rattle.base_types.specs.Told.{added};
 ghost use Rattle.io_edges.specs.Talk.{sending, taking, finishing, on_current, EachAnswered};
-ghost use Rattle.job_frames.specs.Reply.{longest_reply};
+ghost use Rattle.job_frames.specs.Spelling.{longest_reply};
 ghost use Rattle.job_ends.specs.Exchange.{replied, Began, ended_if, partly};
 
 use base_types::Bytes;

@@ -6,8 +6,8 @@ use Rattle.job_words.specs.declared.job.Job.{Job}
 use Rattle.job_frames.specs.declared.answer.Answer.{Answer}
 use Rattle.job_frames.specs.declared.answer.Answer.TheVariants.{Refused}
 use Rattle.job_frames.specs.Outcomes.{Verdict}
-use Rattle.job_frames.specs.Request.{Got, IsRequest, request_bytes}
-use Rattle.job_frames.specs.Reply.{IsAnswer, reply_bytes}
+use Rattle.job_frames.specs.Spelling.{IsRequest, request_bytes, IsAnswer, reply_bytes}
+use Rattle.job_frames.specs.Request.{Got}
 use Rattle.job_frames.specs.Daemon.{IsReply, Daemon}
 use Rattle.job_frames.proofs.SpellingLemmas.{request_whole}
 

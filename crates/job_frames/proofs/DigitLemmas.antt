@@ -4,7 +4,8 @@ use Rattle.std.specs.Prelude.{◌==◌, nat_le, nat_lt, ◌&&◌}
 use Rattle.std.proofs.Math.Nat.{pow-suc}
 use Rattle.std.proofs.lemmas.Bool.{and_parts, eq-eqb, eqb-true, leb-true, le-leb, lt-leb, lt-ltb, le-ltb}
 use Rattle.std.proofs.lemmas.Bool.Decides.{nat_tests}
-use Rattle.job_frames.specs.Fields.{Step, short, refused, taken, ◌>>=◌, letters_at, digits_at, number_at, digit_of, digit, digits, token}
+use Rattle.job_frames.specs.Spelling.{digit, digits, token}
+use Rattle.job_frames.specs.Fields.{Step, short, refused, taken, ◌>>=◌, letters_at, digits_at, number_at, digit_of}
 use Rattle.job_frames.proofs.FieldLemmas.{digit_small, chosen}
 
 pub digits_length : (k n : ℕ) → length (digits k n) ≡ k

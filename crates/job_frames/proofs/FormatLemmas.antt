@@ -5,7 +5,8 @@ use Rattle.std.specs.Prelude.{◌==◌, nat_lt}
 use Rattle.std.proofs.lemmas.List.{take-append-le, drop-append-le, take-append-drop}
 use Rattle.std.proofs.lemmas.Bool.{le-ltb, ltb-false}
 use Rattle.tree_model.specs.Paths.{Text}
-use Rattle.job_frames.specs.Fields.{Step, short, refused, taken, ◌>>=◌, digit_of, letters_at, digits_at, number_at, judged, field_token_at, field_body_at, token, field, digits}
+use Rattle.job_frames.specs.Spelling.{token, field, digits}
+use Rattle.job_frames.specs.Fields.{Step, short, refused, taken, ◌>>=◌, digit_of, letters_at, digits_at, number_at, judged, field_token_at, field_body_at}
 use Rattle.job_frames.specs.Formats.{Format, gives, refuses, due_token, due_body, due_letter, reading}
 use Rattle.job_frames.specs.Outcomes.{going, reason, whatever_follows}
 use Rattle.job_frames.specs.parts.Dues.{due_of, is_token_due}

@@ -3,8 +3,9 @@ use Rattle.std.proofs.Common.{◌≡◌, ℕ, List, ◌++◌, sym, ◌∙◌, ap
 use Rattle.tree_model.specs.Entries.{Entries}
 use Rattle.job_frames.specs.Fields.{taken}
 use Rattle.base_types.specs.Limits.{request_limit}
-use Rattle.job_frames.specs.Request.{Got, image_bytes, image_from}
-use Rattle.job_frames.specs.Images.{image_at, IsImage}
+use Rattle.job_frames.specs.Spelling.{image_bytes, IsImage}
+use Rattle.job_frames.specs.Request.{Got, image_from}
+use Rattle.job_frames.specs.Images.{image_at}
 use Rattle.job_frames.proofs.FormatLemmas.{spelling_reads, reads_spelling, apart}
 use Rattle.job_frames.proofs.FirmLemmas.{image_sound}
 use Rattle.job_frames.proofs.SpellingLemmas.{image_spells}

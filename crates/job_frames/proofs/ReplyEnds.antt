@@ -4,9 +4,10 @@ use Rattle.std.proofs.lemmas.List.{append-nil}
 use Rattle.std.specs.Prelude.{codes}
 use Rattle.job_frames.specs.declared.answer.Answer.{Answer}
 use Rattle.job_frames.specs.declared.answer.Answer.TheVariants.{Text, Diag, Refused}
-use Rattle.job_frames.specs.Fields.{Step, token, field}
+use Rattle.job_frames.specs.Spelling.{token, field, IsAnswer, reply_bytes, longest_reply}
+use Rattle.job_frames.specs.Fields.{Step}
 use Rattle.job_frames.specs.Outcomes.{value_of, nothing_follows}
-use Rattle.job_frames.specs.Reply.{IsAnswer, reply_at, reply_bytes, longest_reply}
+use Rattle.job_frames.specs.Reply.{reply_at}
 use Rattle.job_frames.proofs.SpellingLemmas.{token_length, field_length}
 use Rattle.job_frames.proofs.ReplySpelling.{reply_read}
 

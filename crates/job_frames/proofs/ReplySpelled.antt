@@ -4,8 +4,9 @@ use Rattle.std.specs.Prelude.{◌==◌, nat_le, nat_lt, ◌&&◌, ◌||◌, code
 use Rattle.std.proofs.lemmas.Bool.{leb-true, eqb-true}
 use Rattle.std.proofs.lemmas.List.{append-nil}
 use Rattle.job_frames.specs.declared.answer.Answer.{Answer}
-use Rattle.job_frames.specs.Fields.{taken, token, field, within}
-use Rattle.job_frames.specs.Reply.{reply_bytes, reply_at, reply_from, IsAnswer, allowed, status_judge, done_from, refusal_from, status_from, no_diagnostic_from, diagnostic_from, text_from, text_body_from, diagnostic_body_from, no_text_from}
+use Rattle.job_frames.specs.Spelling.{token, field, reply_bytes, IsAnswer}
+use Rattle.job_frames.specs.Fields.{taken, within}
+use Rattle.job_frames.specs.Reply.{reply_at, reply_from, allowed, status_judge, done_from, refusal_from, status_from, no_diagnostic_from, diagnostic_from, text_from, text_body_from, diagnostic_body_from, no_text_from}
 use Rattle.job_frames.specs.parts.Dues.{due_of, is_token_due}
 use Rattle.job_frames.proofs.FormatLemmas.{IsJudge, Sound, Spells, reads_spelling, field_is}
 use Rattle.job_frames.proofs.FirmLemmas.{within_judge, only_judge, five}

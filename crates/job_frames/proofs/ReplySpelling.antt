@@ -5,9 +5,10 @@ use Rattle.std.proofs.lemmas.List.{append-nil}
 use Rattle.std.proofs.lemmas.Bool.{le-leb, le-ltb}
 use Rattle.job_frames.specs.declared.answer.Answer.{Answer}
 use Rattle.job_frames.specs.declared.answer.Answer.TheVariants.{Text, Diag, Refused}
-use Rattle.job_frames.specs.Fields.{taken, token, field, within}
+use Rattle.job_frames.specs.Spelling.{token, field, reply_bytes, IsAnswer}
+use Rattle.job_frames.specs.Fields.{taken, within}
 use Rattle.job_frames.specs.Formats.{gives}
-use Rattle.job_frames.specs.Reply.{reply_bytes, reply_at, reply_from, IsAnswer, allowed, done_from, refusal_from, status_from, no_diagnostic_from, diagnostic_from, text_from, text_body_from, diagnostic_body_from, no_text_from}
+use Rattle.job_frames.specs.Reply.{reply_at, reply_from, allowed, done_from, refusal_from, status_from, no_diagnostic_from, diagnostic_from, text_from, text_body_from, diagnostic_body_from, no_text_from}
 use Rattle.job_frames.proofs.FormatLemmas.{Spells, spelling_reads, apart, field_spells}
 
 allowed_there : (limit low high n : ℕ) → n ≤ limit → low ≤ n → n ≤ high → allowed limit low high n ≡ None

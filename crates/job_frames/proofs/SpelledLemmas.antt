@@ -11,10 +11,11 @@ use Rattle.tree_model.specs.declared.mem_tree.MirrorError.{MirrorError}
 use Rattle.tree_model.specs.Entries.{Entries, judged_path}
 use Rattle.job_words.specs.declared.job.Job.{Job}
 use Rattle.job_words.specs.Words.{job_of, JobsKeepWords}
-use Rattle.job_frames.specs.Fields.{taken, token, field, within, only, fits, bare, room_behind}
+use Rattle.job_frames.specs.Spelling.{token, field, node_bytes, entry_bytes, image_bytes, request_bytes, IsSpellable, MayFollow, AreWords, IsRequest}
+use Rattle.job_frames.specs.Fields.{taken, within, only, fits, bare, room_behind}
 use Rattle.job_frames.specs.Formats.{refuses}
 use Rattle.base_types.specs.Limits.{request_limit}
-use Rattle.job_frames.specs.Request.{node_bytes, entry_bytes, image_bytes, Got, Onward, node_then, dir_then, link_then, target_then, file_then, file_body_then, judged_then, path_then, name_then, entries_from, image_from, with_job, word_body_then, word_then, words_from, count_from, place_body_from, place_from, request_from, request_at, request_bytes, IsSpellable, MayFollow, AreWords, IsRequest}
+use Rattle.job_frames.specs.Request.{Got, Onward, node_then, dir_then, link_then, target_then, file_then, file_body_then, judged_then, path_then, name_then, entries_from, image_from, with_job, word_body_then, word_then, words_from, count_from, place_body_from, place_from, request_from, request_at}
 use Rattle.job_frames.proofs.StageLemmas.{path_spelled, judged_good}
 use Rattle.job_frames.proofs.FormatLemmas.{TokenFront, BodyFront, Spells, reads_spelling, field_is}
 use Rattle.job_frames.proofs.FirmLemmas.{request_sound}

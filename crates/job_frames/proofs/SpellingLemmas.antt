@@ -11,11 +11,12 @@ use Rattle.tree_model.specs.declared.mem_tree.MirrorError.{MirrorError}
 use Rattle.tree_model.specs.Entries.{Entries, judged_path}
 use Rattle.job_words.specs.declared.job.Job.{Job}
 use Rattle.job_words.specs.Words.{job_of}
-use Rattle.job_frames.specs.Fields.{taken, token, field, digits, within, fits, bare, room_behind}
+use Rattle.job_frames.specs.Spelling.{token, field, digits, node_bytes, entry_bytes, image_bytes, request_bytes, IsSpellable, MayFollow, AreWords, IsRequest}
+use Rattle.job_frames.specs.Fields.{taken, within, fits, bare, room_behind}
 use Rattle.job_frames.specs.Formats.{refuses}
 use Rattle.job_frames.specs.Outcomes.{done, whatever_follows}
 use Rattle.base_types.specs.Limits.{request_limit}
-use Rattle.job_frames.specs.Request.{node_bytes, entry_bytes, image_bytes, Got, Onward, node_then, dir_then, link_then, target_then, file_then, file_body_then, judged_then, path_then, name_then, entries_from, image_from, with_job, word_body_then, word_then, words_from, count_from, place_body_from, place_from, request_from, request_at, request_bytes, IsSpellable, MayFollow, AreWords, IsRequest}
+use Rattle.job_frames.specs.Request.{Got, Onward, node_then, dir_then, link_then, target_then, file_then, file_body_then, judged_then, path_then, name_then, entries_from, image_from, with_job, word_body_then, word_then, words_from, count_from, place_body_from, place_from, request_from, request_at}
 use Rattle.job_frames.proofs.DigitLemmas.{digits_length}
 use Rattle.job_frames.proofs.FormatLemmas.{Spells, spelling_reads, apart, field_spells}
 

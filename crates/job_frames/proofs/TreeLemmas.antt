@@ -13,7 +13,7 @@ use Rattle.tree_model.specs.Laws.{JudgedMakeTrees, EntriesAreJudged}
 use Rattle.job_words.specs.declared.job.Job.{Job}
 use Rattle.job_words.specs.Words.{IsWord}
 use Rattle.base_types.specs.Limits.{request_limit}
-use Rattle.job_frames.specs.Request.{request_bytes, IsSpellable, MayFollow, IsSmall, IsRequest, FitsRequest, HasSpelling}
+use Rattle.job_frames.specs.Spelling.{request_bytes, IsSpellable, MayFollow, IsSmall, IsRequest, FitsRequest, HasSpelling}
 use Rattle.job_frames.proofs.StageLemmas.{judged_good}
 
 -- FROM A REQUEST TO A TREE

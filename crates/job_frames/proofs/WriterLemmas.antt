@@ -1,7 +1,7 @@
 -- Writing digits from the last to the first.
 use Rattle.std.proofs.Common.{◌≡◌, ℕ, suc, ◌+◌, ◌-◌, ◌/◌, ◌%◌, ◌<◌, ◌≤◌, List, [], ◌∷◌, ◌++◌, length, drop, set, sym, ◌∙◌, ap, arith, append_assoc}
 use Rattle.std.proofs.lemmas.Grind.{drop-set_at}
-use Rattle.job_frames.specs.Fields.{digit, digits}
+use Rattle.job_frames.specs.Spelling.{digit, digits}
 
 -- one more digit, at the place before those that stand
 pub digit_next : (bytes : List ℕ) (n i rest d : ℕ) → i < 8 → length bytes ≡ 8 → d ≡ digit (rest % 16) → digits 8 n ≡ digits (8 - i) rest ++ drop (8 - i) bytes

@@ -6,7 +6,7 @@ use Rattle.job_frames.specs.declared.answer.Answer.{Answer}
 use Rattle.job_frames.specs.declared.answer.Answer.TheVariants.{Refused}
 use Rattle.job_frames.specs.Outcomes.{Verdict, going, done, reason, whatever_follows}
 use Rattle.job_frames.specs.Request.{Got, request_at}
-use Rattle.job_frames.specs.Reply.{IsAnswer, reply_bytes}
+use Rattle.job_frames.specs.Spelling.{IsAnswer, reply_bytes}
 
 -- one of the answers to a job and its entries, spelled; every request has a job
 abbrev pub IsAnswerTo : (Job → Entries → Answer → Type 0) → Option Job → Entries → List ℕ → Type 0

@@ -1,6 +1,6 @@
--- Tokens and bodies. A token is four capital letters and eight lower hexadecimal digits. A prefix of a
+-- Tokens and bodies, as they are read. A token is four capital letters and eight lower hexadecimal digits. A prefix of a
 -- stream is read from its front: it may be too short yet, or be refused by a reason, or give a value and a rest.
-use Rattle.std.specs.Prelude.{ℕ, zero, suc, ◌+◌, ◌-◌, ◌*◌, ◌/◌, ◌%◌, ◌&&◌, List, [], ◌∷◌, ◌++◌, length, take, drop, if◌then◌else◌, nat_lt, nat_le, ◌==◌, Option, Some, None}
+use Rattle.std.specs.Prelude.{ℕ, zero, suc, ◌+◌, ◌-◌, ◌*◌, ◌&&◌, List, [], ◌∷◌, length, take, drop, if◌then◌else◌, nat_lt, nat_le, ◌==◌, Option, Some, None}
 use Rattle.base_types.specs.Ascii as ascii
 
 -- what reading a value from the front of a prefix gives
@@ -72,21 +72,6 @@ field_token_at letters judge bytes = number_at letters bytes >>= λ n rest. judg
 -- a body of this length stands in front
 unfoldable pub field_body_at : ℕ → List ℕ → Step (List ℕ)
 field_body_at n bytes = if nat_lt (length bytes) n then short else taken (take n bytes) (drop n bytes)
-
--- the spelling of a digit, of the last k digits of a number, and of a token
-abbrev pub digit : ℕ → ℕ
-digit d = if nat_lt d 10 then ascii.zero_digit + d else 87 + d
-
-unfoldable pub digits : ℕ → ℕ → List ℕ
-digits zero n = []
-digits (suc k) n = digits k (n / 16) ++ (digit (n % 16) ∷ [])
-
-abbrev pub token : List ℕ → ℕ → List ℕ
-token letters n = letters ++ digits 8 n
-
--- a token with a body
-abbrev pub field : List ℕ → List ℕ → List ℕ
-field letters body = token letters (length body) ++ body
 
 -- judges
 abbrev pub within : ℕ → ℕ → ℕ → Option ℕ

@@ -1,5 +1,5 @@
 -- Images: the entries of a tree alone, spelled and read as a request's are.
-use Rattle.std.specs.Prelude.{◌≡◌, ◌⊎◌, ℕ, ◌≤◌, List, [], length, Some, None, Result, Ok, Err}
+use Rattle.std.specs.Prelude.{◌≡◌, ◌⊎◌, ℕ, List, Some, None, Result, Ok, Err}
 use Rattle.std.specs.Option.{option_map}
 use Rattle.tree_model.specs.Entries.{Entries}
 use Rattle.job_frames.specs.declared.FrameError.{FrameError}
@@ -7,18 +7,12 @@ use Rattle.job_frames.specs.declared.FrameError.TheVariants.{Memory}
 use Rattle.job_frames.specs.Fields.{Step}
 use Rattle.job_frames.specs.Formats.{reading}
 use Rattle.job_frames.specs.Outcomes.{Verdict, reason, frame_ended, nothing_follows, number_of, value_of}
-use Rattle.base_types.specs.Limits.{entry_limit, request_limit}
-use Rattle.job_frames.specs.Request.{Got, image_bytes, image_from, MayFollow}
+use Rattle.base_types.specs.Limits.{request_limit}
+use Rattle.job_frames.specs.Request.{Got, image_from}
 
 -- an image at the front of a text
 abbrev pub image_at : List ℕ → Step Got
 image_at bytes = reading (image_from None request_limit) bytes
-
--- what an image may be: entries that may stand one behind another, and a spelling within the room
-pub record IsImage (es : Entries) : Type 0 where
-  pub few : length es ≤ entry_limit
-  pub follow : MayFollow [] es
-  pub small : length (image_bytes es) ≤ request_limit
 
 -- the verdict on a whole image, behind which no byte may follow
 abbrev pub image_verdict : List ℕ → Verdict Got

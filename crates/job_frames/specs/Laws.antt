@@ -5,9 +5,10 @@ use Rattle.job_words.specs.declared.job.Job.{Job}
 use Rattle.job_frames.specs.Fields.{taken}
 use Rattle.job_frames.specs.Outcomes.{going, done, reason, whatever_follows, nothing_follows, value_of}
 use Rattle.base_types.specs.Limits.{request_limit, word_limit}
-use Rattle.job_frames.specs.Request.{Got, request_at, request_bytes, image_bytes, IsRequest, FitsRequest, HasSpelling}
-use Rattle.job_frames.specs.Images.{IsImage, image_at}
-use Rattle.job_frames.specs.Reply.{IsAnswer, reply_at, reply_bytes, longest_reply}
+use Rattle.job_frames.specs.Spelling.{request_bytes, image_bytes, IsRequest, FitsRequest, HasSpelling, IsImage, IsAnswer, reply_bytes, longest_reply}
+use Rattle.job_frames.specs.Request.{Got, request_at}
+use Rattle.job_frames.specs.Images.{image_at}
+use Rattle.job_frames.specs.Reply.{reply_at}
 use Rattle.job_frames.specs.declared.answer.Answer.{Answer}
 
 -- a request is read from its spelling, whatever follows

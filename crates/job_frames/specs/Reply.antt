@@ -1,27 +1,11 @@
--- Replies: their one spelling, and their format, from its last field to its first.
-use Rattle.std.specs.Prelude.{ℕ, ◌+◌, ◌*◌, ◌≤◌, ◌&&◌, ◌||◌, List, ◌++◌, length, if◌then◌else◌, nat_lt, nat_le, ◌==◌, Option, Some, None, codes}
+-- Replies: their format, from its last field to its first.
+use Rattle.std.specs.Prelude.{ℕ, ◌&&◌, ◌||◌, List, if◌then◌else◌, nat_lt, nat_le, ◌==◌, Option, Some, None, codes}
 use Rattle.base_types.specs.Limits.{diagnostic_limit, text_limit}
 use Rattle.base_types.specs.Ascii as ascii
 use Rattle.job_frames.specs.declared.answer.Answer.{Answer}
 use Rattle.job_frames.specs.declared.answer.Answer.TheVariants.{Text, Diag, Refused}
-use Rattle.job_frames.specs.Fields.{Step, version_reason, limit_reason, order_reason, token, field, within, only}
+use Rattle.job_frames.specs.Fields.{Step, version_reason, limit_reason, order_reason, within, only}
 use Rattle.job_frames.specs.Formats.{Format, gives, due_token, due_body, due_letter, reading}
-
--- the one spelling of an answer
-unfoldable pub reply_bytes : Answer → List ℕ
-reply_bytes (Text text) = token (codes "DONE") 0x103 ++ (token (codes "STAT") 0 ++ (token (codes "SERR") 0 ++ field (codes "DOTI") text))
-reply_bytes (Diag words) = token (codes "DONE") 0x103 ++ (token (codes "STAT") 0x100 ++ (field (codes "SERR") words ++ token (codes "DOTI") 0))
-reply_bytes (Refused n) = token (codes "RFSE") n
-
--- what has a spelling
-abbrev pub IsAnswer : Answer → Type 0
-IsAnswer (Text text) = length text ≤ text_limit
-IsAnswer (Diag words) = (1 ≤ length words) × (length words ≤ diagnostic_limit)
-IsAnswer (Refused n) = (1 ≤ n) × (n ≤ 9)
-
--- how many bytes a reply has at most: four tokens and the longest text
-abbrev pub longest_reply : ℕ
-longest_reply = 4 * 12 + text_limit
 
 -- a number above a limit is one reason, another that its status doesn't allow is another
 abbrev pub allowed : ℕ → ℕ → ℕ → ℕ → Option ℕ

@@ -1,36 +1,17 @@
--- Requests: their one spelling, and their format, from its last field to its first.
-use Rattle.std.specs.Prelude.{◌≡◌, ℕ, zero, suc, ◌-◌, ◌≤◌, false, List, [], ◌∷◌, ◌++◌, length, if◌then◌else◌, ◌==◌, Option, Some, None, codes, Result, Ok, Err, IsTrue}
-use Rattle.std.specs.List.{list_any, flat_map, AllByRecursion}
+-- Requests: their format, from its last field to its first.
+use Rattle.std.specs.Prelude.{ℕ, zero, suc, ◌-◌, List, [], ◌∷◌, ◌++◌, if◌then◌else◌, ◌==◌, Option, Some, None, codes, Result, Ok, Err}
+use Rattle.std.specs.List.{list_any}
 use Rattle.base_types.specs.Ascii as ascii
 use Rattle.base_types.specs.Limits.{body_limit, entry_limit, job_words_limit, path_limit, request_limit, word_limit}
-use Rattle.tree_model.specs.Paths.{Text, Path, spelled}
-use Rattle.tree_model.specs.Entries.{Entries, judged_path, makes_tree}
-use Rattle.tree_model.specs.declared.entry.Entry.{Entry}
+use Rattle.tree_model.specs.Paths.{Text, Path}
+use Rattle.tree_model.specs.Entries.{Entries, judged_path}
 use Rattle.tree_model.specs.declared.entry.Entry.TheVariants.{Dir, File, Link}
 use Rattle.tree_model.specs.declared.mem_tree.MirrorError.{MirrorError}
 use Rattle.tree_model.specs.declared.mem_tree.MirrorError.TheVariants as mirror
 use Rattle.job_words.specs.declared.job.Job.{Job}
-use Rattle.job_words.specs.Words.{job_of, IsWord}
-use Rattle.job_frames.specs.Fields.{Step, version_reason, limit_reason, order_reason, parent_reason, words_reason, token, field, within, only, fits, bare, room_behind}
+use Rattle.job_words.specs.Words.{job_of}
+use Rattle.job_frames.specs.Fields.{Step, version_reason, limit_reason, order_reason, parent_reason, words_reason, within, only, fits, bare, room_behind}
 use Rattle.job_frames.specs.Formats.{Format, gives, refuses, due_token, due_body, due_letter, reading}
-
--- the spelling of a node, of an entry, and of all entries
-abbrev pub node_bytes : Entry → Text
-node_bytes Dir = token (codes "MDIR") 0
-node_bytes (File body) = field (codes "FILE") body
-node_bytes (Link text) = field (codes "LINK") text
-
-abbrev pub entry_bytes : Path × Entry → Text
-entry_bytes e = field (codes "NAME") (spelled e.0) ++ node_bytes e.1
-
-unfoldable pub image_bytes : Entries → Text
-image_bytes es = token (codes "NFIL") (length es) ++ flat_map entry_bytes es
-
--- the one spelling of a request
-unfoldable pub request_bytes : Job → Entries → Text
-request_bytes job es =
-    token (codes "DIST") 0x103 ++ (field (codes "CDIR") job.setup.cwd ++ (token (codes "ARGC") (length job.words)
-    ++ (flat_map (field (codes "ARGV")) job.words ++ image_bytes es)))
 
 -- what is read: a job, where words were read before, and the entries
 pub record Got : Type 0 where
@@ -122,55 +103,3 @@ request_from version room = due_token (codes "DIST") (λ n. bare room (only vers
 -- a request at the front of a text
 abbrev pub request_at : Text → Step Got
 request_at bytes = reading (request_from 0x103 request_limit) bytes
-
--- WHAT HAS A SPELLING
-
--- a node within the limits of its token
-abbrev pub IsSpellable : Entry → Type 0
-IsSpellable Dir = Unit {0}
-IsSpellable (File body) = length body ≤ body_limit
-IsSpellable (Link text) = (1 ≤ length text) × (length text ≤ path_limit - 1) × (list_any (λ c. c == 0) text ≡ false)
-
--- entries may stand behind others, one after another
-abbrev pub MayFollow : Entries → Entries → Type 0
-MayFollow before [] = Unit {0}
-MayFollow before (e ∷ es) =
-    ((judged_path before (spelled e.0) ≡ Ok e.0) × (2 ≤ length (spelled e.0)) × (length (spelled e.0) ≤ path_limit)) × IsSpellable e.1 × MayFollow (before ++ e ∷ []) es
-
-abbrev pub AreWords : List Text → Type 0
-AreWords words = AllByRecursion IsWord words
-
--- what a request may be: a job that is the reading of its own working directory and words, entries that may stand one
--- behind another, and a spelling within the room
-pub record IsRequest (job : Job) (es : Entries) : Type 0 where
-  pub is_job : job_of job.setup.cwd job.words ≡ Some job
-  pub place : (1 ≤ length job.setup.cwd) × (length job.setup.cwd ≤ word_limit)
-  pub few_words : length job.words ≤ job_words_limit
-  pub words : AreWords job.words
-  pub few : length es ≤ entry_limit
-  pub follow : MayFollow [] es
-  pub small : length (request_bytes job es) ≤ request_limit
-
--- a body within the limit of a file
-abbrev pub IsSmall : Entry → Type 0
-IsSmall Dir = Unit {0}
-IsSmall (File body) = length body ≤ body_limit
-IsSmall (Link text) = Unit {0}
-
--- a job and a list of entries that makes a tree, each part within the limits of a request
-pub record FitsRequest (job : Job) (es : Entries) : Type 0 where
-  pub is_job : job_of job.setup.cwd job.words ≡ Some job
-  pub place : (1 ≤ length job.setup.cwd) × (length job.setup.cwd ≤ word_limit)
-  pub few_words : length job.words ≤ job_words_limit
-  pub words : AreWords job.words
-  pub tree : IsTrue (makes_tree es)
-  pub few : length es ≤ entry_limit
-  pub bodies : AllByRecursion (λ e. IsSmall e.1) es
-
--- an entry whose path and node have spellings
-abbrev pub HasSpelling : Path × Entry → Type 0
-HasSpelling e = (length (spelled e.0) ≤ path_limit) × IsSpellable e.1
-
--- the spelling of words
-abbrev pub words_bytes : List Text → Text
-words_bytes words = token (codes "ARGC") (length words) ++ flat_map (field (codes "ARGV")) words

@@ -1,10 +1,8 @@
 // Writing requests, images and replies.
 ghost use Rattle.std.specs.Prelude.{◌≡◌, ◌≤◌, ◌<◌, ◌++◌, length, IfOk, OnOk, All};
 ghost use Rattle.base_types.specs.Limits.{diagnostic_limit, entry_limit, job_words_limit, text_limit, word_limit};
-ghost use Rattle.job_frames.specs.Fields.{digit, digits, token, field};
+ghost use Rattle.job_frames.specs.Spelling.{digit, digits, token, field, IsAnswer, reply_bytes, entry_bytes, node_bytes, image_bytes, request_bytes, IsSpellable, HasSpelling, words_bytes};
 ghost use Rattle.job_frames.specs.declared.answer.Answer.TheVariants as answer;
-ghost use Rattle.job_frames.specs.Reply.{IsAnswer, reply_bytes};
-ghost use Rattle.job_frames.specs.Request.{entry_bytes, node_bytes, image_bytes, request_bytes, IsSpellable, HasSpelling, words_bytes};
 
 use crate::Answer;
 use base_types::Bytes;
@@ -149,7 +147,7 @@ fn push_diagnostic(out: &mut Vec<u8>, words: &[u8]) -> Result<(), AllocError>
 }
 
 // Appends a reply.
-#[tactic(auto, unfolding(crate::specs::Reply::reply_bytes))]
+#[tactic(auto, unfolding(crate::specs::Spelling::reply_bytes))]
 fn push_reply(out: &mut Vec<u8>, answer: &Answer) -> Result<(), AllocError>
     requires { IsAnswer answer.now }
     ensures { OnOk result (out.new.items ≡ out.old.items ++ reply_bytes answer.now) }

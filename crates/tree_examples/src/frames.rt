@@ -1,6 +1,6 @@
 // The answers to questions about frames.
 ghost use Rattle.std.specs.Prelude.{◌≡◌, true};
-ghost use Rattle.job_frames.specs.Reply.{IsAnswer};
+ghost use Rattle.job_frames.specs.Spelling.{IsAnswer};
 
 use base_types::List;
 use case_texts::{Wrong, bytes_of, say, say_value, say_word};

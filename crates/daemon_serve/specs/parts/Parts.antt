@@ -11,7 +11,7 @@ use Rattle.job_frames.specs.declared.answer.Answer.{Answer}
 use Rattle.job_frames.specs.declared.answer.Answer.TheVariants as answer
 use Rattle.job_frames.specs.Outcomes.{Left, going, done, number_of}
 use Rattle.job_frames.specs.Request.{Got}
-use Rattle.job_frames.specs.Reply.{reply_bytes}
+use Rattle.job_frames.specs.Spelling.{reply_bytes}
 use Rattle.job_frames.specs.Daemon.{IsAnswerTo}
 use Rattle.io_edges.specs.declared.sink.WriteFault as sink
 use Rattle.io_edges.specs.declared.sink.WriteFault.TheVariants as fault

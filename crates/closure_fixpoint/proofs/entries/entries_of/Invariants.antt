@@ -1,6 +1,6 @@
 use Rattle.std.proofs.Common.{◌≡◌, ◌≤◌, ◌+◌, [], All, take, drop, Some}
 use Rattle.tree_model.specs.Trees.{FileTree}
-use Rattle.job_frames.specs.Request.{HasSpelling}
+use Rattle.job_frames.specs.Spelling.{HasSpelling}
 use Rattle.closure_fixpoint.specs.Gathering.{gathered_from, files_among, AreKept}
 use Rattle.closure_fixpoint.proofs.entries.entries_of.Given as goal
 

@@ -1,6 +1,6 @@
 use Rattle.std.proofs.Common.{◌∙◌, ap, subst}
 use Rattle.tree_model.specs.Entries.{Entries}
-use Rattle.job_frames.specs.Request.{request_bytes}
+use Rattle.job_frames.specs.Spelling.{request_bytes}
 use Rattle.closure_fixpoint.specs.declared.entries.Gathered.{Gathered}
 use Rattle.closure_fixpoint.specs.declared.entries.Gathered.TheVariants as variant
 use Rattle.closure_fixpoint.specs.Gathering.{GathersNodes, ReadsFiles}

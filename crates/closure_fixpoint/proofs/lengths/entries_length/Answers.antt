@@ -2,7 +2,7 @@ use Rattle.std.proofs.Common.{◌+◌, length, sym, ◌∙◌, ap}
 use Rattle.std.specs.List.{flat_map}
 use Rattle.std.proofs.lemmas.List.{take_all}
 use Rattle.tree_model.specs.Entries.{Entries}
-use Rattle.job_frames.specs.Request.{entry_bytes}
+use Rattle.job_frames.specs.Spelling.{entry_bytes}
 use Rattle.closure_fixpoint.proofs.LengthLaws.{image-length}
 use Rattle.closure_fixpoint.proofs.lengths.entries_length.Goals as goal
 

@@ -1,5 +1,5 @@
 use Rattle.std.proofs.Common.{◌≡◌, ◌≤◌, ◌+◌, ◌*◌, length, take}
-use Rattle.job_frames.specs.Request.{entry_bytes}
+use Rattle.job_frames.specs.Spelling.{entry_bytes}
 use Rattle.std.specs.List.{flat_map}
 use Rattle.closure_fixpoint.proofs.lengths.entries_length.Given as goal
 

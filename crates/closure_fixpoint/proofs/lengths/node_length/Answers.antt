@@ -1,6 +1,6 @@
 use Rattle.std.proofs.Common.{◌+◌, ℕ, length, sym, ◌∙◌, ap}
 use Rattle.tree_model.specs.declared.entry.Entry.{Entry}
-use Rattle.job_frames.specs.Request.{node_bytes}
+use Rattle.job_frames.specs.Spelling.{node_bytes}
 use Rattle.closure_fixpoint.proofs.LengthLaws.{dir-length, file-length, link-length}
 use Rattle.closure_fixpoint.proofs.lengths.node_length.Goals as goal
 

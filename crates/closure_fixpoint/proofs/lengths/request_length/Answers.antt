@@ -1,6 +1,6 @@
 use Rattle.std.proofs.Common.{◌∙◌, ap, length, List, ℕ}
 use Rattle.search_path.specs.SetupOf.{SetupData}
-use Rattle.job_frames.specs.Request.{words_bytes}
+use Rattle.job_frames.specs.Spelling.{words_bytes}
 use Rattle.closure_fixpoint.proofs.LengthLaws.{request-length}
 use Rattle.closure_fixpoint.proofs.lengths.request_length.Goals as goal
 

@@ -3,7 +3,7 @@ use Rattle.std.specs.Prelude.{codes}
 use Rattle.std.specs.List.{flat_map}
 use Rattle.std.proofs.lemmas.List.{take_all}
 use Rattle.base_types.specs.Limits.{word_limit}
-use Rattle.job_frames.specs.Fields.{field}
+use Rattle.job_frames.specs.Spelling.{field}
 use Rattle.job_frames.proofs.SpellingLemmas.{field_length}
 use Rattle.closure_fixpoint.proofs.LengthLaws.{flat-next, words-length}
 use Rattle.closure_fixpoint.proofs.lengths.words_length.Goals as goal

@@ -1,5 +1,5 @@
 use Rattle.std.proofs.Common.{◌≡◌, ◌≤◌, ◌+◌, ◌*◌, length, take}
-use Rattle.job_frames.specs.Fields.{field}
+use Rattle.job_frames.specs.Spelling.{field}
 use Rattle.std.specs.Prelude.{codes}
 use Rattle.std.specs.List.{flat_map}
 use Rattle.closure_fixpoint.proofs.lengths.words_length.Given as goal

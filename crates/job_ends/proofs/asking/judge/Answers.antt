@@ -1,5 +1,5 @@
 use Rattle.std.proofs.Common.{sym, ap, ◌∙◌, Some}
-use Rattle.job_frames.specs.Reply.{reply_bytes}
+use Rattle.job_frames.specs.Spelling.{reply_bytes}
 use Rattle.job_frames.specs.declared.answer.Answer.TheVariants.{Text, Diag, Refused}
 use Rattle.job_ends.proofs.Replies.{whole-reply, no-reply, refused-otherwise}
 use Rattle.job_ends.proofs.asking.judge.Goals as goal

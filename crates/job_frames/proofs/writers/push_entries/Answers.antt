@@ -2,9 +2,8 @@ use Rattle.std.proofs.Common.{◌∙◌, ap, ◌++◌, length}
 use Rattle.std.specs.Prelude.{codes}
 use Rattle.std.specs.List.{flat_map}
 use Rattle.std.proofs.lemmas.List.{take_all}
-use Rattle.job_frames.specs.Fields.{token}
+use Rattle.job_frames.specs.Spelling.{token, entry_bytes, image_bytes}
 use Rattle.tree_model.specs.Entries.{Entries}
-use Rattle.job_frames.specs.Request.{entry_bytes, image_bytes}
 use Rattle.job_frames.proofs.writers.push_entries.Goals as goal
 
 pub returns : goal.returns

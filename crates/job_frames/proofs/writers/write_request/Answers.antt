@@ -2,9 +2,7 @@ use Rattle.std.proofs.Common.{◌∙◌, ap, ◌++◌, length, List, ℕ}
 use Rattle.std.specs.Prelude.{codes}
 use Rattle.std.specs.List.{flat_map}
 use Rattle.search_path.specs.SetupOf.{SetupData}
-use Rattle.job_frames.specs.Fields.{token, field}
-use Rattle.job_frames.specs.Request.{image_bytes}
-use Rattle.job_frames.specs.Request.{request_bytes, words_bytes}
+use Rattle.job_frames.specs.Spelling.{token, field, image_bytes, request_bytes, words_bytes}
 use Rattle.job_frames.proofs.WriterLemmas.{chained}
 use Rattle.job_frames.proofs.writers.write_request.Goals as goal
 
