@@ -1,9 +1,10 @@
 // A tree of files, and searches in it.
 ghost use Rattle.std.specs.Prelude.{IsTrue};
-ghost use Rattle.tree_model.specs.Entries.{entry_fits, is_link_text, links_fit};
+ghost use Rattle.tree_model.specs.Entries.{links_fit};
 ghost use Rattle.search_path.specs.Search.{NeedsFrom};
 
 use base_types::{Bytes, List};
+use case_texts::{Stands, add_node};
 use search_path::{Ask, Form, Found, Setup, Visit, search};
 use std::alloc::{AllocError, Global};
 use std::process::Abort;
@@ -184,8 +185,8 @@ fn add_entries(alloc: Global, entries: &mut Entries) -> Result<(), AllocError>
     for place in PLACES {
         add_place(alloc, entries, place)?;
     }
-    add_link(alloc, entries, "/w/z/link.h", b"../b/b.h")?;
-    add_link(alloc, entries, "/w/zz", b"c")
+    add_node(alloc, entries, b"/w/z/link.h", Stands::Link, b"../b/b.h")?;
+    add_node(alloc, entries, b"/w/zz", Stands::Link, b"c")
 }
 
 fn add_place(alloc: Global, entries: &mut Entries, place: &str) -> Result<(), AllocError>
@@ -193,35 +194,7 @@ fn add_place(alloc: Global, entries: &mut Entries, place: &str) -> Result<(), Al
     ensures { IsTrue (links_fit entries.new.items) }
 {
     match place.strip_suffix('/') {
-        Some(dir) => add_entry(alloc, entries, dir, Entry::Dir),
-        None => add_entry(alloc, entries, place, Entry::File(Bytes::new(alloc))),
+        Some(dir) => add_node(alloc, entries, dir.as_bytes(), Stands::Dir, b""),
+        None => add_node(alloc, entries, place.as_bytes(), Stands::File, b""),
     }
-}
-
-fn add_link(
-    alloc: Global,
-    entries: &mut Entries,
-    place: &str,
-    text: &[u8],
-) -> Result<(), AllocError>
-    requires text { IsTrue (is_link_text text.now) }
-    requires links { IsTrue (links_fit entries.old.items) }
-    ensures { IsTrue (links_fit entries.new.items) }
-{
-    let text = Bytes::copy_of(alloc, text)?;
-    add_entry(alloc, entries, place, Entry::Link(text))
-}
-
-fn add_entry(
-    alloc: Global,
-    entries: &mut Entries,
-    place: &str,
-    entry: Entry,
-) -> Result<(), AllocError>
-    requires entry { IsTrue (entry_fits entry) }
-    requires links { IsTrue (links_fit entries.old.items) }
-    ensures { IsTrue (links_fit entries.new.items) }
-{
-    entries.push((path(alloc, place)?, entry))?;
-    Ok(())
 }

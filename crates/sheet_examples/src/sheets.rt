@@ -1,8 +1,9 @@
 // A sheet of each part.
 ghost use Rattle.std.specs.Prelude.{IsTrue};
-ghost use Rattle.tree_model.specs.Entries.{entry_fits, links_fit};
+ghost use Rattle.tree_model.specs.Entries.{links_fit};
 
 use base_types::{Bytes, List};
+use case_texts::{Stands, add_node};
 use closure_memo::{Kept, MemoState};
 use pp_tokens::Token;
 use search_path::{Found, Setup, Visit};
@@ -172,26 +173,15 @@ fn add_place(
     ensures { IsTrue (links_fit entries.new.items) }
 {
     match place.strip_suffix('/') {
-        Some(dir) => add_entry(alloc, entries, dir, Entry::Dir),
-        None => {
-            let body = Bytes::copy_of(alloc, body.as_bytes())?;
-            add_entry(alloc, entries, place, Entry::File(body))
-        }
+        Some(dir) => add_node(alloc, entries, dir.as_bytes(), Stands::Dir, b""),
+        None => add_node(
+            alloc,
+            entries,
+            place.as_bytes(),
+            Stands::File,
+            body.as_bytes(),
+        ),
     }
-}
-
-fn add_entry(
-    alloc: Global,
-    entries: &mut Entries,
-    place: &str,
-    entry: Entry,
-) -> Result<(), AllocError>
-    requires entry { IsTrue (entry_fits entry) }
-    requires links { IsTrue (links_fit entries.old.items) }
-    ensures { IsTrue (links_fit entries.new.items) }
-{
-    entries.push((path(alloc, place)?, entry))?;
-    Ok(())
 }
 
 // A sheet, a line for each thing that it has.
