@@ -116,8 +116,10 @@ printf 'no such case\n' > odd-case
 printf '1 + \377\n' > odd-text
 for name in $examples; do
     try 2 '' 'usage: *' empty "$(program $name)" more
-    case $name in condition_examples) input=odd-text ;; *) input=odd-case ;; esac
-    try 2 '*' "$name: line *" $input "$(program $name)"
+    case $name in
+    condition_examples) try 2 '*' "$name: the cases aren't UTF-8" odd-text "$(program $name)" ;;
+    *) try 2 '*' "$name: line *" odd-case "$(program $name)" ;;
+    esac
 done
 
 # What the parts of the measuring program print; its stored run is of expansion.
