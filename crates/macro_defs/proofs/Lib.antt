@@ -1,4 +1,5 @@
 pub mod TableLemmas
+pub mod MarkLemmas
 pub mod Fronts
 pub mod Names
 pub mod Pieces

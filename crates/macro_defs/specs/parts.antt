@@ -1,3 +1,5 @@
 -- Helpers of contracts: no definition in the folder above rests on them.
---     Stored  how maps and sets of names are seen, and what a definition keeps
+--     Stored     how maps and sets of names are seen, and what a definition keeps
+--     NameMarks  the marks that tell of most names that a table never had them
 pub mod Stored
+pub mod NameMarks

@@ -1,6 +1,7 @@
 // A table of macros.
-ghost use Rattle.std.specs.Prelude.{◌≡◌, IfOk, Some};
+ghost use Rattle.std.specs.Prelude.{◌≡◌, ◌<◌, true, IfOk, OnOk, Some};
 ghost use Rattle.macro_defs.specs.Table.{one_token, is_always_defined};
+ghost use Rattle.macro_defs.specs.parts.NameMarks.{mark_of, has_mark, KeepsMarks};
 
 use crate::{Definition, Shape};
 use base_types::{Bytes, List};
@@ -15,15 +16,24 @@ use std::marker::Model;
 #[derive(Drop)]
 pub struct MacroTable {
     entries: IndexMap<Vec<u8>, Option<Definition>>,
+    // The marks of all names that were ever put, each at its `mark_of`; none before the first name. Most identifiers of a
+    // text name no macro, and an unset mark tells this of most of them without the hashing of a name.
+    marks: Vec<bool>,
 }
 
+// How many marks a table has once it has a name.
+const MARKS: usize = 8192;
+
 impl Model for MacroTable {
-    ghost use Rattle.macro_defs.specs.Table.{TableEntries};
+    ghost use Rattle.macro_defs.specs.Table.{TableEntries, names_ever_defined};
     ghost use Rattle.macro_defs.specs.parts.Stored.{entries_of_map};
+    ghost use Rattle.macro_defs.specs.parts.NameMarks.{AreMarked};
 
     ghost Value = { TableEntries };
 
     ghost view = { λ t. entries_of_map t.entries.entries };
+
+    ghost invariant = { λ t. AreMarked t.marks.items (names_ever_defined (entries_of_map t.entries.entries)) };
 }
 
 impl MacroTable {
@@ -38,6 +48,7 @@ impl MacroTable {
     {
         let mut table = MacroTable {
             entries: IndexMap::new(alloc),
+            marks: Vec::new(alloc),
         };
         table.add(alloc, b"__STDC__", Kind::Number, b"1")?;
         table.add(alloc, b"__STDC_VERSION__", Kind::Number, b"201710L")?;
@@ -68,6 +79,7 @@ impl MacroTable {
         ensures err { OnErr result (self.new ≡ self.old) }
     {
         let key = name.into_vec()?;
+        set_mark(&mut self.marks, key.as_slice())?;
         match self.entries.insert(key, Some(definition)) {
             Ok(_) => Ok(()),
             Err(_) => Err(AllocError),
@@ -98,6 +110,9 @@ impl MacroTable {
     pub fn get(&self, name: &[u8]) -> Option<&Definition>
         ensures { MatchOption result (lookup self.now name.now ≡ None) (λ d. lookup self.now name.now ≡ Some d.now) }
     {
+        if !is_marked(&self.marks, name) {
+            return None;
+        }
         match self.entries.get(name) {
             Some(definition) => definition.as_ref(),
             None => None,
@@ -130,6 +145,44 @@ impl MacroTable {
         let (name, definition) = self.entries.get_index(place)?;
         Some((name.as_slice(), definition.as_ref()))
     }
+}
+
+// Sets a name's mark; the first call makes the marks.
+fn set_mark(marks: &mut Vec<bool>, name: &[u8]) -> Result<(), AllocError>
+    ensures set { OnOk result (has_mark marks.new.items name.now ≡ true) }
+    ensures keeps { KeepsMarks marks.old.items marks.new.items }
+{
+    if marks.len() < MARKS {
+        marks.resize(MARKS, false)?;
+    }
+    marks[mark_of(name)] = true;
+    Ok(())
+}
+
+// Whether a name's mark is set.
+#[inline(always)]
+fn is_marked(marks: &[bool], name: &[u8]) -> bool
+    ensures { result ≡ has_mark marks.now name.now }
+{
+    let place = mark_of(name);
+    place < marks.len() && marks[place]
+}
+
+// The place of a name's mark, by its length and its first, last and middle byte.
+#[inline(always)]
+#[tactic(auto, unfolding(crate::specs::parts::NameMarks::mark_of))]
+fn mark_of(name: &[u8]) -> usize
+    ensures place { result ≡ mark_of name.now }
+    ensures within { result < 8192 }
+{
+    let len = name.len();
+    if len == 0 {
+        return 0;
+    }
+    let first = name[0] as usize;
+    let last = name[len - 1] as usize;
+    let middle = name[len / 2] as usize;
+    (7 * first + 67 * last + 1021 * middle + 331 * len.min(255)) % MARKS
 }
 
 // Whether a name is defined in every table.

@@ -1,7 +1,10 @@
 use Rattle.std.proofs.Common.{sym, ap, ◌∙◌}
 use Rattle.std.specs.Option.{option_flatten}
 use Rattle.macro_defs.specs.Table.{lookup}
+use Rattle.macro_defs.specs.parts.Stored.{entries_of_map}
+use Rattle.macro_defs.specs.parts.NameMarks.{has_mark}
 use Rattle.macro_defs.proofs.TableLemmas.{seen_lookup, lent}
+use Rattle.macro_defs.proofs.MarkLemmas.{unmarked_absent}
 use Rattle.macro_defs.proofs.table.MacroTable.get.Goals as goal
 
 pub returns-in-Some : goal.returns-in-Some
@@ -12,3 +15,9 @@ returns-in-Some c =
 pub returns-in-None : goal.returns-in-None
 returns-in-None c =
     ap (λ t. lookup t c.args.name.now) (sym c.self.view_is) ∙ seen_lookup c.self.inside.entries.entries c.args.name.now ∙ ap option_flatten (sym c.in-None.ensures.value)
+
+pub returns-then-not-is_marked : goal.returns-then-not-is_marked
+returns-then-not-is_marked c =
+    ap (λ t. lookup t c.args.name.now) (sym c.self.view_is)
+    ∙ unmarked_absent c.self.inside.marks.items (entries_of_map c.self.inside.entries.entries) c.args.name.now c.self.invariant
+    (ap (λ marks. has_mark marks c.args.name.now) (sym c.deref.ensures.value) ∙ sym c.is_marked.ensures ∙ c.if-not-is_marked.true)

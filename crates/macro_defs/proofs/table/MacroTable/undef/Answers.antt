@@ -2,6 +2,7 @@ use Rattle.std.proofs.Common.{None, ap, sym, ◌∙◌}
 use Rattle.macro_defs.specs.parts.Stored.{entries_of_map}
 use Rattle.macro_defs.specs.Table.{names_ever_defined}
 use Rattle.macro_defs.proofs.TableLemmas.{written_sets, written_names, absent_sets, sets_along}
+use Rattle.macro_defs.proofs.MarkLemmas.{marked_along}
 use Rattle.macro_defs.proofs.table.MacroTable.undef.Goals as goal
 use Rattle.macro_defs.proofs.table.MacroTable.undef.Goals.{in-Some+in-Some-1, in-Some+in-None-1, in_default}
 
@@ -25,4 +26,18 @@ returns-clause-names c =
       | in-Some+in-None-1 w ↦ ap names_ever_defined (ap (λ s. entries_of_map s.entries.entries) w.self-inside-is ∙ ap entries_of_map (c.get_mut.follows.holds None).0)
           ∙ written_names c.self.inside.entries.entries c.args.name.now ∙ ap names_ever_defined c.self.view_is
       | in_default w ↦ ap names_ever_defined (ap (λ s. entries_of_map s.entries.entries) w.self-inside-is ∙ ap (λ m. entries_of_map m.entries) c.get_mut.follows.holds-at-none) ∙ ap names_ever_defined c.self.view_is
+    ]
+
+pub invariant_of-self : goal.invariant_of-self
+invariant_of-self c =
+    elim c.match-get_mut.branch [
+      | in-Some+in-Some-1 w ↦ marked_along c.self.inside.marks.items c.match-get_mut.self-inside.marks.items (names_ever_defined (entries_of_map c.self.inside.entries.entries)) (names_ever_defined (entries_of_map c.match-get_mut.self-inside.entries.entries))
+          (ap (λ s. s.marks.items) w.self-inside-is)
+          (ap names_ever_defined (ap (λ s. entries_of_map s.entries.entries) w.self-inside-is ∙ ap entries_of_map (c.get_mut.follows.holds None).0) ∙ written_names c.self.inside.entries.entries c.args.name.now) c.self.invariant
+      | in-Some+in-None-1 w ↦ marked_along c.self.inside.marks.items c.match-get_mut.self-inside.marks.items (names_ever_defined (entries_of_map c.self.inside.entries.entries)) (names_ever_defined (entries_of_map c.match-get_mut.self-inside.entries.entries))
+          (ap (λ s. s.marks.items) w.self-inside-is)
+          (ap names_ever_defined (ap (λ s. entries_of_map s.entries.entries) w.self-inside-is ∙ ap entries_of_map (c.get_mut.follows.holds None).0) ∙ written_names c.self.inside.entries.entries c.args.name.now) c.self.invariant
+      | in_default w ↦ marked_along c.self.inside.marks.items c.match-get_mut.self-inside.marks.items (names_ever_defined (entries_of_map c.self.inside.entries.entries)) (names_ever_defined (entries_of_map c.match-get_mut.self-inside.entries.entries))
+          (ap (λ s. s.marks.items) w.self-inside-is)
+          (ap names_ever_defined (ap (λ s. entries_of_map s.entries.entries) w.self-inside-is ∙ ap (λ m. entries_of_map m.entries) c.get_mut.follows.holds-at-none)) c.self.invariant
     ]
