@@ -12,6 +12,7 @@
 --     CutLemmas      components of texts that are cut at a `/`
 --     RememberedLemmas answers that are remembered, after one more
 --     StepLemmas     each step of a program goes on as the walk does
+--     RealFronts     walks from the root along directories, and what a glance tells of them
 --     ShownLemmas    what is shown of a list, one member more
 --     WalkExamples   worked walks
 pub mod PathLemmas
@@ -27,5 +28,6 @@ pub mod WalkLeads
 pub mod CutLemmas
 pub mod StepLemmas
 pub mod RememberedLemmas
+pub mod RealFronts
 pub mod ShownLemmas
 mod WalkExamples

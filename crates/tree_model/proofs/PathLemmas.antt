@@ -174,7 +174,7 @@ unfolding joined
 joined-push [] name = ap (λ (t : Text). slash ∷ t) (append-nil name)
 joined-push (part ∷ parts) name = ap (λ (t : Text). slash ∷ (part ++ t)) (joined-push parts name) ∙ ap (λ (t : Text). slash ∷ t) (rw append_assoc refl)
 
-reverse-first : (name : Text) (path : Path) → reverse (name ∷ path) ≡ reverse path ++ name ∷ []
+pub reverse-first : (name : Text) (path : Path) → reverse (name ∷ path) ≡ reverse path ++ name ∷ []
 reverse-first name path = reverse-append (name ∷ []) path
 
 -- the spelling below the root, from the outermost name on
@@ -188,7 +188,7 @@ below-reverse : (parts : List Text) → spelled_below (reverse parts) ≡ joined
 below-reverse parts = sym (joined-reverse (reverse parts)) ∙ ap joined (reverse-reverse parts)
 
 -- the parts of a spelling are the names, the outermost first, behind an empty one
-parts-below : (path : Path) → AllByRecursion IsName path → parts_of (spelled_below path) ≡ [] ∷ reverse path
+pub parts-below : (path : Path) → AllByRecursion IsName path → parts_of (spelled_below path) ≡ [] ∷ reverse path
 parts-below [] h = refl
 parts-below (name ∷ path) h =
     parts-append (spelled_below path) name

@@ -1,6 +1,6 @@
 -- Each step of a program goes on as the walk does.
 use Rattle.std.proofs.Common.{◌≡◌, ℕ, zero, suc, ◌-◌, ◌<◌, ◌≤◌, List, [], ◌∷◌, ◌++◌, length, refl, sym, ◌∙◌, ap, subst, ◌⊎◌, inl, inr, Option, Some, None, Bool, true, false, cond, is_some, IsSome, IfSome, arith, append_assoc, if◌then◌else◌, ◌==◌, not, ◌&&◌, nat_le, nat_eq}
-use Rattle.std.proofs.lemmas.Bool.{lt-leb, le-leb, ne_eqb}
+use Rattle.std.proofs.lemmas.Bool.{lt-leb, le-leb, ne_eqb, eqb-false}
 use Rattle.std.specs.Option.{option_map}
 use Rattle.std.specs.List.{onto_first}
 use Rattle.std.proofs.lemmas.List.{append-nil}
@@ -8,11 +8,13 @@ use Rattle.base_types.specs.Ascii.{slash}
 use Rattle.tree_model.specs.Paths.{Text, Path, parent, child_of, is_canonical}
 use Rattle.tree_model.specs.Trees.{FileTree, entry_at, node_at, node_of_entry, IsTree}
 use Rattle.tree_model.specs.Walk.{Look, components, Component, Stay, Up, Down, component_of, start, End, Nowhere, AtDir, AtFile, Walked, through, walk_ended, file_end, entered, taken, walk_with, walk, but_last, last_of, first_nodes, located_at, located_in, last_looked_up, can_locate, located_by}
+use Rattle.tree_model.specs.parts.Glances.{Tells, located_behind}
 use Rattle.tree_model.specs.parts.Steps.{GoesOn, followed, onward, end_of}
 use Rattle.tree_model.specs.declared.entry.Entry.{Entry}
 use Rattle.tree_model.specs.declared.entry.Entry.TheVariants.{Dir, File, Link}
 use Rattle.tree_model.specs.declared.entry.Node.{Node}
 use Rattle.tree_model.specs.declared.entry.Node.TheVariants as node
+use Rattle.tree_model.specs.declared.glance.Glance.{Glance}
 use Rattle.tree_model.specs.declared.walk.Located.{Located}
 use Rattle.tree_model.specs.declared.walk.Step.{Step}
 use Rattle.tree_model.specs.declared.walk.Step.TheVariants as step
@@ -49,7 +51,7 @@ some_component (b ∷ text) = go (b == slash)
 
 -- THE STEPS OF THE DEFINITION
 
-walk-cons : (look : Look) (links : ℕ) (dir : Path) (name : Text) (rest : List Text)
+pub walk-cons : (look : Look) (links : ℕ) (dir : Path) (name : Text) (rest : List Text)
     → walk look links dir (name ∷ rest) ≡ taken (λ next. walk look links next rest) (followed look links) rest dir look (component_of name)
 unfolding walk walk_with
 walk-cons look zero dir name rest = refl
@@ -225,7 +227,7 @@ no_links look (suc links) dir text e = absurd (omega arith)
 
 -- THE LAST COMPONENT
 
-no_file : (dir : Path) (name : Text) (nodes : List Path) (end : End) → ((real : Path) → end ≡ AtFile real → ⊥) → located_at dir name nodes end ≡ None
+pub no_file : (dir : Path) (name : Text) (nodes : List Path) (end : End) → ((real : Path) → end ≡ AtFile real → ⊥) → located_at dir name nodes end ≡ None
 no_file dir name nodes Nowhere h = refl
 no_file dir name nodes (AtDir other links) h = refl
 no_file dir name nodes (AtFile real) h = absurd (h real refl)
@@ -336,3 +338,16 @@ pub begun : (look : Look) (dir : Path) (text : Text) (list : List Text) (nodes n
 begun look dir text list nodes noted begin left n b h =
     subst (λ (at : Path). GoesOn (first_nodes dir text) (walk look 40 at list) noted left) b
     (subst (λ nodes. GoesOn nodes (walk look 40 begin list) noted left) n h)
+
+-- what is told of the last component behind the walk before it, is told of a text that isn't refused
+pub told_whole : (look : Look) (dir : Path) (text : Text) (list : List Text) (name : Text) (told other : Glance) → length text ≤ 4096 → (length name == 0) ≡ false
+    → list ≡ but_last (components text) → name ≡ last_of (components text) → told ≡ other
+    → Tells dir told (located_behind look dir text list name) → Tells dir other (located_by look dir text)
+unfolding located_by
+told_whole look dir text list name told other short some list_is name_is is h =
+    let w : Walked = walk look 40 (start dir text) (but_last (components text)) in
+    let last : length (last_of (components text)) ≡ 0 → ⊥ = λ none. eqb-false (length name) 0 some (ap length name_is ∙ none) in
+    let same : located_behind look dir text list name ≡ located_by look dir text =
+    ap (λ list. located_behind look dir text list name) list_is ∙ ap (located_behind look dir text (but_last (components text))) name_is
+    ∙ ap (λ b. cond b (last_looked_up look (last_of (components text)) (first_nodes dir text ++ w.nodes) w.end) None) (sym (passes text short last)) in
+    subst (Tells dir other) same (subst (λ told. Tells dir told (located_behind look dir text list name)) is h)

@@ -1,5 +1,7 @@
 -- Helpers of contracts: no definition in the folder above rests on them.
 --     Remembered  the nodes that a tree remembers of another
 --     Steps       how the steps of a program go on as a walk does
+--     Glances     what two looks at a tree tell of a text
 pub mod Steps
+pub mod Glances
 pub mod Remembered

@@ -6,6 +6,7 @@ mod body;
 mod cached;
 mod entry;
 mod frame;
+mod glance;
 mod laws;
 mod mem_tree;
 mod order;

@@ -158,6 +158,21 @@ impl CanonPath {
         Ok(Some(CanonPath { bytes }))
     }
 
+    /// As `read`, with room for so many bytes behind it.
+    pub(crate) fn read_with_room(
+        alloc: Global,
+        text: &[u8],
+        room: usize,
+    ) -> Result<Option<CanonPath>, AllocError>
+        ensures { IfOk result (λ path. path ≡ path_of text.now) }
+    {
+        if !is_spelling(text) {
+            return Ok(None);
+        }
+        let bytes = roomy(alloc, text, room)?;
+        Ok(Some(CanonPath { bytes }))
+    }
+
     /// As `read`, keeping the text itself, with no copy.
     pub fn of(text: Vec<u8>) -> Result<Option<CanonPath>, AllocError>
         ensures { IfOk result (λ path. path ≡ path_of text.items) }

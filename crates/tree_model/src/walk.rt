@@ -4,6 +4,8 @@
 // put in front of what is left, and the walk goes on from the link's directory, at most 40 times for a text, so no link is followed by
 // recursion. `locate` walks what stands before the last `/`, and then the last component: the directory in which that is looked up, with its
 // name, is the file's place. A walk takes one look at the tree and one copy of a path for each component.
+//
+// Before it walks, `locate` glances at the text (glance.rt).
 ghost use Rattle.std.specs.Prelude.{◌≡◌, ◌≤◌, ℕ, [], ◌∷◌, ◌++◌, Some, IfOk, IfSome, OnOk, IsErrOf, ◌==◌};
 ghost use Rattle.std.specs.List.{position};
 ghost use Rattle.std.specs.Option.{option_map, ForSome};
@@ -14,6 +16,7 @@ ghost use Rattle.tree_model.specs.Walk as walks;
 ghost use Rattle.tree_model.specs.Walk.{Look, components, but_last, last_of, component_of, entered, located_in, walk, walk_ended, is_absolute};
 ghost use Rattle.tree_model.specs.parts.Steps.{GoesOn, components_left, asked, onward, followed, end_of};
 
+use crate::glance::{Glance, glance_at, plain_file};
 use crate::{CanonPath, Node, Tree, TreeError};
 use base_types::limits::{LINK_LIMIT, PATH_LIMIT};
 use base_types::{Bytes, List};
@@ -126,7 +129,7 @@ fn cut_last(text: &[u8]) -> (Option<&[u8]>, &[u8])
     (None, text)
 }
 
-fn begins_at_root(text: &[u8]) -> bool
+pub(crate) fn begins_at_root(text: &[u8]) -> bool
     ensures { result ≡ is_absolute text.now }
 {
     match text {
@@ -364,6 +367,11 @@ pub fn locate<T: Tree>(
     let (head, name) = cut_last(text);
     if text.len() > PATH_LIMIT || name.is_empty() {
         return Ok(None);
+    }
+    match glance_at(alloc, tree, text, head, name)? {
+        Glance::Missing => return Ok(None),
+        Glance::File(path) => return Ok(Some(plain_file(alloc, dir, path)?)),
+        Glance::Unsure => {}
     }
     let mut walked = first_nodes(alloc, dir, text)?;
     let from = begin(alloc, dir, text)?;
