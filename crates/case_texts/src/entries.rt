@@ -1,6 +1,9 @@
 // The entries of a tree, node by node.
-ghost use Rattle.std.specs.Prelude.{IfOk, IsTrue};
+ghost use Rattle.std.specs.Prelude.{◌≡◌, IfOk, IsTrue, OnOk};
+ghost use Rattle.tree_model.specs.Paths.{path_of};
 ghost use Rattle.tree_model.specs.Entries.{entry_fits, links_fit};
+ghost use Rattle.case_texts.specs.Nodes as nodes;
+ghost use Rattle.case_texts.specs.declared.entries.Stands.TheVariants.{Link};
 
 use crate::nodes::is_link_text;
 use base_types::Bytes;
@@ -25,7 +28,8 @@ pub fn add_node(
     bytes: &[u8],
 ) -> Result<(), AllocError>
     requires { IsTrue (links_fit entries.old.items) }
-    ensures { IsTrue (links_fit entries.new.items) }
+    ensures fit { IsTrue (links_fit entries.new.items) }
+    ensures added { OnOk result (entries.new.items ≡ nodes.with_entry entries.old.items (path_of path.now) (nodes.entry_of stands bytes.now)) }
 {
     let Some(path) = CanonPath::read(alloc, path)? else {
         return Ok(());
@@ -36,7 +40,8 @@ pub fn add_node(
 }
 
 fn entry_of(alloc: Global, stands: Stands, bytes: &[u8]) -> Result<Entry, AllocError>
-    ensures { IfOk result (λ entry. IsTrue (entry_fits entry)) }
+    ensures fits { IfOk result (λ entry. IsTrue (entry_fits entry)) }
+    ensures is { IfOk result (λ entry. entry ≡ nodes.entry_of stands bytes.now) }
 {
     match stands {
         Stands::Dir => Ok(Entry::Dir),
@@ -46,7 +51,8 @@ fn entry_of(alloc: Global, stands: Stands, bytes: &[u8]) -> Result<Entry, AllocE
 }
 
 fn link_of(alloc: Global, text: &[u8]) -> Result<Entry, AllocError>
-    ensures { IfOk result (λ entry. IsTrue (entry_fits entry)) }
+    ensures fits { IfOk result (λ entry. IsTrue (entry_fits entry)) }
+    ensures is { IfOk result (λ entry. entry ≡ nodes.entry_of Link text.now) }
 {
     if !is_link_text(text) {
         return Ok(Entry::Dir);

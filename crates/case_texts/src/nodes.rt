@@ -1,5 +1,5 @@
 // The nodes of a case's tree, as its lines describe them.
-ghost use Rattle.std.specs.Prelude.{◌≡◌, ◌==◌, IfOk, IsTrue};
+ghost use Rattle.std.specs.Prelude.{◌≡◌, ◌==◌, [], ◌∷◌, ◌++◌, IfOk, IsTrue, OnOk};
 ghost use Rattle.std.specs.List.{list_any};
 ghost use Rattle.tree_model.specs.Entries.{entry_fits, is_link_text, links_fit};
 
@@ -8,6 +8,7 @@ use crate::spelling::{bytes_of, number_of};
 use base_types::Bytes;
 use base_types::limits::PATH_LIMIT;
 use std::alloc::{AllocError, Global};
+use std::marker::Model;
 use tree_model::{CanonPath, Entry};
 
 // A node that was read.
@@ -25,13 +26,24 @@ pub struct Nodes {
     nodes: Vec<Node>,
 }
 
+impl Model for Nodes {
+    ghost use Rattle.tree_model.specs.Entries.{Entries};
+    ghost use Rattle.case_texts.specs.Nodes.{entries_of};
+
+    ghost Value = { Entries };
+
+    ghost view = { λ n. entries_of n.nodes.items };
+}
+
 /// Whether a line that begins with this word describes the tree.
 pub fn is_of_tree(word: &str) -> bool {
     matches!(word, "file" | "|" | "=" | "*" | "dir" | "link")
 }
 
 impl Nodes {
-    pub fn new(alloc: Global) -> Nodes {
+    pub fn new(alloc: Global) -> Nodes
+        ensures { result ≡ [] }
+    {
         Nodes {
             nodes: Vec::new(alloc),
         }
@@ -52,7 +64,8 @@ impl Nodes {
 
     /// What stands in the tree of the nodes.
     pub fn into_entries(self, alloc: Global) -> Result<Vec<(CanonPath, Entry)>, AllocError>
-        ensures { IfOk result (λ entries. IsTrue (links_fit entries.items)) }
+        ensures fit { IfOk result (λ entries. IsTrue (links_fit entries.items)) }
+        ensures all { IfOk result (λ entries. entries.items ≡ self) }
     {
         let Nodes { nodes } = self;
         let mut entries = Vec::with_capacity(alloc, nodes.len())?;
@@ -65,6 +78,7 @@ impl Nodes {
 
     fn add(&mut self, path: CanonPath, entry: Entry) -> Result<(), Wrong>
         requires { IsTrue (entry_fits entry) }
+        ensures { OnOk result (self.new ≡ self.old ++ (path, entry) ∷ []) }
     {
         self.nodes.push(Node { path, entry })?;
         Ok(())
