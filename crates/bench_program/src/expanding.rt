@@ -1,4 +1,7 @@
 // Counts the tokens that the text of C files becomes, or prints them.
+ghost use Rattle.std.specs.Prelude.{◌+◌, ◌<◌, IfOk, IsTrue};
+ghost use Rattle.macro_expand.specs.Stream.{at_hand};
+
 use crate::counts::{Counts, counts_of};
 use crate::outcome::not_done;
 use crate::unit::{UNITS, Unit};
@@ -7,7 +10,7 @@ use base_types::Bytes;
 use command_line::read_body;
 use cpp_output::{LayError, Layout};
 use directive_scan::{DirectiveRef, PieceRef, Pieces};
-use macro_expand::{ExpandError, Work};
+use macro_expand::{ExpandError, Expander, Work};
 use pp_tokens::{Tokens, lex};
 use std::alloc::Global;
 use std::io::{self, Write};
@@ -168,10 +171,29 @@ fn lay_out(
 ) -> Result<(), TextError> {
     let mut stream = unit.expansion(alloc, run);
     let mut work = Work { left: UNITS };
-    while let Some(token) = stream.next(&mut work)? {
-        layout.put(&token.as_ref())?;
-    }
+    while lay_next(&mut stream, layout, &mut work)? {}
     Ok(())
+}
+
+// Lays out the next token; whether there was one. Most tokens of a text are lent.
+fn lay_next(
+    stream: &mut Expander<'_>,
+    layout: &mut Layout,
+    work: &mut Work,
+) -> Result<bool, TextError>
+    ensures few { IfOk result (λ more. IsTrue more → at_hand stream.new + work.new.left < at_hand stream.old + work.old.left) }
+{
+    if let Some(token) = stream.lend() {
+        layout.put(&token)?;
+        return Ok(true);
+    }
+    match stream.next(work)? {
+        Some(token) => {
+            layout.put(&token.as_ref())?;
+            Ok(true)
+        }
+        None => Ok(false),
+    }
 }
 
 fn print_error<R: Print>(rt: &R, file: &str, error: &ExpandError) -> io::Result<bool> {

@@ -155,8 +155,31 @@ fn lay_out(
     Ok(())
 }
 
-// Lays out the next token; whether there was one.
+// Lays out the next token; whether there was one. Most tokens of a text are lent.
+#[inline(always)]
 fn lay_next(
+    stream: &mut Expander<'_>,
+    layout: &mut Layout,
+    work: &mut Work,
+) -> Result<bool, TextError>
+    requires { stream.old.standing ≡ Going }
+    ensures ok { IfOk result (λ more. LaysNext more (laid_from layout.old (to_come stream.old work.old.left)) layout.new stream.new work.new.left) }
+    ensures within { OnOk result (length layout.old.text ≤ text_limit → length layout.new.text ≤ text_limit) }
+    ensures few { IfOk result (λ more. IsTrue more → at_hand stream.new + work.new.left < at_hand stream.old + work.old.left) }
+    ensures err { IfErr result (λ e. ReportsText e (laid_from layout.old (to_come stream.old work.old.left))) }
+    ensures spends { work.new.left ≤ work.old.left }
+{
+    match stream.lend() {
+        Some(token) => match put_or_end(stream, layout, work, &token) {
+            Ok(()) => Ok(true),
+            Err(error) => Err(error),
+        },
+        None => lay_expanded(stream, layout, work),
+    }
+}
+
+// Lays out the next token of an expansion that lends none.
+fn lay_expanded(
     stream: &mut Expander<'_>,
     layout: &mut Layout,
     work: &mut Work,
@@ -179,6 +202,7 @@ fn lay_next(
 }
 
 // Lays a token out. Where the text passes its limit, the rest is expanded, since an error of it comes first.
+#[inline(always)]
 fn put_or_end(
     stream: &mut Expander<'_>,
     layout: &mut Layout,

@@ -12,8 +12,9 @@ use Rattle.macro_expand.specs.Asking.{Failure}
 use Rattle.macro_expand.specs.Replacement.{Marked}
 use Rattle.macro_expand.specs.Expansion.{Expanded, Table, Place, expanded_by}
 use Rattle.macro_expand.specs.Answered.{after_result, answered_and_then, before, expanded_for, table_answerer}
-use Rattle.macro_expand.specs.Seen.{marked_of, kept_token, place_of, GivesTokens, StepKeepsResult, Stops, ReportsResult}
-use Rattle.macro_expand.specs.Stream.{Given, Stream, given, given_before, to_come, GivesNext, StaysAsItIs, Becomes}
+use Rattle.macro_defs.specs.Table.{TableEntries, lookup}
+use Rattle.macro_expand.specs.Seen.{marked_of, kept_plain, kept_token, place_of, GivesTokens, StepKeepsResult, Stops, ReportsResult}
+use Rattle.macro_expand.specs.Stream.{Given, Stream, given, given_before, to_come, GivesNext, StaysAsItIs, TakesUntouched, Becomes}
 use Rattle.macro_expand.proofs.AnsweredLaws.{lifted, before-nothing, expanded_for-nil, expanded_for-ordinary, expanded_for-undefined}
 use Rattle.macro_expand.proofs.GivesLaws.{by_is, result_is, lowered-lifted}
 use Rattle.macro_expand.proofs.LoopLaws.{tokens_of_marked, Stops-is}
@@ -183,3 +184,15 @@ module _ (table : Table) (mode : Mode) where
       Stops e v (expanded_for (table_answerer (λ _. table) (λ p. place_of p.here.now)) u mode 0 left (marked_of t ∷ map marked_of rest)) → Stops e v (expanded_for (table_answerer (λ _. table) (λ p. place_of p.here.now)) s mode 0 units (map marked_of pending))
   head_stops e s u v units left pending now rest t kept is stops =
       Stops-is e v _ _ (kept ∙ before-nothing _ ∙ ap (λ (l : List Kept). expanded_for (table_answerer (λ _. table) (λ p. place_of p.here.now)) u mode 0 left (map marked_of l)) is) stops
+
+-- a token that no macro touches, at the front of what is pending, comes first whatever the units
+pub lent_first : (entries : TableEntries) (s : TablePlace) (mode : Mode) (ready pending later : List Kept) (t : Token) → ready ≡ [] → TakesUntouched (lookup entries) mode t pending later →
+    (units : ℕ) → given_before (map kept_token ready) (given (expanded_by (lookup entries) (place_of s.here.now) mode 0 units (map marked_of pending)))
+    ≡ given_before (t ∷ []) (given_before (map kept_token ready) (given (expanded_by (lookup entries) (place_of s.here.now) mode 0 units (map marked_of later))))
+lent_first entries s mode ready pending later t none taken units =
+    stream_turn (lookup entries) (λ (p : TablePlace). place_of p.here.now) mode s s units units pending (kept_plain t ∷ []) later ready (kept_plain t ∷ []) none refl
+    (stays_turn (lookup entries) mode s s units units pending pending later [] (kept_plain t) (sym (before-nothing _)) taken.0 refl taken.1)
+    ∙ ap (given_before (t ∷ []))
+    (sym
+    (ap (λ (l : List Kept). given_before (map kept_token l) (given (expanded_by (lookup entries) (place_of s.here.now) mode 0 units (map marked_of later)))) none
+    ∙ given_before-nothing (given (expanded_by (lookup entries) (place_of s.here.now) mode 0 units (map marked_of later)))))

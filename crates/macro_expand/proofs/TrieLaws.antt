@@ -462,13 +462,6 @@ module _ (s other : Tree) (own : IsOrdered s) (ok : IsOrdered other) (xs ys : Li
   pub whole-names : has_all s other ≡ true → names_in kept n ≡ (names_in xs n && names_in ys n)
   whole-names all = whole (has_all-names s other own.with_hash ok all n)
 
-  pub same-names : is_same s other ≡ true → names_in kept n ≡ (names_in xs n && names_in ys n)
-  same-names alike = whole (itself (names_in (trie_names s) n) ∙ ap (λ (l : List (List ℕ)). names_in (trie_names s) n && names_in l n) (is_same-names s other alike))
-    where
-      itself : (b : Bool) → b ≡ (b && b)
-      itself true = refl
-      itself false = refl
-
 -- where every name of the first stands at its place in the second
 module _ (s other : Tree) (xs ys : List (List ℕ)) (seen : trie_names s ≡ xs) (more : trie_names other ≡ ys) (all : stands_in s other ≡ true) (n : List ℕ) where
   there_too : names_in xs n ≡ true → names_in ys n ≡ true

@@ -1,14 +1,18 @@
 // The tokens that are still to be expanded.
-ghost use Rattle.std.specs.Prelude.{◌≡◌, ◌+◌, ◌≤◌, ◌++◌, ◌∷◌, [], map, length, slice_get, Some, None, OnOk, IfErr, IsTrue, IsFalse, IfSome, MatchOption};
+ghost use Rattle.std.specs.Prelude.{◌≡◌, ◌+◌, ◌≤◌, ◌++◌, ◌∷◌, [], List, map, length, slice_get, Some, None, OnOk, IfErr, IsTrue, IsFalse, IsNone, IfSome, MatchOption};
 ghost use Rattle.std.specs.Option.{option_map};
 ghost use Rattle.pp_tokens.specs.Tokens.{token_seen};
+ghost use Rattle.macro_defs.specs.Table.{lookup};
+ghost use Rattle.macro_expand.specs.declared.marked.Marked.{Marked as Kept};
 ghost use Rattle.macro_expand.specs.Replacement.{after_open};
+ghost use Rattle.macro_expand.specs.Stream.{StaysAsItIs, TakesUntouched};
 ghost use Rattle.macro_expand.specs.parts.Pending.{run_tokens};
 ghost use Rattle.macro_expand.specs.Seen.{marked_of, kept_plain, kept_token};
 
 use crate::marked::Marked;
-use crate::outcome::RunError;
+use crate::outcome::{Mode, RunError};
 use crate::run::Run;
+use macro_defs::MacroTable;
 use pp_tokens::{TokenCow, TokenRef};
 use std::alloc::Global;
 use std::collections::VecDeque;
@@ -64,6 +68,24 @@ impl<'a> Pending<'a> {
         Some(Marked::plain(TokenCow::lent(token)))
     }
 
+    // Takes the first token where it is one of the run that no macro touches; else nothing changes.
+    #[inline(always)]
+    pub(crate) fn take_untouched(&mut self, table: &MacroTable, mode: Mode) -> Option<TokenRef<'a>>
+        ensures taken { IfSome result (λ t. TakesUntouched (lookup table.now) mode (token_seen t) self.old self.new) }
+        ensures none { IsNone result → self.new ≡ self.old }
+    {
+        if !self.made.is_empty() {
+            return None;
+        }
+        let mut behind = self.run;
+        let token = behind.next()?;
+        if !is_untouched(table, mode, &token) {
+            return None;
+        }
+        self.run = behind;
+        Some(token)
+    }
+
     // The token at a place; none behind the last.
     pub(crate) fn get(&self, place: usize) -> Option<TokenRef<'_>>
         ensures { option_map token_seen result ≡ option_map kept_token (slice_get self.now place) }
@@ -99,6 +121,24 @@ impl<'a> Pending<'a> {
     {
         put_before(&mut self.made, made)
     }
+}
+
+// Whether a token of a run is put out as it is under a table, whatever stands behind it. It isn't known of `defined` in a condition.
+#[tactic(auto, unfolding(crate::specs::Expansion::head_role))]
+#[inline(always)]
+fn is_untouched(table: &MacroTable, mode: Mode, t: &TokenRef) -> bool
+    ensures { IsTrue result → ((rest : List Kept) → StaysAsItIs (lookup table.now) mode (kept_plain (token_seen t.now)) rest) }
+{
+    if !t.is_identifier() {
+        return true;
+    }
+    if matches!(mode, Mode::Condition) && t.text == b"defined".as_slice() {
+        return false;
+    }
+    if t.text == b"__FILE__".as_slice() || t.text == b"__LINE__".as_slice() {
+        return false;
+    }
+    table.get(t.text).is_none()
 }
 
 // Puts tokens before others.

@@ -1,5 +1,6 @@
 // Expansion that gives its tokens one after another.
 ghost use Rattle.std.specs.Prelude.{◌≡◌, ◌+◌, ◌<◌, ◌≤◌, ◌++◌, ◌∷◌, [], map, length, reverse, IfOk, IfErr, IfSome, IsNone, IsTrue, MatchOption, OnOk};
+ghost use Rattle.pp_tokens.specs.Tokens.{token_seen};
 ghost use Rattle.macro_defs.specs.Table.{lookup};
 ghost use Rattle.macro_expand.specs.Replacement.{unmarked};
 ghost use Rattle.macro_expand.specs.Expansion.{expanded_by};
@@ -16,7 +17,7 @@ use crate::pending::Pending;
 use crate::run::Run;
 use base_types::{Bytes, List};
 use macro_defs::MacroTable;
-use pp_tokens::{Token, TokenCow};
+use pp_tokens::{Token, TokenCow, TokenRef};
 use std::alloc::{AllocError, Global};
 use std::marker::Model;
 
@@ -114,6 +115,29 @@ impl<'a> Expander<'a> {
                 }
             },
         }
+    }
+
+    /// The next token, where it stands in the run and no macro touches it: `next` would give the same one, and leave the same. It takes no
+    /// memory and no unit of work. `None` leaves everything as it is, and doesn't tell whether a token is to come.
+    #[inline(always)]
+    pub fn lend(&mut self) -> Option<TokenRef<'a>>
+        ensures lends { IfSome result (λ t. FirstReady (token_seen t) self.old self.new) }
+        ensures none { IsNone result → self.new ≡ self.old }
+        ensures same { self.new.standing ≡ self.old.standing }
+        ensures going { IfSome result (λ t. self.old.standing ≡ Standing.Going) }
+    {
+        if !self.has_none_ready() {
+            return None;
+        }
+        self.pending.take_untouched(self.table, self.mode)
+    }
+
+    // Whether the expansion goes on, and nothing that was put out is still to be given.
+    #[inline(always)]
+    fn has_none_ready(&self) -> bool
+        ensures { IsTrue result → (self.now.standing ≡ Standing.Going) × (self.now.ready ≡ []) }
+    {
+        matches!(self.standing, Standing::Going) && self.ready.is_empty()
     }
 
     // The next token of an expansion that goes on.

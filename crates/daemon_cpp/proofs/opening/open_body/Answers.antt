@@ -1,6 +1,6 @@
-use Rattle.std.proofs.Common.{◌≡◌, ℕ, Bool, suc, sym, ◌∙◌, ap, subst}
-use Rattle.pp_tokens.specs.Lines.{lexed, LexedFile}
-use Rattle.daemon_cpp.specs.parts.Reading.{front_events, run_body, work_after}
+use Rattle.std.proofs.Common.{ℕ, Bool, suc, sym, ◌∙◌, ap, subst}
+use Rattle.pp_tokens.specs.Lines.{lexed}
+use Rattle.daemon_cpp.specs.parts.Reading.{front_events, work_after}
 use Rattle.daemon_cpp.specs.parts.FileTexts.{IsTextOf}
 use Rattle.daemon_cpp.proofs.Openings.{begins-paid}
 use Rattle.daemon_cpp.proofs.opening.open_body.Goals as goal

@@ -1,4 +1,4 @@
-use Rattle.std.proofs.Common.{◌≡◌, ℕ, List, Option, sym, ◌∙◌, ap}
+use Rattle.std.proofs.Common.{ℕ, List, Option, sym, ◌∙◌, ap}
 use Rattle.directive_scan.specs.declared.Piece.{Piece}
 use Rattle.directive_scan.specs.Groups.{outline, role_of}
 use Rattle.daemon_cpp.specs.Prep.{run_file, run_outline}
