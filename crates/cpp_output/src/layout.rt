@@ -186,6 +186,7 @@ impl Layout {
     }
 
     // On to the output line of a physical line, where that is a later one.
+    #[inline(always)]
     fn come_to(&mut self, line: u64) -> Result<(), LayError>
         ensures ok { OnOk result (self.new ≡ record { text = self.old.text ++ newlines_between self.old.at line; at = max self.old.at line; last = last_at self.old.at self.old.last line }) }
         ensures within { length self.new.text ≤ text_limit }
@@ -200,6 +201,7 @@ impl Layout {
     }
 
     // A token on the present output line.
+    #[inline(always)]
     fn append_token(&mut self, token: &TokenRef<'_>) -> Result<(), LayError>
         ensures ok { OnOk result (self.new ≡ record { text = self.old.text ++ (gap self.old.last (token_seen token.now) ++ token.now.text.now); at = self.old.at; last = last_on_line token.now.text.now }) }
         ensures within { length self.new.text ≤ text_limit }

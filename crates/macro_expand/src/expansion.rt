@@ -31,6 +31,7 @@ use std::alloc::{AllocError, Global};
 use std::collections::VecDeque;
 
 #[tactic(auto, unfolding(crate::specs::Expansion::head_role))]
+#[inline(always)]
 pub(crate) fn role(mode: Mode, t: &Marked, rest: &Pending) -> Role
     ensures { result ≡ head_role mode (marked_of t.now) (map marked_of rest.now) }
 {
@@ -55,6 +56,7 @@ pub(crate) fn role(mode: Mode, t: &Marked, rest: &Pending) -> Role
     Role::Name
 }
 
+#[inline(always)]
 pub(crate) fn put<'s>(out: &mut Vec<Marked<'s>>, t: Marked<'s>) -> Result<(), RunError>
     ensures ok { OnOk result (out.new.items ≡ out.old.items ++ t.entry ∷ []) }
     ensures err { IfErr result (λ e. e ≡ RunError.Memory) }
@@ -172,6 +174,7 @@ fn put_list<'s>(out: &mut Vec<Vec<Marked<'s>>>, ts: Vec<Marked<'s>>) -> Result<(
 }
 
 // Puts in what a name is replaced by, before the tokens that are pending, where the work for it can be paid.
+#[inline(always)]
 fn put_in<'s>(
     pending: &mut Pending<'s>,
     work: &mut Work,

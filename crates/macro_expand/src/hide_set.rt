@@ -61,6 +61,7 @@ impl HideSet {
     ghost use Rattle.std.specs.Prelude.{[], ◌≡◌, ◌&&◌, ◌||◌, true, IfOk, ℕ, List, bytes_eq};
     ghost use Rattle.macro_expand.specs.Sets.{names_in};
 
+    #[inline(always)]
     pub(crate) fn none() -> HideSet
         ensures { result ≡ [] }
     {
@@ -70,12 +71,14 @@ impl HideSet {
         }
     }
 
+    #[inline(always)]
     pub(crate) fn is_none(&self) -> bool
         ensures { result ≡ true → self.now ≡ [] }
     {
         matches!(self.names, Trie::Empty)
     }
 
+    #[inline(always)]
     pub(crate) fn hides(&self, name: &[u8]) -> bool
         ensures { result ≡ names_in self.now name.now }
     {
@@ -86,6 +89,7 @@ impl HideSet {
         finds(&self.names, name, hash, hash)
     }
 
+    #[inline(always)]
     pub(crate) fn copy(&self) -> Result<HideSet, AllocError>
         ensures { IfOk result (λ h. h ≡ self.now) }
     {

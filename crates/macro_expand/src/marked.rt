@@ -16,6 +16,7 @@ pub(crate) struct Marked<'a> {
 
 impl<'a> Marked<'a> {
     // A token with no hidden name.
+    #[inline(always)]
     pub(crate) fn plain(token: TokenCow<'a>) -> Marked<'a>
         ensures { result ≡ kept_plain token.entry }
     {
@@ -26,12 +27,14 @@ impl<'a> Marked<'a> {
     }
 
     // The token, without its hide set.
+    #[inline(always)]
     pub(crate) fn bare(self) -> TokenCow<'a>
         ensures { result ≡ self.entry.token }
     {
         self.token
     }
 
+    #[inline(always)]
     pub(crate) fn copy(&self) -> Result<Marked<'a>, AllocError>
         ensures { IfOk result (λ m. m ≡ self.now) }
     {

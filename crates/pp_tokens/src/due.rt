@@ -21,6 +21,7 @@ pub enum Before {
     Other,
 }
 
+#[inline(always)]
 pub fn is_due(before: Before) -> bool
     ensures { result ≡ is_due before }
 {

@@ -65,6 +65,7 @@ impl Model for Lexed {
 }
 
 /// `size` bytes of a text, from a place on.
+#[inline(always)]
 pub fn stretch(text: &[u8], at: usize, size: usize) -> &[u8]
     requires { at + size ≤ length text.now }
     ensures { result.now ≡ take size (drop at text.now) }
@@ -102,6 +103,7 @@ impl Gathering {
         })
     }
 
+    #[inline(always)]
     fn end_line(&mut self) -> Result<(), AllocError>
         requires { length self.old.places.items ≤ body_limit + 1 }
         ensures { IfOk result (λ u. EndsLine self.old self.new) }
@@ -113,6 +115,7 @@ impl Gathering {
         Ok(())
     }
 
+    #[inline(always)]
     fn add_token(&mut self, place: Place, spelling: &[u8]) -> Result<(), AllocError>
         ensures { IfOk result (λ u. AddsToken self.old self.new place spelling.now) }
     {
@@ -124,6 +127,7 @@ impl Gathering {
     }
 
     // White space or a comment, with its line where it is one that never ends.
+    #[inline(always)]
     fn add_gap(&mut self, unended: Option<u32>)
         ensures { AddsGap self.old self.new unended }
     {
@@ -135,6 +139,7 @@ impl Gathering {
     }
 
     // One part more of the text, from a place on, and its line.
+    #[inline(always)]
     fn add(
         &mut self,
         text: &[u8],
@@ -191,6 +196,7 @@ impl Gathering {
 }
 
 /// How many splices stand at a place or before it, where at least `passed` are known to.
+#[inline(always)]
 pub fn splices_passed(splices: &[u32], passed: usize, at: usize) -> usize
     requires rising { Rising 0 splices.now }
     requires passed { passed ≤ spliced_up_to splices.now at }
@@ -204,6 +210,7 @@ pub fn splices_passed(splices: &[u32], passed: usize, at: usize) -> usize
 }
 
 // How many bytes of white space stand at a place.
+#[inline(always)]
 fn white_at(text: &[u8], at: usize) -> usize
     requires { at ≤ length text.now }
     ensures run { result ≡ length (take_while is_white (drop at text.now)) }
@@ -214,6 +221,7 @@ fn white_at(text: &[u8], at: usize) -> usize
 }
 
 /// How many newlines a part has: a newline is one, and of the others only a comment may have any.
+#[inline(always)]
 pub fn newlines(what: What, part: &[u8]) -> usize
     requires part { IsPart (part_told what) part.now }
     ensures { result ≡ newlines part.now }

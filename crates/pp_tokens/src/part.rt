@@ -24,6 +24,7 @@ pub enum What {
 }
 
 /// How many bytes of white space stand at the front.
+#[inline(always)]
 pub fn white_length(bytes: &[u8]) -> usize
     ensures run { result ≡ length (take_while is_white bytes.now) }
     ensures within { result ≤ length bytes.now }
@@ -32,6 +33,7 @@ pub fn white_length(bytes: &[u8]) -> usize
 }
 
 /// How many bytes at the front go on with an identifier.
+#[inline(always)]
 pub fn word_length(bytes: &[u8]) -> usize
     ensures run { result ≡ length (take_while is_identifier_byte bytes.now) }
     ensures within { result ≤ length bytes.now }

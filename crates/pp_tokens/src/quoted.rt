@@ -195,6 +195,7 @@ fn opens_literal(word: &[u8], quote: u8) -> bool
 
 /// What begins with an identifier's byte: a literal with a prefix (`u8`, `u`, `U` or `L` before `"`, and `u`, `U` or `L`
 /// before `'`), or an identifier. A prefix of a quote without a partner is an identifier.
+#[inline(always)]
 pub fn word_at(text: &[u8], at: usize, unpaired: &mut Unpaired) -> (What, usize)
     requires at { at < length text.now }
     requires known { KnowsUnpaired unpaired.old text.now at }
