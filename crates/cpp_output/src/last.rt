@@ -14,16 +14,33 @@ pub enum Last {
     Loose,
 }
 
+// Whether a byte is a punctuator that wants no space beside it.
+#[inline(always)]
+fn is_tight_byte(byte: u8) -> bool
+    ensures { result ≡ is_tight (byte ∷ []) }
+{
+    byte == b'('
+        || byte == b')'
+        || byte == b'['
+        || byte == b']'
+        || byte == b'{'
+        || byte == b'}'
+        || byte == b','
+        || byte == b';'
+}
+
+#[inline(always)]
 fn has_tight_spelling(text: &[u8]) -> bool
     ensures { result ≡ is_tight text.now }
 {
     match text {
-        [byte] => b"()[]{},;".contains(byte),
+        [byte] => is_tight_byte(*byte),
         _ => false,
     }
 }
 
 impl Last {
+    #[inline(always)]
     pub fn of_spelling(text: &[u8]) -> Last
         ensures { result ≡ last_on_line text.now }
     {
@@ -34,15 +51,17 @@ impl Last {
         }
     }
 
-    // Whether a space stands between what is last on its line and the next token there.
+    // Whether a space stands between what is last on its line and a token that will be the last behind it.
     #[tactic(auto, unfolding(crate::specs::Layout::gap))]
-    pub fn wants_space(self, next: &TokenRef<'_>) -> bool
-        ensures { gap self (token_seen next.now) ≡ (if result then ascii.space ∷ [] else []) }
+    #[inline(always)]
+    pub fn wants_space(self, token: &TokenRef<'_>, next: Last) -> bool
+        requires { next ≡ last_on_line token.now.text.now }
+        ensures { gap self (token_seen token.now) ≡ (if result then ascii.space ∷ [] else []) }
     {
         match self {
             Last::Nothing => false,
-            Last::Tight => next.space,
-            Last::Loose => next.space || !has_tight_spelling(next.text),
+            Last::Tight => token.space,
+            Last::Loose => token.space || next == Last::Loose,
         }
     }
 }

@@ -207,11 +207,12 @@ impl Layout {
         ensures within { length self.new.text ≤ text_limit }
         ensures full { IsErrOf result LayError.Full → text_limit < length (self.old.text ++ (gap self.old.last (token_seen token.now) ++ token.now.text.now)) }
     {
-        if self.last.wants_space(token) {
+        let next = Last::of_spelling(token.text);
+        if self.last.wants_space(token, next) {
             self.text.append(b" ")?;
         }
         self.text.append(token.text)?;
-        self.last = Last::of_spelling(token.text);
+        self.last = next;
         Ok(())
     }
 
