@@ -107,12 +107,20 @@ impl MacroTable {
     }
 
     /// The definition of a name; None exactly where it has none.
+    #[inline(always)]
     pub fn get(&self, name: &[u8]) -> Option<&Definition>
         ensures { MatchOption result (lookup self.now name.now ≡ None) (λ d. lookup self.now name.now ≡ Some d.now) }
     {
         if !is_marked(&self.marks, name) {
             return None;
         }
+        self.get_hashed(name)
+    }
+
+    // The definition of a name, by its hash.
+    fn get_hashed(&self, name: &[u8]) -> Option<&Definition>
+        ensures { MatchOption result (lookup self.now name.now ≡ None) (λ d. lookup self.now name.now ≡ Some d.now) }
+    {
         match self.entries.get(name) {
             Some(definition) => definition.as_ref(),
             None => None,
