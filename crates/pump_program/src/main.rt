@@ -3,6 +3,7 @@
 
 mod kept;
 mod progress;
+mod room;
 mod told;
 mod wrong_list;
 
@@ -23,6 +24,7 @@ use io_edges::{FolderOuts, MemSpawner, Outs, Sink, Source, StdSink, StdSource, W
 use kept::Kept;
 use progress::ProgressLine;
 use pump_run::{End, Progress, pump_watched};
+use room::keep_blocks;
 use std::alloc::{AllocError, Global};
 use std::io::ErrorKind;
 use std::process::ExitCode;
@@ -98,6 +100,7 @@ fn run<H: Threads + Wait + Sync>(
     rt: &HostRuntime,
     words: &[&str],
 ) -> io::Result<ExitCode> {
+    keep_blocks(rt.alloc());
     let mut ends = new_ends(rt)?;
     let mut list = Kept::over(rt.alloc(), StdSource::new(rt));
     let mut report = StdSink::new(rt.clone()?);
