@@ -103,8 +103,9 @@ def plain_text(bench):
         count, label = bench.tokens([path]), f"text, {len(body) / 1e6:.1f} MB"
         commands = [GCC, TCC, COUNT, [*EXPAND, "text"]]
         rows += bench.rows(label, commands, [[path]], size=len(body), count=count)
+        bench.goal(f"{label}, expanded and laid out, to gcc -E", rows[-1], Row.ratio, 0.45, "")
         rows.append(bench.job(label, os.path.dirname(path), size=len(body), count=count, beside=rows[-4]))
-        bench.goal(f"{label}, to gcc -E", rows[-1], Row.ratio, 0.45, "")
+        bench.goal(f"{label}, a whole job, to gcc -E", rows[-1], Row.ratio, 0.45, "")
     return Table("Text without macros and directives, in one file. The ratio is to gcc -E.", "token", rows)
 
 
@@ -125,22 +126,45 @@ def small_plain_files(bench):
 
 
 def real_headers(bench):
-    """Whole jobs on sources that include headers of the C library or of Linux, with what the compiler defines by itself."""
+    """Sources that include headers of the C library or of Linux, with what the compiler defines by itself: preprocessed by a daemon that has the
+    request, and as whole jobs, with the analysis and the exchange."""
     rows, words = [], compiler_words()
     for number, names in enumerate(bodies.REAL_HEADERS):
         text = "".join(f"#include <{name}>\n" for name in names)
         path = bench.write(f"headers{number}/a.c", text.encode())
         label = names[0] if len(names) == 1 else f"{names[0]} and {len(names) - 1} more"
-        rows += bench.rows(label, [["gcc", "-E", "-w"], ["tcc", "-E", "-w"]], [[path]])
-        rows.append(bench.job(label, os.path.dirname(path), options=words, beside=rows[-2]))
-        bench.goal(f"{label}, to gcc -E", rows[-1], Row.ratio, 0.35, "")
-    return Table("Whole jobs on real headers, conditionals and all, by the remote way. The ratio is to gcc -E.", "", rows)
+        gcc, *others = bench.rows(label, [["gcc", "-E", "-w"], ["tcc", "-E", "-w"]], [[path]])
+        daemon_alone = served(bench, label, path)
+        whole = bench.job(label, os.path.dirname(path), options=words)
+        daemon_alone.beside = whole.beside = gcc
+        rows += [gcc, *others, daemon_alone, whole]
+        bench.goal(f"{label}, preprocessed, to gcc -E", daemon_alone, Row.ratio, 0.35, "")
+        bench.goal(f"{label}, a whole job, to gcc -E", whole, Row.ratio, 0.35, "")
+    return Table("Real headers, conditionals and all: preprocessed by the daemon, and as whole jobs by the remote way. The ratio is to gcc -E.", "", rows)
 
 
-def compiler_words():
-    """The words of a list for what gcc defines by itself, and where it searches."""
+def served(bench, label, path):
+    """A row of `pumpd` on the request of a source with the files that `gcc -M` lists."""
+    folder = os.path.dirname(path)
+    listed = subprocess.run(["gcc", "-M", "-w", path], capture_output=True, text=True, check=True).stdout
+    paths = {os.path.realpath(word) for word in listed.replace("\\\n", " ").split()[1:]}
+    files = {}
+    for name in paths:
+        with open(name, "rb") as file:
+            files[os.fsencode(name)] = file.read()
+    words = [b"a.c", *compiler_words("--lines").encode().split(b"\n")]
+    given = bench.write(f"requests{folder.replace('/', '-')}", bodies.request_of(os.fsencode(folder), words, files))
+    row = bench.row(label, ["pumpd", "--inetd"], size=os.path.getsize(given), tells=reply)
+    for job in row.jobs:
+        job.given = given
+    return row
+
+
+def compiler_words(*options):
+    """The words for what gcc defines by itself, and where it searches, as a list has them or, with `--lines`, one on a line."""
     script = os.path.join(os.path.dirname(os.path.abspath(__file__)), "compiler-words")
-    return subprocess.run([sys.executable, "-B", script, "gcc"], capture_output=True, text=True, check=True).stdout.strip()
+    command = [sys.executable, "-B", script, *options, "gcc"]
+    return subprocess.run(command, capture_output=True, text=True, check=True).stdout.strip()
 
 
 def lexing(bench):

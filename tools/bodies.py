@@ -174,11 +174,26 @@ def field(letters, body):
 
 def request(files):
     """The request of a small job, with these files beside its source; each is a name and a body."""
-    head = token(b"DIST", 0x103) + field(b"CDIR", b"/w") + token(b"ARGC", 1) + field(b"ARGV", b"a.c")
-    entries = [field(b"NAME", b"/w") + token(b"MDIR", 0)]
-    for name, body in [(b"a.c", b"int x;\n"), *files]:
-        entries.append(field(b"NAME", b"/w/" + name) + field(b"FILE", body))
-    return head + token(b"NFIL", len(entries)) + b"".join(entries)
+    named = {b"/w/" + name: body for name, body in [(b"a.c", b"int x;\n"), *files]}
+    return request_of(b"/w", [b"a.c"], named)
+
+
+def request_of(folder, words, files):
+    """The request of a job in a folder: its words, these files by their paths, and the directories that they stand in."""
+    head = token(b"DIST", 0x103) + field(b"CDIR", folder) + token(b"ARGC", len(words))
+    entries = dict.fromkeys(above for path in files for above in directories_above(path)) | files
+    fields = [field(b"NAME", path) + described(entries[path]) for path in sorted(entries)]
+    return head + b"".join(field(b"ARGV", word) for word in words) + token(b"NFIL", len(fields)) + b"".join(fields)
+
+
+def directories_above(path):
+    parts = path.split(b"/")[1:-1]
+    return [b"/" + b"/".join(parts[:count]) for count in range(1, len(parts) + 1)]
+
+
+def described(body):
+    """An entry behind its name: a file's body, or a directory where there is none."""
+    return token(b"MDIR", 0) if body is None else field(b"FILE", body)
 
 
 def small_files(count):
