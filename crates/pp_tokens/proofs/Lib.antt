@@ -8,6 +8,7 @@ mod FirstBytes
 mod Numbers
 mod Punctuators
 mod MarkLemmas
+mod TextMarks
 mod Comments
 mod ByteRuns
 mod TextLemmas

@@ -196,7 +196,7 @@ pair_first (b ∷ bs) some m four three h = go bs m four three (sym (pair_is b (
         (punctuator_part b c [] m h)
 
 -- one byte, of which no longer front is a punctuator
-alone_first : (text : List ℕ) → 0 < length text → Mark (get_or text 0 0) (get_or text 1 0)
+pub alone_first : (text : List ℕ) → 0 < length text → Mark (get_or text 0 0) (get_or text 1 0)
     → is_quadruple (get_or text 0 0) (get_or text 1 0) (get_or text 2 0) (get_or text 3 0) ≡ false
     → is_triple (get_or text 0 0) (get_or text 1 0) (get_or text 2 0) ≡ false
     → is_pair (get_or text 0 0) (get_or text 1 0) ≡ false

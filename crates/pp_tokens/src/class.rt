@@ -3,6 +3,7 @@ ghost use Rattle.std.specs.Prelude.{◌≡◌};
 ghost use Rattle.pp_tokens.specs.Grammar.{is_digit, is_identifier_byte, is_identifier_start, is_white};
 ghost use Rattle.pp_tokens.specs.parts.Text.{is_second, is_single};
 ghost use Rattle.pp_tokens.specs.parts.TextLines.{is_ordinary};
+ghost use Rattle.pp_tokens.specs.Plain.{is_text_mark};
 
 // The flags of a class.
 const START: u8 = 1;
@@ -17,12 +18,15 @@ const SINGLE: u8 = 16;
 
 const ORDINARY: u8 = 32;
 
-// For each byte `@` and the flags above.
+// Set for each byte but the punctuators of one byte that begin no longer one.
+const LONGER: u8 = 64;
+
+// For each byte the sum of the flags above.
 static CLASS: [u8; 256] = *b"\
     `````````d@ddd``````````````````\
-    dp@xcxx@pppxpxxPbbbbbbbbbbxpxxxp\
-    `ccccccccccccccccccccccccccp`ppc\
-    `ccccccccccccccccccccccccccpxpp`\
+    dp@xcxx@00px0xxPbbbbbbbbbbx0xxxp\
+    `cccccccccccccccccccccccccc0`0pc\
+    `cccccccccccccccccccccccccc0x0p`\
     cccccccccccccccccccccccccccccccc\
     cccccccccccccccccccccccccccccccc\
     cccccccccccccccccccccccccccccccc\
@@ -61,6 +65,13 @@ pub fn is_single(b: u8) -> bool
     ensures { result ≡ is_single b }
 {
     CLASS[b as usize] & SINGLE != 0
+}
+
+/// Whether a byte is a punctuator that is no front of a longer one.
+pub fn is_text_mark(b: u8) -> bool
+    ensures { result ≡ is_text_mark b }
+{
+    CLASS[b as usize] & LONGER == 0
 }
 
 /// Whether a byte neither ends a line nor begins or ends a comment or a literal.

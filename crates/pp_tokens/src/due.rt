@@ -1,5 +1,6 @@
 // Whether a header name is due behind the tokens of a logical line so far (ISO C 6.4.7, 6.10.1, 6.10.2).
 ghost use Rattle.std.specs.Prelude.{◌≡◌};
+ghost use Rattle.pp_tokens.specs.Lines.{spells_hash};
 ghost use Rattle.pp_tokens.specs.parts.Text.{after_word, is_due};
 
 /// What stands on a logical line so far.
@@ -33,7 +34,20 @@ pub fn is_due(before: Before) -> bool
 
 #[tactic(auto, unfolding(crate::specs::parts::Text::after_word))]
 /// What stands there with one more token, of this spelling.
+#[inline(always)]
 pub fn after_word(before: Before, word: &[u8]) -> Before
+    ensures { result ≡ after_word before word.now }
+{
+    match before {
+        Before::Other => Before::Other,
+        Before::Nothing => after_nothing(word),
+        _ => after_hashed(before, word),
+    }
+}
+
+// The same in what may be a directive.
+#[tactic(auto, unfolding(crate::specs::parts::Text::after_word))]
+fn after_hashed(before: Before, word: &[u8]) -> Before
     ensures { result ≡ after_word before word.now }
 {
     match before {
@@ -53,11 +67,23 @@ pub fn after_word(before: Before, word: &[u8]) -> Before
     }
 }
 
+/// Whether a word is `#` or its digraph (ISO C 6.4.6).
+#[inline(always)]
+pub fn spells_hash(word: &[u8]) -> bool
+    ensures { result ≡ spells_hash word.now }
+{
+    match word {
+        [b'#'] | [b'%', b':'] => true,
+        _ => false,
+    }
+}
+
 #[tactic(auto, unfolding(crate::specs::parts::Text::after_word))]
+#[inline(always)]
 fn after_nothing(word: &[u8]) -> Before
     ensures { result ≡ after_word Before.Nothing word.now }
 {
-    if word == b"#".as_slice() || word == b"%:".as_slice() {
+    if spells_hash(word) {
         Before::Hash
     } else {
         Before::Other

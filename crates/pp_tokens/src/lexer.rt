@@ -126,6 +126,15 @@ impl Gathering {
         Ok(())
     }
 
+    // White space, or a comment that ends.
+    #[inline(always)]
+    fn add_white(&mut self)
+        ensures { AddsGap self.old self.new None }
+    {
+        self.begun = true;
+        self.space = true;
+    }
+
     // White space or a comment, with its line where it is one that never ends.
     #[inline(always)]
     fn add_gap(&mut self, unended: Option<u32>)
@@ -167,7 +176,7 @@ impl Gathering {
                 self.add_token(place, stretch(text, at, size))
             }
             What::White | What::Comment => {
-                self.add_gap(None);
+                self.add_white();
                 Ok(())
             }
             What::OpenComment => {
@@ -249,7 +258,7 @@ fn gather(alloc: Global, text: &[u8], splices: &[u32]) -> Result<Gathering, Allo
     while at < text.len() {
         let blank = white_at(text, at);
         if blank > 0 {
-            gathering.add_gap(None);
+            gathering.add_white();
             at += blank;
         } else {
             passed = splices_passed(splices, passed, at);
@@ -300,7 +309,7 @@ fn gather_directives(alloc: Global, text: &[u8], splices: &[u32]) -> Result<Gath
     while at < text.len() {
         let blank = white_at(text, at);
         if blank > 0 {
-            gathering.add_gap(None);
+            gathering.add_white();
             at += blank;
         } else {
             passed = splices_passed(splices, passed, at);

@@ -6,7 +6,7 @@ ghost use Rattle.pp_tokens.specs.Lines.{Part, token, first_part};
 ghost use Rattle.pp_tokens.specs.parts.Text.{part_told, is_quote, opens_header, begins_number};
 ghost use Rattle.pp_tokens.specs.parts.Unpaired.{KnowsUnpaired};
 
-use crate::class::{is_digit, is_identifier_byte, is_identifier_start, is_white};
+use crate::class::{is_digit, is_identifier_byte, is_identifier_start, is_text_mark, is_white};
 use crate::comment::slash_part;
 use crate::marks::{byte_at, mark_part, number_part};
 use crate::quoted::{header_at, quoted_at, word_at};
@@ -70,7 +70,9 @@ fn unquoted_part(rest: &[u8]) -> (What, usize)
     ensures { (part_told result.0, result.1) ≡ first_part false rest.now }
 {
     let first = rest[0];
-    if is_white(first) {
+    if is_text_mark(first) {
+        (What::Token(Kind::Punct), 1)
+    } else if is_white(first) {
         (What::White, 1)
     } else if first == b'\n' {
         (What::Newline, 1)

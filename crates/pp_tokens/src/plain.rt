@@ -3,7 +3,7 @@ ghost use Rattle.std.specs.Prelude.{◌≡◌, ◌≤◌, ◌&&◌, codes, bytes
 ghost use Rattle.std.specs.List.{list_all};
 ghost use Rattle.pp_tokens.specs.Plain.{is_word_byte, is_text_mark, is_text_byte, is_name_byte, is_simple_name, is_include_line, is_plain_line, is_plain_body};
 
-use crate::class::is_digit;
+use crate::class::{is_digit, is_text_mark};
 use crate::comment::line_length;
 use base_types::limits::NAME_LIMIT;
 
@@ -12,20 +12,6 @@ fn is_word_byte(b: u8) -> bool
     ensures { result ≡ is_word_byte b }
 {
     (b'a' <= b && b <= b'z') || (b'A' <= b && b <= b'Z') || is_digit(b) || b == b'_'
-}
-
-// Whether a byte is a punctuator that is no front of a longer one.
-fn is_text_mark(b: u8) -> bool
-    ensures { result ≡ is_text_mark b }
-{
-    b == b';'
-        || b == b','
-        || b == b'('
-        || b == b')'
-        || b == b'{'
-        || b == b'}'
-        || b == b'['
-        || b == b']'
 }
 
 fn is_text_byte(b: u8) -> bool

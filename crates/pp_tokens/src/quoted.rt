@@ -173,6 +173,7 @@ pub fn quoted_at(text: &[u8], at: usize, unpaired: &mut Unpaired) -> (What, usiz
 }
 
 // Whether an identifier is a prefix of character constants.
+#[cold]
 fn opens_character(word: &[u8]) -> bool
     ensures { result ≡ opens_character word.now }
 {
@@ -180,6 +181,7 @@ fn opens_character(word: &[u8]) -> bool
 }
 
 // Whether an identifier is a prefix of string literals.
+#[cold]
 fn opens_string(word: &[u8]) -> bool
     ensures { result ≡ opens_string word.now }
 {
@@ -187,6 +189,7 @@ fn opens_string(word: &[u8]) -> bool
 }
 
 // Whether an identifier right before this byte is a prefix of the literals that the byte opens.
+#[inline(always)]
 fn opens_literal(word: &[u8], quote: u8) -> bool
     ensures { result ≡ opens_literal word.now quote }
 {

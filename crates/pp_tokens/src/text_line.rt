@@ -9,7 +9,7 @@ ghost use Rattle.pp_tokens.specs.parts.Text.{part_told};
 ghost use Rattle.pp_tokens.specs.parts.Unpaired.{KnowsUnpaired};
 
 use crate::class::is_ordinary;
-use crate::due::Before;
+use crate::due::{Before, spells_hash};
 use crate::lexer::{newlines, splices_passed, stretch};
 use crate::part::{What, next_part};
 use crate::unpaired::Unpaired;
@@ -33,12 +33,6 @@ fn begins_line(before: Before) -> bool
     ensures { result ≡ begins_line before }
 {
     matches!(before, Before::Nothing)
-}
-
-fn spells_hash(word: &[u8]) -> bool
-    ensures { result ≡ spells_hash word.now }
-{
-    word == b"#".as_slice() || word == b"%:".as_slice()
 }
 
 /// Whether a part is the first token of a line of text.

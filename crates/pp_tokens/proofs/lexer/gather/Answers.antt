@@ -67,14 +67,14 @@ loop-at-preserved-then-blank-gt0 c =
     let splices = c.args.splices.now in
     let at = c.loop-at.at in
     let n = c.white_at-blank.result in
-    let run = white_run (λ f. f) text splices c.loop-at.gathering c.add_gap.new.self at c.loop-at.base n c.loop-at.invariant.gathered c.loop-at.invariant.state c.add_gap.ensures
+    let run = white_run (λ f. f) text splices c.loop-at.gathering c.add_white.new.self at c.loop-at.base n c.loop-at.invariant.gathered c.loop-at.invariant.state c.add_white.ensures
     (omega (arith, c.if-blank-gt0.true)) (front_is_white text at n c.white_at-blank.ensures.run) in
     record {
       within = c.white_at-blank.ensures.within;
       counted = omega (arith, c.loop-at.invariant.counted);
       passes = omega (arith, c.loop-at.invariant.passes, up_to_later splices at n);
       known = known_later c.loop-at.unpaired text at n c.loop-at.invariant.known;
-      few = omega (arith, c.loop-at.invariant.few, ap length c.add_gap.ensures.places);
+      few = omega (arith, c.loop-at.invariant.few, ap length c.add_white.ensures.places);
       gathered = run.1;
       state = run.0;
     }

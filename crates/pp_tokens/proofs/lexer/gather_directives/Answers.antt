@@ -128,17 +128,17 @@ loop-at-preserved-then-blank-gt0 c =
     let at = c.loop-at.at in
     let n = c.white_at-blank.result in
     let old = c.loop-at.gathering in
-    let new = c.add_gap.new.self in
-    let run = white_run directives_alone text splices old new at c.loop-at.base n c.loop-at.invariant.gathered c.loop-at.invariant.state c.add_gap.ensures
+    let new = c.add_white.new.self in
+    let run = white_run directives_alone text splices old new at c.loop-at.base n c.loop-at.invariant.gathered c.loop-at.invariant.state c.add_white.ensures
     (omega (arith, c.if-blank-gt0.true)) (front_is_white text at n c.white_at-blank.ensures.run) in
     record {
       within = c.white_at-blank.ensures.within;
       counted = omega (arith, c.loop-at.invariant.counted);
       passes = omega (arith, c.loop-at.invariant.passes, up_to_later splices at n);
       known = known_later c.loop-at.unpaired text at n c.loop-at.invariant.known;
-      few = omega (arith, c.loop-at.invariant.few, ap length c.add_gap.ensures.places);
+      few = omega (arith, c.loop-at.invariant.few, ap length c.add_white.ensures.places);
       gathered = run.1;
-      outlined = gap_outlined text old new _ c.loop-at.invariant.outlined c.add_gap.ensures;
+      outlined = gap_outlined text old new _ c.loop-at.invariant.outlined c.add_white.ensures;
       state = run.0;
     }
 

@@ -32,8 +32,8 @@ returns-in-White c =
     let spelling = take c.args.size (drop c.args.at text) in
     let old = c.args.self.now in
     elim c.in-White.is [
-      | inl is ↦ rw is (white_gathered text spelling c.args.line old c.add_gap.new.self c.requires.gathered c.add_gap.ensures)
-      | inr is ↦ rw is (comment_gathered text spelling c.args.line old c.add_gap.new.self c.requires.gathered c.add_gap.ensures)
+      | inl is ↦ rw is (white_gathered text spelling c.args.line old c.add_white.new.self c.requires.gathered c.add_white.ensures)
+      | inr is ↦ rw is (comment_gathered text spelling c.args.line old c.add_white.new.self c.requires.gathered c.add_white.ensures)
     ]
 
 pub returns-in-OpenComment : goal.returns-in-OpenComment
@@ -41,4 +41,4 @@ returns-in-OpenComment c =
     let text = c.args.text.now in
     let spelling = take c.args.size (drop c.args.at text) in
     rw c.in-OpenComment.is
-    (open_gathered text spelling c.args.line c.args.self.now c.add_gap-in-OpenComment.new.self c.requires.gathered c.add_gap-in-OpenComment.ensures)
+    (open_gathered text spelling c.args.line c.args.self.now c.add_gap.new.self c.requires.gathered c.add_gap.ensures)
