@@ -11,10 +11,10 @@ use Rattle.pp_tokens.specs.parts.Text.{comment_length}
 abbrev pub before : ℕ → List ℕ → ℕ
 before stop bs = length (take_while (λ b. not (b == stop)) bs)
 
-before_stop : (stop b : ℕ) (bs : List ℕ) → (b == stop) ≡ true → before stop (b ∷ bs) ≡ 0
+pub before_stop : (stop b : ℕ) (bs : List ℕ) → (b == stop) ≡ true → before stop (b ∷ bs) ≡ 0
 before_stop stop b bs e = rw e refl
 
-before_other : (stop b : ℕ) (bs : List ℕ) → (b == stop) ≡ false → before stop (b ∷ bs) ≡ suc (before stop bs)
+pub before_other : (stop b : ℕ) (bs : List ℕ) → (b == stop) ≡ false → before stop (b ∷ bs) ≡ suc (before stop bs)
 before_other stop b bs e = rw e (rw one-add refl)
 
 -- the answer of a search, or the length where nothing is found

@@ -1,8 +1,7 @@
 -- The lexer's steps: what is gathered of a text, and what is left of it.
-use Rattle.std.specs.Prelude.{◌≡◌, ℕ, zero, suc, ◌+◌, ◌≤◌, ◌<◌, Bool, true, false, cond, List, [], ◌∷◌, ◌++◌, length, take, drop, take_while, get_or, None, Some, Option, refl}
+use Rattle.std.specs.Prelude.{◌≡◌, ℕ, zero, suc, ◌+◌, ◌-◌, ◌≤◌, ◌<◌, Bool, true, false, cond, List, [], ◌∷◌, ◌++◌, length, take, drop, get_or, None, Some, Option, refl}
 use Rattle.std.proofs.Common.{sym, ◌∙◌, ap, arith, subst, append_assoc, drop-drop, length-drop, inl, inr}
 use Rattle.std.proofs.Math.Seq.{take-append_seam}
-use Rattle.std.proofs.Math.Numerals.{one-add}
 use Rattle.std.proofs.lemmas.List.{append-nil, length-append, drop_all, get_or-drop}
 use Rattle.pp_tokens.specs.declared.token.Token.{Token}
 use Rattle.pp_tokens.specs.declared.due.Before.{Before}
@@ -326,27 +325,6 @@ one_white view text splices old new at base g state below blank e =
 abbrev pub AreWhite : List ℕ → ℕ → ℕ → Type 0
 AreWhite text at n = (k : ℕ) → k < n → (at + k < length text) × (is_white (get_or text (at + k) 0) ≡ true)
 
-front_size : (b : ℕ) (bs : List ℕ) (t : Bool) → is_white b ≡ t → length (take_while is_white (b ∷ bs)) ≡ cond t (suc (length (take_while is_white bs))) 0
-front_size b bs false e = rw e refl
-front_size b bs true e = rw e (rw one-add refl)
-
-front_white : (xs : List ℕ) (k : ℕ) → k < length (take_while is_white xs) → (k < length xs) × (is_white (get_or xs k 0) ≡ true)
-front_white [] k less = absurd (omega (arith, less))
-front_white (b ∷ bs) k less = by_test (is_white b) refl k (omega (arith, less, front_size b bs (is_white b) refl)) (front_white bs)
-  where
-    by_test : (t : Bool) → is_white b ≡ t → (k : ℕ) → k < cond t (suc (length (take_while is_white bs))) 0
-        → ((i : ℕ) → i < length (take_while is_white bs) → (i < length bs) × (is_white (get_or bs i 0) ≡ true))
-        → (k < length (b ∷ bs)) × (is_white (get_or (b ∷ bs) k 0) ≡ true)
-    by_test false e k less behind = absurd (omega (arith, less))
-    by_test true e zero less behind = (omega arith, e)
-    by_test true e (suc k) less behind = (let next = behind k (omega (arith, less)) in (omega (arith, next.0), next.1))
-
--- the white space in front of what is left
-pub front_is_white : (text : List ℕ) (at n : ℕ) → n ≡ length (take_while is_white (drop at text)) → AreWhite text at n
-front_is_white text at n is k less =
-    let here = front_white (drop at text) k (omega (arith, less, is)) in
-    (omega (arith, here.0, length-drop at text), ap is_white (sym (get_or-drop at text k 0)) ∙ here.1)
-
 later_white : (text : List ℕ) (at n : ℕ) → AreWhite text at (suc n) → AreWhite text (at + 1) n
 later_white text at n blank k less =
     let next : at + suc k ≡ at + 1 + k = omega arith in
@@ -369,7 +347,7 @@ more_white view text splices g at base (suc n) is state e blank =
     (more_white view text splices g (at + 1) base n is (first_white view text splices g g at base n is state e blank) e (later_white text at n blank))
 
 -- a run of white space is one gap
-pub white_run : (view : LexedFile → LexedFile) (text splices : List ℕ) (old new : Gathering) (at base n : ℕ) → IsGathered text old → LexState view text splices old at base → AddsGap old new None → 0 < n → AreWhite text at n
+white_run : (view : LexedFile → LexedFile) (text splices : List ℕ) (old new : Gathering) (at base n : ℕ) → IsGathered text old → LexState view text splices old at base → AddsGap old new None → 0 < n → AreWhite text at n
     → (LexState view text splices new (at + n) base) × IsGathered text new
 white_run view text splices old new at base zero g state e some blank = absurd (omega (arith, some))
 white_run view text splices old new at base (suc n) g state e some blank =
@@ -382,3 +360,14 @@ white_run view text splices old new at base (suc n) g state e some blank =
   where
     again : AddsGap new new None
     again = record { places = refl; ends = refl; first = sym (or_none new.unended); before = refl; begun = e.begun; space = e.space }
+
+-- the same, up to a place behind
+pub white_up_to : (view : LexedFile → LexedFile) (text splices : List ℕ) (old new : Gathering) (at base end : ℕ) → IsGathered text old → LexState view text splices old at base → AddsGap old new None
+    → at < end → end ≤ length text → ((i : ℕ) → at ≤ i → i < end → is_white (get_or text i 0) ≡ true)
+    → (LexState view text splices new end base) × IsGathered text new
+white_up_to view text splices old new at base end g state e less within each =
+    let n = end - at in
+    let same : at + n ≡ end = omega (arith, less) in
+    let blank : AreWhite text at n = λ k low. (omega (arith, low, less, within), each (at + k) (omega arith) (omega (arith, low, less))) in
+    let run = white_run view text splices old new at base n g state e (omega (arith, less)) blank in
+    (subst (λ i. LexState view text splices new i base) same run.0, run.1)

@@ -1,35 +1,32 @@
--- How many newlines stand in a text, from a search for each.
-use Rattle.std.specs.Prelude.{◌≡◌, ℕ, zero, suc, ◌+◌, ◌-◌, Bool, true, false, cond, List, ◌∷◌, length, slice_index, refl, if◌then◌else◌}
-use Rattle.std.specs.List.{count_by}
-use Rattle.std.proofs.Common.{◌∙◌, ap, arith}
-use Rattle.std.proofs.lemmas.List.Recursion.{is_count_by}
-use Rattle.memchr.specs.Find.{places, places_from}
+-- How many newlines stand in a text, line by line.
+use Rattle.std.specs.Prelude.{◌≡◌, ℕ, ◌+◌, ◌<◌, Bool, true, false, cond, List, [], ◌∷◌, length, drop, suc, refl, ◌==◌}
+use Rattle.std.proofs.Common.{sym, ◌∙◌, ap, arith}
+use Rattle.std.proofs.lemmas.List.Sums.{sum_by-cons}
+use Rattle.pp_tokens.specs.parts.Gathered.{newlines}
+use Rattle.pp_tokens.proofs.ByteRuns.{before, before_stop, before_other}
 
--- a byte more in front moves each place by one
-moved : (test : ℕ → Bool) (b : ℕ) (bs : List ℕ) (i n : ℕ) → length (places_from test (b ∷ bs) (suc i) n) ≡ length (places_from test bs i n)
-unfolding places_from
-moved test b bs i zero = refl
-moved test b bs i (suc n) =
-    let next : suc i + 1 ≡ suc (i + 1) = omega arith in
-    let later = (λ k. length (places_from test (b ∷ bs) (next k) n)) ∙ moved test b bs (i + 1) n in
-    by_test _ _ _ _ (test (slice_index bs i)) later
+-- a text that is one line without its newline
+pub none_left : (bs : List ℕ) → before 10 bs ≡ length bs → newlines bs ≡ 0
+none_left [] h = refl
+none_left (b ∷ bs) h = by_test (b == 10) refl (none_left bs)
   where
-    by_test : (xs ys : List ℕ) (x y : ℕ) (t : Bool) → length xs ≡ length ys → length (if t then x ∷ xs else xs) ≡ length (if t then y ∷ ys else ys)
-    by_test xs ys x y true same = ap suc same
-    by_test xs ys x y false same = same
+    by_test : (t : Bool) → (b == 10) ≡ t → (before 10 bs ≡ length bs → newlines bs ≡ 0) → newlines (b ∷ bs) ≡ 0
+    by_test true e ih = absurd (omega (arith, before_stop 10 b bs e, h))
+    by_test false e ih = rw e (ih (omega (arith, before_other 10 b bs e, h)))
 
-counted : (test : ℕ → Bool) (text : List ℕ) → length (places_from test text 0 (length text)) ≡ count_by test text
-unfolding places_from
-counted test text = is_count_by (λ bs. length (places_from test bs 0 (length bs))) test refl one_more text
+-- a text that begins with a line and its newline
+pub one_line : (bs : List ℕ) → before 10 bs < length bs → newlines bs ≡ newlines (drop (before 10 bs + 1) bs) + 1
+one_line [] less = absurd (omega (arith, less))
+one_line (b ∷ bs) less = by_test (b == 10) refl (one_line bs)
   where
-    by_test : (xs : List ℕ) (n : ℕ) (t : Bool) → length xs ≡ n → length (if t then 0 ∷ xs else xs) ≡ cond t (1 + n) n
-    by_test xs n true same = ap suc same ∙ omega arith
-    by_test xs n false same = same
-
-    one_more : (b : ℕ) (bs : List ℕ) → length (places_from test (b ∷ bs) 0 (length (b ∷ bs))) ≡ cond (test b) (1 + length (places_from test bs 0 (length bs))) (length (places_from test bs 0 (length bs)))
-    one_more b bs = by_test _ _ (test b) (moved test b bs 0 (length bs))
-
-pub count_is : (test : ℕ → Bool) (text : List ℕ) → length (places test text) ≡ count_by test text
-count_is test text =
-    let whole : length text - 0 ≡ length text = omega arith in
-    ap (λ n. length (places_from test text 0 n)) whole ∙ counted test text
+    by_test : (t : Bool) → (b == 10) ≡ t → (before 10 bs < length bs → newlines bs ≡ newlines (drop (before 10 bs + 1) bs) + 1)
+        → newlines (b ∷ bs) ≡ newlines (drop (before 10 (b ∷ bs) + 1) (b ∷ bs)) + 1
+    by_test true e ih =
+        let next : before 10 (b ∷ bs) + 1 ≡ suc 0 = omega (arith, before_stop 10 b bs e) in
+        let one : newlines (b ∷ bs) ≡ newlines bs + 1 = sum_by-cons (λ y. cond (y == 10) 1 0) b bs ∙ rw e (omega arith) in
+        one ∙ ap (λ (k : ℕ). newlines (drop k (b ∷ bs)) + 1) (sym next)
+    by_test false e ih =
+        let size = before_other 10 b bs e in
+        let next : before 10 (b ∷ bs) + 1 ≡ suc (before 10 bs + 1) = omega (arith, size) in
+        let same : newlines (b ∷ bs) ≡ newlines bs = rw e refl in
+        same ∙ ih (omega (arith, size, less)) ∙ ap (λ (k : ℕ). newlines (drop k (b ∷ bs)) + 1) (sym next)

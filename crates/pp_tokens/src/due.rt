@@ -46,6 +46,7 @@ pub fn after_word(before: Before, word: &[u8]) -> Before
 }
 
 // The same in what may be a directive.
+#[inline(never)]
 #[tactic(auto, unfolding(crate::specs::parts::Text::after_word))]
 fn after_hashed(before: Before, word: &[u8]) -> Before
     ensures { result ≡ after_word before word.now }

@@ -9,7 +9,7 @@
 // `gather_directives` keeps the tokens of directives alone (6.10 paragraph 2; `directives_alone` in specs/DirectiveLines.antt). It goes as
 // `gather` does up to the first token of a line of text, and from there to the end of that line by `text_line.rt`, which passes over its
 // tokens. What is left of a file from there on stands in specs/parts/TextLines.antt.
-ghost use Rattle.std.specs.Prelude.{◌≡◌, ◌≤◌, ◌+◌, ◌∷◌, [], None, zero, length, take, drop, get_or, IfOk, slice_get, option_map, option_and_then, take_while};
+ghost use Rattle.std.specs.Prelude.{◌≡◌, ◌≤◌, ◌<◌, ◌+◌, ◌∷◌, ℕ, true, [], None, zero, length, take, drop, get_or, IfOk, slice_get, option_map, option_and_then, take_while};
 ghost use Rattle.std.specs.List.{flat_map};
 ghost use Rattle.std.specs.Option.{option_map_or};
 ghost use Rattle.base_types.specs.Limits.{body_limit};
@@ -22,13 +22,14 @@ ghost use Rattle.pp_tokens.specs.parts.Seen.{seen_file, token_of_place};
 ghost use Rattle.pp_tokens.specs.parts.Text.{part_told};
 ghost use Rattle.pp_tokens.specs.Tokens.{token_seen};
 
+use crate::class::is_white;
+use crate::comment::line_length;
 use crate::due::{Before, after_word, is_due};
-use crate::part::{What, next_part, white_length};
+use crate::part::{What, next_part};
 use crate::source::{SourceText, read_source};
 use crate::text_line::{begins_text, line_end};
 use crate::token::{Kind, TokenRef};
 use crate::unpaired::Unpaired;
-use memchr::memchr_iter;
 use std::alloc::{AllocError, Global};
 use std::marker::Model;
 
@@ -218,15 +219,39 @@ pub fn splices_passed(splices: &[u32], passed: usize, at: usize) -> usize
     count
 }
 
-// How many bytes of white space stand at a place.
+// Where the white space ends that stands at a place.
 #[inline(always)]
-fn white_at(text: &[u8], at: usize) -> usize
-    requires { at ≤ length text.now }
-    ensures run { result ≡ length (take_while is_white (drop at text.now)) }
-    ensures within { at + result ≤ length text.now }
+fn white_end(text: &[u8], at: usize) -> usize
+    requires within { at < length text.now }
+    requires white { is_white (get_or text.now at 0) ≡ true }
+    ensures later { at < result }
+    ensures within { result ≤ length text.now }
+    ensures white { (i : ℕ) → at ≤ i → i < result → is_white (get_or text.now i 0) ≡ true }
 {
-    let (_, rest) = text.split_at(at);
-    white_length(rest)
+    let mut end = at + 1;
+    while end < text.len() && is_white(text[end]) {
+        end += 1;
+    }
+    end
+}
+
+// How many newlines stand in a text.
+#[inline(never)]
+fn newlines_within(part: &[u8]) -> usize
+    ensures { result ≡ newlines part.now }
+{
+    let mut count = 0usize;
+    let mut at = 0usize;
+    while at < part.len() {
+        let (_, rest) = part.split_at(at);
+        let line = line_length(rest);
+        if line == rest.len() {
+            return count;
+        }
+        count += 1;
+        at += line + 1;
+    }
+    count
 }
 
 /// How many newlines a part has: a newline is one, and of the others only a comment may have any.
@@ -237,7 +262,7 @@ pub fn newlines(what: What, part: &[u8]) -> usize
 {
     match what {
         What::Newline => 1,
-        What::Comment | What::OpenComment => memchr_iter(b'\n', part).count(),
+        What::Comment | What::OpenComment => newlines_within(part),
         What::White | What::Token(_) => 0,
     }
 }
@@ -256,10 +281,9 @@ fn gather(alloc: Global, text: &[u8], splices: &[u32]) -> Result<Gathering, Allo
     let mut passed = 0usize;
     let mut at = 0usize;
     while at < text.len() {
-        let blank = white_at(text, at);
-        if blank > 0 {
+        if is_white(text[at]) {
             gathering.add_white();
-            at += blank;
+            at = white_end(text, at);
         } else {
             passed = splices_passed(splices, passed, at);
             let (what, size) = next_part(text, at, is_due(gathering.before), &mut unpaired);
@@ -307,10 +331,9 @@ fn gather_directives(alloc: Global, text: &[u8], splices: &[u32]) -> Result<Gath
     let mut passed = 0usize;
     let mut at = 0usize;
     while at < text.len() {
-        let blank = white_at(text, at);
-        if blank > 0 {
+        if is_white(text[at]) {
             gathering.add_white();
-            at += blank;
+            at = white_end(text, at);
         } else {
             passed = splices_passed(splices, passed, at);
             let (what, size) = next_part(text, at, is_due(gathering.before), &mut unpaired);

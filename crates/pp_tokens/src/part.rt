@@ -23,22 +23,38 @@ pub enum What {
     Token(Kind),
 }
 
-/// How many bytes of white space stand at the front.
-#[inline(always)]
-pub fn white_length(bytes: &[u8]) -> usize
-    ensures run { result ≡ length (take_while is_white bytes.now) }
+// How many bytes at the front go on with an identifier, looked at one after another.
+fn last_length(bytes: &[u8]) -> usize
+    ensures run { result ≡ length (take_while is_identifier_byte bytes.now) }
     ensures within { result ≤ length bytes.now }
 {
-    bytes.iter().take_while(|b| is_white(**b)).count()
+    bytes.iter().take_while(|b| is_identifier_byte(**b)).count()
 }
 
-/// How many bytes at the front go on with an identifier.
+/// The same, four by four, since most identifiers are short.
 #[inline(always)]
 pub fn word_length(bytes: &[u8]) -> usize
     ensures run { result ≡ length (take_while is_identifier_byte bytes.now) }
     ensures within { result ≤ length bytes.now }
 {
-    bytes.iter().take_while(|b| is_identifier_byte(**b)).count()
+    let mut length = 0usize;
+    while length + 4 <= bytes.len() {
+        if !is_identifier_byte(bytes[length]) {
+            return length;
+        }
+        if !is_identifier_byte(bytes[length + 1]) {
+            return length + 1;
+        }
+        if !is_identifier_byte(bytes[length + 2]) {
+            return length + 2;
+        }
+        if !is_identifier_byte(bytes[length + 3]) {
+            return length + 3;
+        }
+        length += 4;
+    }
+    let (_, rest) = bytes.split_at(length);
+    length + last_length(rest)
 }
 
 fn is_quote(b: u8) -> bool
@@ -70,9 +86,7 @@ fn unquoted_part(rest: &[u8]) -> (What, usize)
     ensures { (part_told result.0, result.1) ≡ first_part false rest.now }
 {
     let first = rest[0];
-    if is_text_mark(first) {
-        (What::Token(Kind::Punct), 1)
-    } else if is_white(first) {
+    if is_white(first) {
         (What::White, 1)
     } else if first == b'\n' {
         (What::Newline, 1)
@@ -95,6 +109,8 @@ fn other_part(text: &[u8], at: usize, unpaired: &mut Unpaired) -> (What, usize)
 {
     if is_identifier_start(text[at]) {
         word_at(text, at, unpaired)
+    } else if is_text_mark(text[at]) {
+        (What::Token(Kind::Punct), 1)
     } else if is_quote(text[at]) {
         quoted_at(text, at, unpaired)
     } else {

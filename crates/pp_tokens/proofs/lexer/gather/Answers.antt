@@ -1,15 +1,16 @@
-use Rattle.std.proofs.Common.{◌≡◌, ◌≤◌, ◌<◌, ◌+◌, ℕ, length, take, drop, ap, ◌∙◌, arith, length-drop, subst, ◌==◌}
+use Rattle.std.proofs.Common.{◌≡◌, ◌≤◌, ◌<◌, ◌+◌, ◌-◌, ℕ, length, take, drop, ap, ◌∙◌, arith, length-drop, subst, ◌==◌}
 use Rattle.std.proofs.lemmas.List.Sums.{count_by-le-length}
 use Rattle.std.proofs.lemmas.List.{length-take-le}
 use Rattle.pp_tokens.specs.Lined.{spliced_up_to}
 use Rattle.pp_tokens.specs.Lines.{Part, first_part}
 use Rattle.pp_tokens.specs.parts.Gathered.{newlines, Gathers}
 use Rattle.pp_tokens.specs.parts.Text.{is_due, part_told}
+use Rattle.pp_tokens.specs.parts.Unpaired.{KnowsUnpaired}
 use Rattle.pp_tokens.proofs.LaterPlaces.{known_later}
 use Rattle.pp_tokens.proofs.Splices.{up_to_all, up_to_later}
-use Rattle.pp_tokens.proofs.LexSteps.{first_within, first_is_part, nothing_gathered, lex_start, lex_step, lex_end, white_run, front_is_white}
+use Rattle.pp_tokens.proofs.LexSteps.{first_within, first_is_part, nothing_gathered, lex_start, lex_step, lex_end, white_up_to}
 use Rattle.pp_tokens.proofs.lexer.gather.Goals as goal
-use Rattle.pp_tokens.proofs.lexer.gather.Goals.{After-gathering-else-blank-gt0-1}
+use Rattle.pp_tokens.proofs.lexer.gather.Goals.{After-gathering-else-is_white-1}
 
 pub loop-at-init : goal.loop-at-init
 loop-at-init c = record {
@@ -23,14 +24,14 @@ loop-at-init c = record {
 }
 
 -- what stands first isn't empty, and lies within the text
-size_is : (c : After-gathering-else-blank-gt0-1) → (0 < c.next_part-what.result.1) × (c.loop-at.at + c.next_part-what.result.1 ≤ length c.args.text.now)
+size_is : (c : After-gathering-else-is_white-1) → (0 < c.next_part-what.result.1) × (c.loop-at.at + c.next_part-what.result.1 ≤ length c.args.text.now)
 size_is c =
     let rest = drop c.loop-at.at c.args.text.now in
     let some : 0 < length rest = omega (arith, length-drop c.loop-at.at c.args.text.now, c.loop-at-test.true) in
     let is = first_within c.is_due.result rest (part_told c.next_part-what.result.0) c.next_part-what.result.1 some c.next_part-what.ensures.part in
     (is.0, omega (arith, is.1, length-drop c.loop-at.at c.args.text.now, c.loop-at-test.true))
 
-line_small : (c : After-gathering-else-blank-gt0-1) → c.loop-at.base + c.splices_passed-passed.result ≤ 16777218
+line_small : (c : After-gathering-else-is_white-1) → c.loop-at.base + c.splices_passed-passed.result ≤ 16777218
 line_small c =
     omega (arith, c.loop-at.invariant.counted, c.loop-at-test.true, c.splices_passed-passed.ensures, up_to_all c.args.splices.now c.loop-at.at, c.requires.small)
 
@@ -44,7 +45,7 @@ pub add-requires-clause-within : goal.add-requires-clause-within
 add-requires-clause-within c = (size_is c).1
 
 pub stretch-requires : goal.stretch-requires
-stretch-requires c = (size_is (goal.at.stretch-requires c).After-gathering-else-blank-gt0-1).1
+stretch-requires c = (size_is (goal.at.stretch-requires c).After-gathering-else-is_white-1).1
 
 pub newlines-base-requires : goal.newlines-base-requires
 newlines-base-requires c =
@@ -55,33 +56,36 @@ newlines-base-requires c =
           (first_is_part c.is_due.result rest (part_told c.next_part-what.result.0) c.next_part-what.result.1 some c.next_part-what.ensures.part);
     }
 
-pub overflow_add-at-else-blank-gt0 : goal.overflow_add-at-else-blank-gt0
-overflow_add-at-else-blank-gt0 c = omega (arith, (size_is (goal.at.overflow_add-at-else-blank-gt0 c).After-gathering-else-blank-gt0-1).1, c.requires.small)
+pub overflow_add-at : goal.overflow_add-at
+overflow_add-at c = omega (arith, (size_is (goal.at.overflow_add-at c).After-gathering-else-is_white-1).1, c.requires.small)
 
 pub loop-at-smaller : goal.loop-at-smaller
-loop-at-smaller c = let size = size_is (goal.at.loop-at-smaller c).After-gathering-else-blank-gt0-1 in omega (arith, size.0, size.1)
+loop-at-smaller c = let size = size_is (goal.at.loop-at-smaller c).After-gathering-else-is_white-1 in omega (arith, size.0, size.1)
 
-pub loop-at-preserved-then-blank-gt0 : goal.loop-at-preserved-then-blank-gt0
-loop-at-preserved-then-blank-gt0 c =
+pub loop-at-preserved-then-is_white : goal.loop-at-preserved-then-is_white
+loop-at-preserved-then-is_white c =
     let text = c.args.text.now in
     let splices = c.args.splices.now in
     let at = c.loop-at.at in
-    let n = c.white_at-blank.result in
-    let run = white_run (λ f. f) text splices c.loop-at.gathering c.add_white.new.self at c.loop-at.base n c.loop-at.invariant.gathered c.loop-at.invariant.state c.add_white.ensures
-    (omega (arith, c.if-blank-gt0.true)) (front_is_white text at n c.white_at-blank.ensures.run) in
+    let end = c.white_end-at.result in
+    let n = end - at in
+    let same : at + n ≡ end = omega (arith, c.white_end-at.ensures.later) in
+    let run =
+    white_up_to (λ f. f) text splices c.loop-at.gathering c.add_white.new.self at c.loop-at.base end c.loop-at.invariant.gathered c.loop-at.invariant.state c.add_white.ensures
+    c.white_end-at.ensures.later c.white_end-at.ensures.within c.white_end-at.ensures.white in
     record {
-      within = c.white_at-blank.ensures.within;
-      counted = omega (arith, c.loop-at.invariant.counted);
-      passes = omega (arith, c.loop-at.invariant.passes, up_to_later splices at n);
-      known = known_later c.loop-at.unpaired text at n c.loop-at.invariant.known;
-      few = omega (arith, c.loop-at.invariant.few, ap length c.add_white.ensures.places);
+      within = c.white_end-at.ensures.within;
+      counted = omega (arith, c.loop-at.invariant.counted, c.white_end-at.ensures.later);
+      passes = omega (arith, c.loop-at.invariant.passes, up_to_later splices at n, ap (spliced_up_to splices) same);
+      known = subst (KnowsUnpaired c.loop-at.unpaired text) same (known_later c.loop-at.unpaired text at n c.loop-at.invariant.known);
+      few = omega (arith, c.loop-at.invariant.few, ap length c.add_white.ensures.places, c.white_end-at.ensures.later);
       gathered = run.1;
       state = run.0;
     }
 
 pub loop-at-preserved : goal.loop-at-preserved
 loop-at-preserved c =
-    let size = size_is (goal.at.loop-at-preserved c).After-gathering-else-blank-gt0-1 in
+    let size = size_is (goal.at.loop-at-preserved c).After-gathering-else-is_white-1 in
     let text = c.args.text.now in
     let splices = c.args.splices.now in
     let at = c.loop-at.at in

@@ -8,9 +8,10 @@ use Rattle.pp_tokens.specs.DirectiveLines.{directives_alone}
 use Rattle.pp_tokens.specs.parts.Gathered.{newlines, IsPart, Gathers}
 use Rattle.pp_tokens.specs.parts.Text.{is_due, part_told}
 use Rattle.pp_tokens.specs.parts.TextLines.{begins_line, begins_text}
+use Rattle.pp_tokens.specs.parts.Unpaired.{KnowsUnpaired}
 use Rattle.pp_tokens.proofs.LaterPlaces.{known_later}
 use Rattle.pp_tokens.proofs.Splices.{up_to_all, up_to_later}
-use Rattle.pp_tokens.proofs.LexSteps.{first_within, first_is_part, nothing_gathered, lex_start, lex_step, lex_end, white_run, front_is_white}
+use Rattle.pp_tokens.proofs.LexSteps.{first_within, first_is_part, nothing_gathered, lex_start, lex_step, lex_end, white_up_to}
 use Rattle.pp_tokens.proofs.DirectiveSteps.{nothing_outlined, gap_outlined, part_outlined, text_outlined, text_step, end_outlined, is_a_token}
 use Rattle.pp_tokens.proofs.lexer.gather_directives.Goals as goal
 use Rattle.pp_tokens.proofs.lexer.gather_directives.Goals.{After-next_part-what}
@@ -56,8 +57,8 @@ line_small c =
 pub stretch-word-requires : goal.stretch-word-requires
 stretch-word-requires c = (size_is c).1
 
-pub overflow_add-at-then-begins_text : goal.overflow_add-at-then-begins_text
-overflow_add-at-then-begins_text c = omega (arith, (size_is (goal.at.overflow_add-at-then-begins_text c).After-next_part-what).1, c.requires.small)
+pub overflow_add-at : goal.overflow_add-at
+overflow_add-at c = omega (arith, (size_is (goal.at.overflow_add-at c).After-next_part-what).1, c.requires.small)
 
 pub line_end-end-requires-clause-within : goal.line_end-end-requires-clause-within
 line_end-end-requires-clause-within c = (size_is (goal.at.line_end-end-requires-clause-within c).After-next_part-what).1
@@ -121,22 +122,25 @@ overflow_add-at-else-begins_text c = omega (arith, (size_is (goal.at.overflow_ad
 pub loop-at-smaller : goal.loop-at-smaller
 loop-at-smaller c = let size = size_is (goal.at.loop-at-smaller c).After-next_part-what in omega (arith, size.0, size.1)
 
-pub loop-at-preserved-then-blank-gt0 : goal.loop-at-preserved-then-blank-gt0
-loop-at-preserved-then-blank-gt0 c =
+pub loop-at-preserved-then-is_white : goal.loop-at-preserved-then-is_white
+loop-at-preserved-then-is_white c =
     let text = c.args.text.now in
     let splices = c.args.splices.now in
     let at = c.loop-at.at in
-    let n = c.white_at-blank.result in
+    let end = c.white_end-at.result in
+    let n = end - at in
     let old = c.loop-at.gathering in
     let new = c.add_white.new.self in
-    let run = white_run directives_alone text splices old new at c.loop-at.base n c.loop-at.invariant.gathered c.loop-at.invariant.state c.add_white.ensures
-    (omega (arith, c.if-blank-gt0.true)) (front_is_white text at n c.white_at-blank.ensures.run) in
+    let same : at + n ≡ end = omega (arith, c.white_end-at.ensures.later) in
+    let run =
+    white_up_to directives_alone text splices old new at c.loop-at.base end c.loop-at.invariant.gathered c.loop-at.invariant.state c.add_white.ensures
+    c.white_end-at.ensures.later c.white_end-at.ensures.within c.white_end-at.ensures.white in
     record {
-      within = c.white_at-blank.ensures.within;
-      counted = omega (arith, c.loop-at.invariant.counted);
-      passes = omega (arith, c.loop-at.invariant.passes, up_to_later splices at n);
-      known = known_later c.loop-at.unpaired text at n c.loop-at.invariant.known;
-      few = omega (arith, c.loop-at.invariant.few, ap length c.add_white.ensures.places);
+      within = c.white_end-at.ensures.within;
+      counted = omega (arith, c.loop-at.invariant.counted, c.white_end-at.ensures.later);
+      passes = omega (arith, c.loop-at.invariant.passes, up_to_later splices at n, ap (spliced_up_to splices) same);
+      known = subst (KnowsUnpaired c.loop-at.unpaired text) same (known_later c.loop-at.unpaired text at n c.loop-at.invariant.known);
+      few = omega (arith, c.loop-at.invariant.few, ap length c.add_white.ensures.places, c.white_end-at.ensures.later);
       gathered = run.1;
       outlined = gap_outlined text old new _ c.loop-at.invariant.outlined c.add_white.ensures;
       state = run.0;

@@ -1,9 +1,7 @@
-use Rattle.std.proofs.Common.{sym, ◌∙◌, ap, length, subst, refl, inl, inr}
-use Rattle.memchr.specs.Find.{is_byte}
+use Rattle.std.proofs.Common.{sym, subst, refl, inl, inr}
 use Rattle.pp_tokens.specs.parts.Gathered.{IsPart}
 use Rattle.pp_tokens.specs.parts.Text.{part_told}
 use Rattle.pp_tokens.specs.Lines.{white, token}
-use Rattle.pp_tokens.proofs.NewlineCounts.{count_is}
 use Rattle.pp_tokens.proofs.OneLine.{short_newlines, newline_newlines}
 use Rattle.pp_tokens.proofs.lexer.newlines.Goals as goal
 
@@ -17,6 +15,3 @@ returns-in-White c =
       | inl is ↦ sym (short_newlines white part refl (subst (λ w. IsPart (part_told w) part) is c.requires.part))
       | inr (k, is) ↦ sym (short_newlines (token k) part refl (subst (λ w. IsPart (part_told w) part) is c.requires.part))
     ]
-
-pub returns-in-Comment : goal.returns-in-Comment
-returns-in-Comment c = c.count.ensures ∙ ap length c.memchr_iter.ensures.value ∙ count_is (is_byte 10) c.args.part.now

@@ -1,6 +1,5 @@
 use Rattle.std.proofs.Common.{sym, ◌∙◌}
 use Rattle.pp_tokens.proofs.TextLemmas.{newline_first, white_first}
-use Rattle.pp_tokens.proofs.TextMarks.{text_mark_first}
 use Rattle.pp_tokens.proofs.part.unquoted_part.Goals as goal
 
 pub returns-then-is_white : goal.returns-then-is_white
@@ -8,6 +7,3 @@ returns-then-is_white c = sym (white_first c.args.rest.now (sym c.is_white.ensur
 
 pub returns-then-first-eq10 : goal.returns-then-first-eq10
 returns-then-first-eq10 c = sym (newline_first c.args.rest.now c.if-first-eq10.true)
-
-pub returns-then-is_text_mark : goal.returns-then-is_text_mark
-returns-then-is_text_mark c = sym (text_mark_first c.args.rest.now c.requires.some (sym c.is_text_mark.ensures ∙ c.if-is_text_mark.true))
