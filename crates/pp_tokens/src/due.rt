@@ -1,5 +1,5 @@
 // Whether a header name is due behind the tokens of a logical line so far (ISO C 6.4.7, 6.10.1, 6.10.2).
-ghost use Rattle.std.specs.Prelude.{◌≡◌};
+ghost use Rattle.std.specs.Prelude.{◌≡◌, bytes_eq};
 ghost use Rattle.pp_tokens.specs.Lines.{spells_hash};
 ghost use Rattle.pp_tokens.specs.parts.Text.{after_word, is_due};
 
@@ -57,7 +57,7 @@ fn after_hashed(before: Before, word: &[u8]) -> Before
         Before::Include => Before::Other,
         Before::Condition => after_condition(word),
         Before::Probe => {
-            if word == b"(".as_slice() {
+            if spells(word, b"(") {
                 Before::Probed
             } else {
                 after_condition(word)
@@ -91,13 +91,21 @@ fn after_nothing(word: &[u8]) -> Before
     }
 }
 
+// Whether a word is this one. Most words aren't even as long.
+#[inline(always)]
+fn spells(word: &[u8], wanted: &[u8]) -> bool
+    ensures { result ≡ bytes_eq word.now wanted.now }
+{
+    word.len() == wanted.len() && word == wanted
+}
+
 #[tactic(auto, unfolding(crate::specs::parts::Text::after_word))]
 fn after_hash(word: &[u8]) -> Before
     ensures { result ≡ after_word Before.Hash word.now }
 {
-    if word == b"include".as_slice() || word == b"include_next".as_slice() {
+    if spells(word, b"include") || spells(word, b"include_next") {
         Before::Include
-    } else if word == b"if".as_slice() || word == b"elif".as_slice() {
+    } else if spells(word, b"if") || spells(word, b"elif") {
         Before::Condition
     } else {
         Before::Other
@@ -108,7 +116,7 @@ fn after_hash(word: &[u8]) -> Before
 fn after_condition(word: &[u8]) -> Before
     ensures { result ≡ after_word Before.Condition word.now }
 {
-    if word == b"__has_include".as_slice() {
+    if spells(word, b"__has_include") {
         Before::Probe
     } else {
         Before::Condition
