@@ -268,6 +268,7 @@ pub fn newlines(what: What, part: &[u8]) -> usize
 }
 
 // What is gathered of a whole text.
+#[inline(never)]
 fn gather(alloc: Global, text: &[u8], splices: &[u32]) -> Result<Gathering, AllocError>
     requires small { length text.now + length splices.now ≤ body_limit + 1 }
     requires rising { Rising 0 splices.now }
@@ -318,6 +319,7 @@ pub fn lex(alloc: Global, body: &[u8], trigraphs: bool) -> Result<Lexed, AllocEr
 }
 
 // What is gathered of a whole text's directives alone.
+#[inline(never)]
 fn gather_directives(alloc: Global, text: &[u8], splices: &[u32]) -> Result<Gathering, AllocError>
     requires small { length text.now + length splices.now ≤ body_limit + 1 }
     requires rising { Rising 0 splices.now }

@@ -54,6 +54,7 @@ fn ordinary_at(text: &[u8], at: usize) -> usize
 
 /// The end of a line of text, from a place behind its first token on, with the physical line of that place and the splices
 /// that are known to stand before it.
+#[inline(never)]
 pub fn line_end(
     text: &[u8],
     splices: &[u32],
