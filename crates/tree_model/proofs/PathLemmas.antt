@@ -1,5 +1,5 @@
 -- Canonical paths and their spellings.
-use Rattle.std.proofs.Common.{inl, inr, ◌≡◌, ℕ, zero, suc, ◌+◌, ◌-◌, ◌≤◌, ◌<◌, List, [], ◌∷◌, ◌++◌, length, reverse, refl, sym, ◌∙◌, ap, subst, Bool, true, false, cond, not, ◌&&◌, nat_lt, nat_le, nat_eq, arith, ◌==◌, filter, length-append, append_assoc, get_or, take, drop, max, Some, None, IsTrue}
+use Rattle.std.proofs.Common.{inl, inr, ◌≡◌, ℕ, zero, suc, ◌+◌, ◌-◌, ◌≤◌, ◌<◌, List, [], ◌∷◌, ◌++◌, length, reverse, refl, sym, ◌∙◌, ap, subst, Bool, true, false, cond, not, ◌&&◌, ◌||◌, nat_lt, nat_le, nat_eq, arith, ◌==◌, ◌⊎◌, filter, length-append, append_assoc, get_or, take, drop, max, Some, None, IsTrue}
 use Rattle.std.specs.Prelude.{Result, IfOk}
 use Rattle.std.specs.declared.alloc.AllocError.{AllocError}
 use Rattle.std.specs.List.{slice_split, onto_first, AllByRecursion, list_all}
@@ -384,19 +384,87 @@ names_turn text start i order within at plain =
     ap (list_all is_name) (first_part (drop start text) (i - start) far here plain)
     ∙ ap (λ (t : Text). is_name (take (i - start) (drop start text)) && list_all is_name (parts_of t)) (drop-drop (suc (i - start)) start text ∙ ap (λ (n : ℕ). drop n text) next)
 
-pub plain_none : (text : Text) (i : ℕ) → list_all is_part_byte (take (i - i) text) ≡ true
+pub plain_none : (text : Text) (i : ℕ) → list_all is_file_name_byte (take (i - i) text) ≡ true
 plain_none text i = let none : i - i ≡ 0 = omega arith in rw none refl
 
-pub plain_turn : (text : Text) (start i : ℕ) → start ≤ i → i < length text → (get_or text i 0 ≡ slash → ⊥) → list_all is_part_byte (take (i - start) (drop start text)) ≡ true
-    → list_all is_part_byte (take (i + 1 - start) (drop start text)) ≡ true
-plain_turn text start i order within at plain =
+-- a byte of the rest of a text
+rest_byte : (text : Text) (start i b : ℕ) → start ≤ i → (get_or text i 0 ≡ b → ⊥) → (get_or (drop start text) (i - start) 0 == b) ≡ false
+rest_byte text start i b order at =
     let left : start + (i - start) ≡ i = omega arith in
+    false_from_ne_true _ (λ t. at (sym (get_or-drop start text (i - start) 0 ∙ ap (λ (n : ℕ). get_or text n 0) left) ∙ eqb-true _ b t))
+
+pub plain_turn : (text : Text) (start i : ℕ) → start ≤ i → i < length text → (get_or text i 0 ≡ slash → ⊥) → (get_or text i 0 ≡ 0 → ⊥)
+    → list_all is_file_name_byte (take (i - start) (drop start text)) ≡ true → list_all is_file_name_byte (take (i + 1 - start) (drop start text)) ≡ true
+plain_turn text start i order within at none plain =
     let next : i + 1 - start ≡ (i - start) + 1 = omega arith in
     let far : i - start < length (drop start text) = omega (arith, length-drop start text) in
-    let here : (get_or (drop start text) (i - start) 0 == slash) ≡ false = false_from_ne_true _ (λ t. at (sym (get_or-drop start text (i - start) 0 ∙ ap (λ (n : ℕ). get_or text n 0) left) ∙ eqb-true _ slash t)) in
-    ap (λ (n : ℕ). list_all is_part_byte (take n (drop start text))) next
-    ∙ list_all_more is_part_byte (drop start text) (i - start) 0 far
-    ∙ and_from _ _ plain (not_from_false _ here)
+    ap (λ (n : ℕ). list_all is_file_name_byte (take n (drop start text))) next
+    ∙ list_all_more is_file_name_byte (drop start text) (i - start) 0 far
+    ∙ and_from _ _ plain (and_from _ _ (not_from_false _ (rest_byte text start i slash order at)) (not_from_false _ (rest_byte text start i 0 order none)))
+
+-- what may stand in a name is no slash
+pub part_bytes : (text : Text) → list_all is_file_name_byte text ≡ true → list_all is_part_byte text ≡ true
+part_bytes [] h = refl
+part_bytes (x ∷ text) h =
+    let pair = and_parts (is_file_name_byte x) (list_all is_file_name_byte text) h in
+    and_from _ _ (and_parts (is_part_byte x) (not (x == 0)) pair.0).0 (part_bytes text pair.1)
+
+-- the first part has a byte that may not stand in a name
+abbrev BadFirst : List Text → Type 0
+BadFirst parts = (part : Text) × ((rest : List Text) × ((parts ≡ part ∷ rest) × (list_all is_file_name_byte part ≡ false)))
+
+onto_bad : (x : ℕ) (parts : List Text) → BadFirst parts → BadFirst (onto_first x parts)
+onto_bad x parts (part, (rest, (is, bad))) = (
+  x ∷ part,
+  (rest, (ap (onto_first x) is, false_from_ne_true _ (λ t. let no : list_all is_file_name_byte part ≡ true = (and_parts (is_file_name_byte x) _ t).1 in let clash : true ≡ false = sym no ∙ bad in cc))),
+)
+
+onto_zero : (parts : List Text) → BadFirst (onto_first 0 parts)
+onto_zero [] = (0 ∷ [], ([], (refl, refl)))
+onto_zero (part ∷ rest) = (0 ∷ part, (rest, (refl, refl)))
+
+zero_part : (text : Text) (k : ℕ) → k < length text → get_or text k 0 ≡ 0 → list_all is_part_byte (take k text) ≡ true → BadFirst (parts_of text)
+zero_part [] k far at plain = absurd (omega arith)
+zero_part (x ∷ text) zero far at plain = subst (λ (b : ℕ). BadFirst (parts_of (b ∷ text))) (sym at) (onto_zero (parts_of text))
+zero_part (x ∷ text) (suc k) far at plain =
+    let pair = and_parts (is_part_byte x) _ plain in
+    let e : (x == slash) ≡ false = not-true (x == slash) pair.0 in
+    rw e (onto_bad x (parts_of text) (zero_part text k (omega arith) at pair.1))
+
+bad_names : (parts : List Text) → BadFirst parts → false ≡ list_all is_name parts
+bad_names parts (part, (rest, (is, bad))) = sym (ap (list_all is_name) is ∙ false_from_ne_true _ (λ t.
+    let n = and_parts (is_name part) (list_all is_name rest) t in
+    let a = and_parts (nat_lt 0 (length part)) _ n.0 in
+    let b = and_parts (nat_le (length part) 255) _ a.1 in
+    let d = and_parts (list_all is_file_name_byte part) (not (is_dots part)) b.1 in
+    let clash : true ≡ false = sym d.0 ∙ bad in
+    cc))
+
+-- a byte 0 behind bytes that may stand in a name
+pub zero_turn : (text : Text) (start i : ℕ) → start ≤ i → i < length text → get_or text i 0 ≡ 0 → list_all is_file_name_byte (take (i - start) (drop start text)) ≡ true
+    → false ≡ list_all is_name (parts_of (drop start text))
+zero_turn text start i order within at plain =
+    let left : start + (i - start) ≡ i = omega arith in
+    let far : i - start < length (drop start text) = omega (arith, length-drop start text) in
+    let here : get_or (drop start text) (i - start) 0 ≡ 0 = get_or-drop start text (i - start) 0 ∙ ap (λ (n : ℕ). get_or text n 0) left ∙ at in
+    bad_names (parts_of (drop start text)) (zero_part (drop start text) (i - start) far here (part_bytes (take (i - start) (drop start text)) plain))
+
+-- a text of more than two bytes is neither `.` nor `..`
+pub long_dots : (text : Text) → 2 < length text → is_dots text ≡ false
+long_dots [] long = absurd (omega arith)
+long_dots (x ∷ []) long = absurd (omega arith)
+long_dots (x ∷ y ∷ []) long = absurd (omega arith)
+long_dots (x ∷ y ∷ z ∷ text) long = go (nat_eq x dot) (nat_eq y dot)
+  where
+    go : (a b : Bool) → ((a && false) || (a && (b && false))) ≡ false
+    go false b = refl
+    go true false = refl
+    go true true = refl
+
+-- the last part, at the end of the text
+pub plain_end : (text : Text) (start i : ℕ) → length text ≤ i → list_all is_file_name_byte (take (i - start) (drop start text)) ≡ true → list_all is_file_name_byte (drop start text) ≡ true
+plain_end text start i past plain =
+    ap (list_all is_file_name_byte) (sym (take_all (i - start) (drop start text) (omega (arith, length-drop start text)))) ∙ plain
 
 one_part : (text : Text) → list_all is_part_byte text ≡ true → parts_of text ≡ text ∷ []
 one_part [] h = refl

@@ -57,6 +57,9 @@ fn are_name_bytes(text: &[u8]) -> bool
 fn is_dots(text: &[u8]) -> bool
     ensures { result ≡ paths.is_dots text.now }
 {
+    if text.len() > 2 {
+        return false;
+    }
     text == b".".as_slice() || text == b"..".as_slice()
 }
 
@@ -67,6 +70,14 @@ fn is_name(text: &[u8]) -> bool
     0 < text.len() && text.len() <= NAME_LIMIT && are_name_bytes(text) && !is_dots(text)
 }
 
+// A part whose bytes may all stand in a name is one.
+fn is_part_name(part: &[u8]) -> bool
+    requires { IsTrue (list_all paths.is_file_name_byte part.now) }
+    ensures { result ≡ paths.is_name part.now }
+{
+    0 < part.len() && part.len() <= NAME_LIMIT && !is_dots(part)
+}
+
 // The parts of a text between its slashes are names.
 fn are_names(text: &[u8]) -> bool
     ensures { result ≡ list_all paths.is_name (slice_split (λ b. b == slash) text.now) }
@@ -74,13 +85,15 @@ fn are_names(text: &[u8]) -> bool
     let mut start = 0usize;
     for (i, b) in text.iter().enumerate() {
         if *b == b'/' {
-            if !is_name(&text[start..i]) {
+            if !is_part_name(&text[start..i]) {
                 return false;
             }
             start = i + 1;
+        } else if *b == 0 {
+            return false;
         }
     }
-    is_name(&text[start..])
+    is_part_name(&text[start..])
 }
 
 // A text spells a canonical path.
