@@ -1,5 +1,6 @@
 -- Pending tokens as lists.
-use Rattle.std.proofs.Common.{◌≡◌, ℕ, zero, suc, ◌+◌, ◌≤◌, Bool, false, List, [], ◌∷◌, map, drop, Option, Some, None, refl, ap, sym, ◌∙◌, slice_get, MatchOption, arith}
+use Rattle.std.proofs.Common.{◌≡◌, ℕ, zero, suc, ◌+◌, ◌-◌, ◌≤◌, Bool, false, List, [], ◌∷◌, ◌++◌, map, drop, length, reverse, Option, Some, None, option_to_list, refl, ap, sym, ◌∙◌, slice_get, MatchOption, arith}
+use Rattle.std.proofs.lemmas.List.{nil_from_length, length-append, reverse-append}
 use Rattle.std.specs.Option.{option_map, option_map_or}
 use Rattle.pp_tokens.specs.declared.token.Token.{Token}
 use Rattle.pp_tokens.specs.declared.token.TokenRef.{TokenRef}
@@ -49,3 +50,23 @@ begins_otherwise (m ∷ ts) t is other =
     let same : t ≡ m.token = cc in
     let closed : is_open m.token ≡ false = ap is_open (sym same) ∙ other in
     rw closed refl
+
+last_of : {A : Type 0} (ys : List A) (x : A) → slice_get (ys ++ x ∷ []) (length ys) ≡ Some x
+last_of [] x = refl
+last_of (y ∷ ys) x = last_of ys x
+
+-- what is taken from the end, where it was seen before, is the first of the reverse
+pub last_taken : {A : Type 0} (xs ys : List A) (o : Option A) (n k : ℕ) (m : A) → Some m ≡ slice_get xs (length xs - 1) → xs ≡ ys ++ option_to_list o → n ≡ length xs →
+    MatchOption o ((n ≡ 0) × (k ≡ 0)) (λ _. k + 1 ≡ n) → reverse xs ≡ m ∷ reverse ys
+last_taken xs ys None n k m seen taken same none =
+    let empty : xs ≡ [] = nil_from_length xs (sym same ∙ none.0) in
+    absurd (some_is_not_none m (seen ∙ ap (λ l. slice_get l (length xs - 1)) empty))
+  where
+    some_is_not_none : {A : Type 0} (m : A) → Some m ≡ None → ⊥
+    some_is_not_none m e = absurd (cc)
+last_taken xs ys (Some x) n k m seen taken same some =
+    let longer : length xs ≡ length ys + 1 = ap length taken ∙ length-append ys (x ∷ []) in
+    let before : length xs - 1 ≡ length ys = omega (arith, longer) in
+    let is : Some m ≡ Some x = seen ∙ ap (slice_get xs) before ∙ ap (λ l. slice_get l (length ys)) taken ∙ last_of ys x in
+    let m_is : m ≡ x = cc in
+    ap reverse taken ∙ reverse-append ys (x ∷ []) ∙ ap (λ a. a ∷ reverse ys) (sym m_is)

@@ -189,9 +189,10 @@ module _ (table : Table) (mode : Mode) where
 pub lent_first : (entries : TableEntries) (s : TablePlace) (mode : Mode) (ready pending later : List Kept) (t : Token) → ready ≡ [] → TakesUntouched (lookup entries) mode t pending later →
     (units : ℕ) → given_before (map kept_token ready) (given (expanded_by (lookup entries) (place_of s.here.now) mode 0 units (map marked_of pending)))
     ≡ given_before (t ∷ []) (given_before (map kept_token ready) (given (expanded_by (lookup entries) (place_of s.here.now) mode 0 units (map marked_of later))))
-lent_first entries s mode ready pending later t none taken units =
-    stream_turn (lookup entries) (λ (p : TablePlace). place_of p.here.now) mode s s units units pending (kept_plain t ∷ []) later ready (kept_plain t ∷ []) none refl
-    (stays_turn (lookup entries) mode s s units units pending pending later [] (kept_plain t) (sym (before-nothing _)) taken.0 refl taken.1)
+lent_first entries s mode ready pending later t none (m, (same, (is, stays))) units =
+    stream_turn (lookup entries) (λ (p : TablePlace). place_of p.here.now) mode s s units units pending (m ∷ []) later ready (m ∷ []) none refl
+    (stays_turn (lookup entries) mode s s units units pending pending later [] m (sym (before-nothing _)) is refl stays)
+    ∙ ap (λ (x : Token). given_before (x ∷ []) (given (expanded_by (lookup entries) (place_of s.here.now) mode 0 units (map marked_of later)))) same
     ∙ ap (given_before (t ∷ []))
     (sym
     (ap (λ (l : List Kept). given_before (map kept_token l) (given (expanded_by (lookup entries) (place_of s.here.now) mode 0 units (map marked_of later)))) none

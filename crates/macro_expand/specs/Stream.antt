@@ -15,7 +15,7 @@ use Rattle.macro_expand.specs.declared.answers.TablePlace.{TablePlace}
 use Rattle.macro_expand.specs.declared.marked.Role.TheVariants.{Name, Ordinary}
 use Rattle.macro_expand.specs.Expansion.{Expanded, Table, expanded_by, head_role}
 use Rattle.macro_expand.specs.Answered.{before, expanded_for, table_answerer}
-use Rattle.macro_expand.specs.Seen.{marked_of, kept_plain, kept_token, place_of}
+use Rattle.macro_expand.specs.Seen.{marked_of, kept_token, place_of}
 
 -- tokens, whatever their hide sets, and the units of work left
 pub record Given : Type 0 where
@@ -85,9 +85,9 @@ StaysAsItIs table mode t rest =
     (head_role mode (marked_of t) (map marked_of rest) ≡ Ordinary)
     ⊎ ((head_role mode (marked_of t) (map marked_of rest) ≡ Name) × (table t.token.text ≡ None))
 
--- a token with no hidden name is taken from the front of what is pending, and is put out as it is
+-- a token, whatever its hide set, is taken from the front of what is pending, and is put out as it is
 abbrev pub TakesUntouched : Table → Mode → Token → List Kept → List Kept → Type 0
-TakesUntouched table mode t old new = (old ≡ kept_plain t ∷ new) × StaysAsItIs table mode (kept_plain t) new
+TakesUntouched table mode t old new = (m : Kept) × ((kept_token m ≡ t) × ((old ≡ m ∷ new) × StaysAsItIs table mode m new))
 
 -- these pending tokens become those that were put out, before what the later ones become
 abbrev pub Becomes : Table → TablePlace → Mode → ℕ → List Kept → List Kept → TablePlace → ℕ → List Kept → Type 0

@@ -125,8 +125,7 @@ fn expand_argument<'s, S, A: Answers<S>>(
     if !have_identifier(&argument) {
         return Ok(argument);
     }
-    let given = VecDeque::from_vec(argument);
-    expand_list(alloc, source, answers, mode, depth + 1, given, work)
+    expand_list(alloc, source, answers, mode, depth + 1, argument, work)
 }
 
 // The arguments of a call of `t`, expanded by themselves where their parameters stand alone; for the others no tokens.
@@ -302,7 +301,7 @@ fn expand_list<'s, S, A: Answers<S>>(
     answers: &mut A,
     mode: Mode,
     depth: u32,
-    given: VecDeque<Marked<'s>>,
+    given: Vec<Marked<'s>>,
     work: &mut Work,
 ) -> Result<Vec<Marked<'s>>, RunError>
     requires { depth ≤ argument_depth_limit }

@@ -1,5 +1,5 @@
 // The tokens that are still to be expanded.
-ghost use Rattle.std.specs.Prelude.{◌≡◌, ◌+◌, ◌≤◌, ◌++◌, ◌∷◌, [], List, map, length, slice_get, Some, None, OnOk, IfErr, IsTrue, IsFalse, IsNone, IfSome, MatchOption};
+ghost use Rattle.std.specs.Prelude.{◌≡◌, ◌+◌, ◌≤◌, ◌++◌, ◌∷◌, [], List, map, length, reverse, slice_get, Some, None, OnOk, IfErr, IsTrue, IsFalse, IsNone, IfSome, MatchOption};
 ghost use Rattle.std.specs.Option.{option_map};
 ghost use Rattle.pp_tokens.specs.Tokens.{token_seen};
 ghost use Rattle.macro_defs.specs.Table.{lookup};
@@ -15,25 +15,24 @@ use crate::run::Run;
 use macro_defs::MacroTable;
 use pp_tokens::{TokenCow, TokenRef};
 use std::alloc::Global;
-use std::collections::VecDeque;
 use std::marker::Model;
 
-// What was put in, and what is left of the run behind it, which is read where it stands.
+// What was put in, the last token first, and what is left of the run behind it, which is read where it stands.
 #[derive(Drop)]
 pub(crate) struct Pending<'a> {
-    made: VecDeque<Marked<'a>>,
+    made: Vec<Marked<'a>>,
     run: Run<'a>,
 }
 
 impl<'a> Model for Pending<'a> {
-    ghost use Rattle.std.specs.Prelude.{List, map, ◌++◌};
+    ghost use Rattle.std.specs.Prelude.{List, map, reverse, ◌++◌};
     ghost use Rattle.macro_expand.specs.declared.marked.Marked.{Marked};
     ghost use Rattle.macro_expand.specs.parts.Pending.{run_tokens};
     ghost use Rattle.macro_expand.specs.Seen.{kept_plain};
 
     ghost Value = { List Marked };
 
-    ghost view = { λ p. p.made.items ++ map kept_plain (run_tokens p.run) };
+    ghost view = { λ p. reverse p.made.items ++ map kept_plain (run_tokens p.run) };
 }
 
 impl<'a> Pending<'a> {
@@ -42,14 +41,15 @@ impl<'a> Pending<'a> {
         ensures { result ≡ map kept_plain (run_tokens run.entry) }
     {
         Pending {
-            made: VecDeque::new(alloc),
+            made: Vec::new(alloc),
             run,
         }
     }
 
-    pub(crate) fn of(made: VecDeque<Marked<'a>>) -> Pending<'a>
+    pub(crate) fn of(mut made: Vec<Marked<'a>>) -> Pending<'a>
         ensures { result ≡ made.entry.items }
     {
+        made.reverse();
         Pending {
             made,
             run: Run::Listed(&[]),
@@ -61,21 +61,21 @@ impl<'a> Pending<'a> {
         ensures first { MatchOption result ((self.old ≡ []) × (self.new ≡ [])) (λ t. self.old ≡ t ∷ self.new) }
         ensures len { IfSome result (λ t. length self.new + 1 ≡ length self.old) }
     {
-        if let Some(t) = self.made.pop_front() {
+        if let Some(t) = pop_first(&mut self.made) {
             return Some(t);
         }
         let token = self.run.next()?;
         Some(Marked::plain(TokenCow::lent(token)))
     }
 
-    // Takes the first token where it is one of the run that no macro touches; else nothing changes.
+    // Takes the first token where its spelling is lent and no macro touches it; else nothing changes.
     #[inline(always)]
     pub(crate) fn take_untouched(&mut self, table: &MacroTable, mode: Mode) -> Option<TokenRef<'a>>
         ensures taken { IfSome result (λ t. TakesUntouched (lookup table.now) mode (token_seen t) self.old self.new) }
         ensures none { IsNone result → self.new ≡ self.old }
     {
-        if !self.made.is_empty() {
-            return None;
+        if !has_none(&self.made) {
+            return take_made(&mut self.made, table, mode);
         }
         let mut behind = self.run;
         let token = behind.next()?;
@@ -90,10 +90,11 @@ impl<'a> Pending<'a> {
     pub(crate) fn get(&self, place: usize) -> Option<TokenRef<'_>>
         ensures { option_map token_seen result ≡ option_map kept_token (slice_get self.now place) }
     {
-        if let Some(t) = self.made.get(place) {
-            return Some(t.token.as_ref());
+        let count = self.made.len();
+        if place < count {
+            return Some(self.made[count - 1 - place].token.as_ref());
         }
-        self.run.get(place - self.made.len())
+        self.run.get(place - count)
     }
 
     // Takes the `(` that the tokens begin with.
@@ -123,11 +124,12 @@ impl<'a> Pending<'a> {
     }
 }
 
-// Whether a token of a run is put out as it is under a table, whatever stands behind it. It isn't known of `defined` in a condition.
+// Whether a token is put out as it is under a table, whatever its hide set and what stands behind it. It isn't known of `defined`
+// in a condition.
 #[tactic(auto, unfolding(crate::specs::Expansion::head_role))]
 #[inline(always)]
 fn is_untouched(table: &MacroTable, mode: Mode, t: &TokenRef) -> bool
-    ensures { IsTrue result → ((rest : List Kept) → StaysAsItIs (lookup table.now) mode (kept_plain (token_seen t.now)) rest) }
+    ensures { IsTrue result → ((m : Kept) (rest : List Kept) → m.token ≡ token_seen t.now → StaysAsItIs (lookup table.now) mode m rest) }
 {
     if !t.is_identifier() {
         return true;
@@ -141,19 +143,47 @@ fn is_untouched(table: &MacroTable, mode: Mode, t: &TokenRef) -> bool
     table.get(t.text).is_none()
 }
 
+// Whether no token that was put in is left.
+#[inline(always)]
+fn has_none(made: &Vec<Marked>) -> bool
+    ensures { IsTrue result → made.now.items ≡ [] }
+{
+    made.is_empty()
+}
+
+// Takes the first of the tokens that were put in where its spelling is lent and no macro touches it; else nothing changes.
+fn take_made<'a>(made: &mut Vec<Marked<'a>>, table: &MacroTable, mode: Mode) -> Option<TokenRef<'a>>
+    ensures taken { IfSome result (λ t. (rest : List Kept) → TakesUntouched (lookup table.now) mode (token_seen t) (reverse made.old.items ++ rest) (reverse made.new.items ++ rest)) }
+    ensures none { IsNone result → made.new.items ≡ made.old.items }
+{
+    let token = made.last()?.token.as_lent()?;
+    if !is_untouched(table, mode, &token) {
+        return None;
+    }
+    made.pop();
+    Some(token)
+}
+
+// Takes the first of the tokens that were put in.
+#[inline(always)]
+fn pop_first<'a>(made: &mut Vec<Marked<'a>>) -> Option<Marked<'a>>
+    ensures { MatchOption result ((made.old.items ≡ []) × (made.new.items ≡ [])) (λ t. reverse made.old.items ≡ t ∷ reverse made.new.items) }
+{
+    made.pop()
+}
+
 // Puts tokens before others.
-fn put_before<'a>(
-    pending: &mut VecDeque<Marked<'a>>,
-    mut made: Vec<Marked<'a>>,
-) -> Result<(), RunError>
-    ensures ok { OnOk result (pending.new.items ≡ made.entry.items ++ pending.old.items) }
+fn put_before<'a>(pending: &mut Vec<Marked<'a>>, mut made: Vec<Marked<'a>>) -> Result<(), RunError>
+    ensures ok { OnOk result (reverse pending.new.items ≡ made.entry.items ++ reverse pending.old.items) }
     ensures err { IfErr result (λ e. e ≡ RunError.Memory) }
 {
-    while let Some(t) = made.pop() {
-        match pending.push_front(t) {
-            Ok(()) => {}
-            Err(_) => return Err(RunError::Memory),
-        }
+    made.reverse();
+    if pending.is_empty() {
+        *pending = made;
+        return Ok(());
     }
-    Ok(())
+    match pending.append(&mut made) {
+        Ok(()) => Ok(()),
+        Err(_) => Err(RunError::Memory),
+    }
 }

@@ -117,7 +117,7 @@ impl<'a> Expander<'a> {
         }
     }
 
-    /// The next token, where it stands in the run and no macro touches it: `next` would give the same one, and leave the same. It takes no
+    /// The next token, where its spelling is lent and no macro touches it: `next` would give the same one, and leave the same. It takes no
     /// memory and no unit of work. `None` leaves everything as it is, and doesn't tell whether a token is to come.
     #[inline(always)]
     pub fn lend(&mut self) -> Option<TokenRef<'a>>
@@ -155,12 +155,15 @@ impl<'a> Expander<'a> {
         }
     }
 
-    // The first token that is ready.
+    // The first token that is ready, or that no macro touches.
     fn first(&mut self) -> Option<TokenCow<'a>>
         ensures first { IfSome result (λ t. FirstReady t self.old self.new) }
         ensures none { IsNone result → (self.old.ready ≡ []) × (self.new ≡ self.old) }
         ensures same { self.new.standing ≡ self.old.standing }
     {
+        if let Some(t) = self.lend() {
+            return Some(TokenCow::lent(t));
+        }
         match self.ready.pop() {
             None => None,
             Some(m) => Some(m.bare()),

@@ -1,5 +1,5 @@
 // A preprocessing token whose spelling is lent or owned.
-ghost use Rattle.std.specs.Prelude.{◌≡◌, IfOk};
+ghost use Rattle.std.specs.Prelude.{◌≡◌, IfOk, IfSome};
 ghost use Rattle.pp_tokens.specs.Marks.{is_identifier, is_literal, is_mark};
 ghost use Rattle.pp_tokens.specs.Tokens.{token_seen, bytes_of_spelling};
 
@@ -96,6 +96,22 @@ impl<'a> TokenCow<'a> {
             text: self.text(),
             line: self.line,
             space: self.space,
+        }
+    }
+
+    /// The token, lent by the text that its spelling stands in; none where it has a spelling of its own.
+    #[inline(always)]
+    pub fn as_lent(&self) -> Option<TokenRef<'a>>
+        ensures { IfSome result (λ t. token_seen t ≡ self.now) }
+    {
+        match &self.spelling {
+            Spelling::Lent(text) => Some(TokenRef {
+                kind: self.kind,
+                text,
+                line: self.line,
+                space: self.space,
+            }),
+            Spelling::Owned(_) => None,
         }
     }
 

@@ -1,4 +1,4 @@
-use Rattle.std.proofs.Common.{List, map, length, ◌∷◌, ap, sym, ◌∙◌, arith}
+use Rattle.std.proofs.Common.{List, map, length, ◌∷◌, refl, ap, sym, ◌∙◌, arith}
 use Rattle.std.proofs.lemmas.List.{nil_from_length}
 use Rattle.std.proofs.lemmas.Result.{err_from_is_err_and}
 use Rattle.macro_expand.specs.Answered.{expanded_for, arguments_for}
@@ -29,13 +29,13 @@ expand_argument-returns-then-not-have_identifier-clause-ok g t c =
 pub expand_argument-returns-clause-ok : goal.expand_argument-returns-clause-ok
 expand_argument-returns-clause-ok g t c =
     argument_made (g.A.Answers.answerer c.args.source.now) c.args.answers.now c.args.mode c.args.depth c.args.work.now.left c.args.t.now.token c.args.alone c.args.argument.items
-    c.if-not-alone.false c.if-depth-ge-ARGUMENT_DEPTH_LIMIT.false c.from_vec-given.result.items c.from_vec-given.ensures.items c.expand_list.new.answers
+    c.if-not-alone.false c.if-depth-ge-ARGUMENT_DEPTH_LIMIT.false c.args.argument.items refl c.expand_list.new.answers
     c.expand_list.new.work.left c.expand_list.result c.expand_list.ensures.ok
 
 pub expand_argument-returns-clause-err : goal.expand_argument-returns-clause-err
 expand_argument-returns-clause-err g t c =
     argument_fails (g.A.Answers.answerer c.args.source.now) c.args.answers.now c.args.mode c.args.depth c.args.work.now.left c.args.t.now.token c.args.alone c.args.argument.items
-    c.if-not-alone.false c.if-depth-ge-ARGUMENT_DEPTH_LIMIT.false c.from_vec-given.result.items c.from_vec-given.ensures.items c.expand_list.new.answers
+    c.if-not-alone.false c.if-depth-ge-ARGUMENT_DEPTH_LIMIT.false c.args.argument.items refl c.expand_list.new.answers
     c.expand_list.new.work.left c.expand_list.result c.expand_list.ensures.err
 
 pub expand_arguments-loop-argument-init : goal.expand_arguments-loop-argument-init
