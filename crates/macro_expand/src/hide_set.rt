@@ -40,7 +40,7 @@ enum Trie {
 #[cycle(trie)]
 #[derive(Drop)]
 struct Node {
-    name: Rc<Bytes>,
+    name: Bytes,
     hash: u64,
     zero: Trie,
     one: Trie,
@@ -113,10 +113,9 @@ impl HideSet {
     pub(crate) fn with(&self, alloc: Global, name: &[u8]) -> Result<HideSet, AllocError>
         ensures { IfOk result (λ h. (n : List ℕ) → names_in h n ≡ (bytes_eq n name.now || names_in self.now n)) }
     {
-        let kept = Rc::new(alloc, Bytes::copy_of(alloc, name)?)?;
         let hash = hash_of(name);
         Ok(HideSet {
-            names: added(alloc, &self.names, &kept, hash, hash)?,
+            names: added(alloc, &self.names, name, hash, hash)?,
             count: self.count.saturating_add(1),
         })
     }
@@ -201,7 +200,7 @@ fn finds(trie: &Trie, name: &[u8], hash: u64, key: u64) -> bool
     let Trie::Fork(node) = trie else {
         return false;
     };
-    if is_same_name(name, hash, &node.name, node.hash) {
+    if is_same_name(name, hash, node.name.as_slice(), node.hash) {
         return true;
     }
     if key % 2 == 0 {
@@ -211,10 +210,10 @@ fn finds(trie: &Trie, name: &[u8], hash: u64, key: u64) -> bool
 }
 
 // Whether two names with their hashes are the same.
-fn is_same_name(name: &[u8], hash: u64, other: &Rc<Bytes>, other_hash: u64) -> bool
-    ensures { result ≡ tries.is_same_name name.now hash other.now.value other_hash }
+fn is_same_name(name: &[u8], hash: u64, other: &[u8], other_hash: u64) -> bool
+    ensures { result ≡ tries.is_same_name name.now hash other.now other_hash }
 {
-    hash == other_hash && name == other.as_slice()
+    hash == other_hash && name == other
 }
 
 // The same trie, shared.
@@ -227,17 +226,11 @@ fn shared(trie: &Trie) -> Result<Trie, AllocError>
     }
 }
 
-fn fork(
-    alloc: Global,
-    name: &Rc<Bytes>,
-    hash: u64,
-    zero: Trie,
-    one: Trie,
-) -> Result<Trie, AllocError>
-    ensures { IfOk result (λ t. trie_of t ≡ Branch name.now.value hash (trie_of zero) (trie_of one)) }
+fn fork(alloc: Global, name: &[u8], hash: u64, zero: Trie, one: Trie) -> Result<Trie, AllocError>
+    ensures { IfOk result (λ t. trie_of t ≡ Branch name.now hash (trie_of zero) (trie_of one)) }
 {
     let node = Node {
-        name: name.clone()?,
+        name: Bytes::copy_of(alloc, name)?,
         hash,
         zero,
         one,
@@ -246,32 +239,38 @@ fn fork(
 }
 
 // The trie with one more name. The nodes on the way to it are new, and the others are shared.
-fn added(
-    alloc: Global,
-    trie: &Trie,
-    name: &Rc<Bytes>,
-    hash: u64,
-    key: u64,
-) -> Result<Trie, AllocError>
-    ensures { IfOk result (λ t. trie_of t ≡ with_leaf name.now.value hash key (trie_of trie.now)) }
+fn added(alloc: Global, trie: &Trie, name: &[u8], hash: u64, key: u64) -> Result<Trie, AllocError>
+    ensures { IfOk result (λ t. trie_of t ≡ with_leaf name.now hash key (trie_of trie.now)) }
 {
     let Trie::Fork(node) = trie else {
         return fork(alloc, name, hash, Trie::Empty, Trie::Empty);
     };
-    if is_same_name(name.as_slice(), hash, &node.name, node.hash) {
+    if is_same_name(name, hash, node.name.as_slice(), node.hash) {
         return shared(trie);
     }
     if key % 2 == 0 {
         let zero = added(alloc, &node.zero, name, hash, key / 2)?;
-        return fork(alloc, &node.name, node.hash, zero, shared(&node.one)?);
+        return fork(
+            alloc,
+            node.name.as_slice(),
+            node.hash,
+            zero,
+            shared(&node.one)?,
+        );
     }
     let one = added(alloc, &node.one, name, hash, key / 2)?;
-    fork(alloc, &node.name, node.hash, shared(&node.zero)?, one)
+    fork(
+        alloc,
+        node.name.as_slice(),
+        node.hash,
+        shared(&node.zero)?,
+        one,
+    )
 }
 
 // The set with one more name, which it doesn't have.
-fn grown(alloc: Global, set: Growing, name: &Rc<Bytes>, hash: u64) -> Result<Growing, AllocError>
-    ensures { IfOk result (λ s. trie_of s.names ≡ with_leaf name.now.value hash hash (trie_of set.names)) }
+fn grown(alloc: Global, set: Growing, name: &[u8], hash: u64) -> Result<Growing, AllocError>
+    ensures { IfOk result (λ s. trie_of s.names ≡ with_leaf name.now hash hash (trie_of set.names)) }
 {
     Ok(Growing {
         names: added(alloc, &set.names, name, hash, hash)?,
@@ -280,15 +279,10 @@ fn grown(alloc: Global, set: Growing, name: &Rc<Bytes>, hash: u64) -> Result<Gro
 }
 
 // The set with a name that it may have.
-fn newly_added(
-    alloc: Global,
-    set: Growing,
-    name: &Rc<Bytes>,
-    hash: u64,
-) -> Result<Growing, AllocError>
-    ensures { IfOk result (λ s. trie_of s.names ≡ tries.with_new name.now.value hash (trie_of set.names)) }
+fn newly_added(alloc: Global, set: Growing, name: &[u8], hash: u64) -> Result<Growing, AllocError>
+    ensures { IfOk result (λ s. trie_of s.names ≡ tries.with_new name.now hash (trie_of set.names)) }
 {
-    if finds(&set.names, name.as_slice(), hash, hash) {
+    if finds(&set.names, name, hash, hash) {
         return Ok(set);
     }
     grown(alloc, set, name, hash)
@@ -301,7 +295,7 @@ fn all_added(alloc: Global, set: Growing, more: &Trie) -> Result<Growing, AllocE
     let Trie::Fork(node) = more else {
         return Ok(set);
     };
-    let set = newly_added(alloc, set, &node.name, node.hash)?;
+    let set = newly_added(alloc, set, node.name.as_slice(), node.hash)?;
     let set = all_added(alloc, set, &node.zero)?;
     all_added(alloc, set, &node.one)
 }
@@ -310,13 +304,13 @@ fn all_added(alloc: Global, set: Growing, more: &Trie) -> Result<Growing, AllocE
 fn commonly_added(
     alloc: Global,
     set: Growing,
-    name: &Rc<Bytes>,
+    name: &[u8],
     hash: u64,
     other: &Trie,
 ) -> Result<Growing, AllocError>
-    ensures { IfOk result (λ s. trie_of s.names ≡ with_common name.now.value hash (trie_of other.now) (trie_of set.names)) }
+    ensures { IfOk result (λ s. trie_of s.names ≡ with_common name.now hash (trie_of other.now) (trie_of set.names)) }
 {
-    if finds(other, name.as_slice(), hash, hash) {
+    if finds(other, name, hash, hash) {
         return grown(alloc, set, name, hash);
     }
     Ok(set)
@@ -334,7 +328,7 @@ fn common_added(
     let Trie::Fork(node) = names else {
         return Ok(set);
     };
-    let set = commonly_added(alloc, set, &node.name, node.hash, other)?;
+    let set = commonly_added(alloc, set, node.name.as_slice(), node.hash, other)?;
     let set = common_added(alloc, set, &node.zero, other)?;
     common_added(alloc, set, &node.one, other)
 }
@@ -358,7 +352,7 @@ fn is_same(a: &Trie, b: &Trie) -> bool
     match (a, b) {
         (Trie::Empty, Trie::Empty) => true,
         (Trie::Fork(x), Trie::Fork(y)) => {
-            is_same_name(x.name.as_slice(), x.hash, &y.name, y.hash)
+            is_same_name(x.name.as_slice(), x.hash, y.name.as_slice(), y.hash)
                 && is_same(&x.zero, &y.zero)
                 && is_same(&x.one, &y.one)
         }
@@ -373,7 +367,7 @@ fn stands_in(names: &Trie, trie: &Trie) -> bool
     match (names, trie) {
         (Trie::Empty, _) => true,
         (Trie::Fork(x), Trie::Fork(y)) => {
-            is_same_name(x.name.as_slice(), x.hash, &y.name, y.hash)
+            is_same_name(x.name.as_slice(), x.hash, y.name.as_slice(), y.hash)
                 && stands_in(&x.zero, &y.zero)
                 && stands_in(&x.one, &y.one)
         }

@@ -1,5 +1,5 @@
 // The tokens that are still to be expanded.
-ghost use Rattle.std.specs.Prelude.{◌≡◌, ◌+◌, ◌≤◌, ◌++◌, ◌∷◌, [], List, map, length, reverse, slice_get, Some, None, OnOk, IfErr, IsTrue, IsFalse, IsNone, IfSome, MatchOption};
+ghost use Rattle.std.specs.Prelude.{◌≡◌, ◌+◌, ◌≤◌, ◌++◌, ◌∷◌, [], List, map, length, reverse, slice_get, Some, None, bytes_eq, codes, false, OnOk, IfErr, IsTrue, IsFalse, IsNone, IfSome, MatchOption};
 ghost use Rattle.std.specs.Option.{option_map};
 ghost use Rattle.pp_tokens.specs.Tokens.{token_seen};
 ghost use Rattle.macro_defs.specs.Table.{lookup};
@@ -124,6 +124,17 @@ impl<'a> Pending<'a> {
     }
 }
 
+// Whether a name is `__FILE__` or `__LINE__`; their length alone tells most others.
+#[inline(always)]
+fn is_place(name: &[u8]) -> bool
+    ensures { IsFalse result → (bytes_eq name.now (codes "__FILE__") ≡ false) × (bytes_eq name.now (codes "__LINE__") ≡ false) }
+{
+    if name.len() != 8 {
+        return false;
+    }
+    name == b"__FILE__".as_slice() || name == b"__LINE__".as_slice()
+}
+
 // Whether a token is put out as it is under a table, whatever its hide set and what stands behind it. It isn't known of `defined`
 // in a condition.
 #[tactic(auto, unfolding(crate::specs::Expansion::head_role))]
@@ -137,7 +148,7 @@ fn is_untouched(table: &MacroTable, mode: Mode, t: &TokenRef) -> bool
     if matches!(mode, Mode::Condition) && t.text == b"defined".as_slice() {
         return false;
     }
-    if t.text == b"__FILE__".as_slice() || t.text == b"__LINE__".as_slice() {
+    if is_place(t.text) {
         return false;
     }
     table.get(t.text).is_none()
@@ -152,6 +163,7 @@ fn has_none(made: &Vec<Marked>) -> bool
 }
 
 // Takes the first of the tokens that were put in where its spelling is lent and no macro touches it; else nothing changes.
+#[inline(always)]
 fn take_made<'a>(made: &mut Vec<Marked<'a>>, table: &MacroTable, mode: Mode) -> Option<TokenRef<'a>>
     ensures taken { IfSome result (λ t. (rest : List Kept) → TakesUntouched (lookup table.now) mode (token_seen t) (reverse made.old.items ++ rest) (reverse made.new.items ++ rest)) }
     ensures none { IsNone result → made.new.items ≡ made.old.items }

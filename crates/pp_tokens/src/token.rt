@@ -30,14 +30,16 @@ pub struct Token {
 }
 
 // Whether the kind is that of identifiers.
-fn names(kind: Kind) -> bool
+#[inline(always)]
+pub(crate) fn names(kind: Kind) -> bool
     ensures { result ≡ names kind }
 {
     matches!(kind, Kind::Ident)
 }
 
 // Whether the kind is that of punctuators.
-fn punctuates(kind: Kind) -> bool
+#[inline(always)]
+pub(crate) fn punctuates(kind: Kind) -> bool
     ensures { result ≡ punctuates kind }
 {
     matches!(kind, Kind::Punct)

@@ -3,7 +3,7 @@ ghost use Rattle.std.specs.Prelude.{◌≡◌, IfOk, IfSome};
 ghost use Rattle.pp_tokens.specs.Marks.{is_identifier, is_literal, is_mark};
 ghost use Rattle.pp_tokens.specs.Tokens.{token_seen, bytes_of_spelling};
 
-use crate::token::{Kind, Token, TokenRef};
+use crate::token::{Kind, Token, TokenRef, names, punctuates};
 use base_types::Bytes;
 use std::alloc::{AllocError, Global};
 use std::marker::Model;
@@ -119,7 +119,7 @@ impl<'a> TokenCow<'a> {
     pub fn is_identifier(&self) -> bool
         ensures { result ≡ is_identifier self.now }
     {
-        self.as_ref().is_identifier()
+        names(self.kind)
     }
 
     /// Whether it is a string literal or a character constant (ISO C 6.4.5, 6.4.4.4).
@@ -133,7 +133,7 @@ impl<'a> TokenCow<'a> {
     pub fn is_mark(&self, spelling: &[u8]) -> bool
         ensures { result ≡ is_mark spelling.now self.now }
     {
-        self.as_ref().is_mark(spelling)
+        punctuates(self.kind) && self.text() == spelling
     }
 
     /// The same token on another line.

@@ -18,7 +18,7 @@ pub data Tree : Type 0 where
 -- the trie that code keeps
 abbrev pub trie_of : Trie → Tree
 trie_of Empty = Tip
-trie_of (Fork' p name hash zero_side one_side) = Branch name.value hash (trie_of zero_side) (trie_of one_side)
+trie_of (Fork' p name hash zero_side one_side) = Branch name hash (trie_of zero_side) (trie_of one_side)
 
 -- the names in a trie
 abbrev pub trie_names : Tree → List (List ℕ)
