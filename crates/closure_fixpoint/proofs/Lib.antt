@@ -23,6 +23,7 @@ pub mod SetsLaws
 pub mod NamesLaws
 pub mod AmongLaws
 pub mod NumberLaws
+pub mod WalkedLaws
 pub mod NodesTold
 pub mod DrivingLaws
 pub mod KnownLaws

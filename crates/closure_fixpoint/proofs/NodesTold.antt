@@ -97,9 +97,9 @@ rising-once (path ∷ paths) up = (
 
 -- THE NODES
 
--- `walked` are the nodes that were walked, each once; `raw` these and all above them; `list` each of these once
+-- `walked` are the nodes that were walked, each once; `raw` has these and all above them; `list` each of these once
 module _ (heard : Heard) (gathered walked raw list : List Path) (is : gathered ≡ searched_walked heard.searches ++ sheets_walked heard.sheets)
-    (once : (path : Path) → Member path walked ↔ Member path gathered) (above_are : raw ≡ all_upward walked)
+    (once : (path : Path) → Member path walked ↔ Member path gathered) (above_are : (path : Path) → Member path raw ↔ Member path (all_upward walked))
     (rising : IsTrue (are_rising list)) (same : (path : Path) → Member path list ↔ Member path raw) where
   all_are : gathered ≡ walked_of (located_told heard)
   all_are = is ∙ nodes-told heard
@@ -111,10 +111,10 @@ module _ (heard : Heard) (gathered walked raw list : List Path) (is : gathered �
   from_walked met m = subst (λ (l : List Path). Member met l) all_are ((once met).0 m)
 
   to_list : (path : Path) → Member path (all_upward walked) → Member path list
-  to_list path m = (same path).1 (subst (λ (l : List Path). Member path l) (sym above_are) m)
+  to_list path m = (same path).1 ((above_are path).1 m)
 
   from_list : (path : Path) → Member path list → Member path (all_upward walked)
-  from_list path m = subst (λ (l : List Path). Member path l) above_are ((same path).0 m)
+  from_list path m = (above_are path).0 ((same path).0 m)
 
   pub are-nodes : AreNodesOf (located_told heard) list
   are-nodes = record {
@@ -143,10 +143,6 @@ searches-next searches i got below is = rw (add-one i) (by_suc searches i got be
     by_suc [] i got below is = absurd (omega (arith, below))
     by_suc (told ∷ searches) zero got below is = ap (λ (o : Option Hit). found_walked o ++ searched_walked searches) (sym is)
     by_suc (told ∷ searches) (suc i) got below is = by_suc searches i got (omega (arith, below)) is
-
--- the files of a sheet added in two parts
-pub two-parts : (before more whole plain probes : List Path) → more ≡ before ++ plain → whole ≡ more ++ probes → whole ≡ before ++ (plain ++ probes)
-two-parts before more whole plain probes first second = second ∙ ap (λ (l : List Path). l ++ probes) first ∙ append_assoc before plain probes
 
 -- of two facts a third
 pub if_ok_both : {R E : Type 0} (r : Result R E) (P Q S : R → Type 0) → ((x : R) → P x → Q x → S x) → IfOk r P → IfOk r Q → IfOk r S

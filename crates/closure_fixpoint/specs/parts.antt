@@ -1,7 +1,8 @@
 -- Helpers of contracts: no definition in the folder above rests on them.
---     Seen, Worklist, AskKeys, Wanting, Plan  helpers of the code
+--     Seen, Worklist, Walked, AskKeys, Wanting, Plan  helpers of the code
 pub mod Seen
 pub mod Worklist
+pub mod Walked
 pub mod AskKeys
 pub mod Wanting
 pub mod Plan

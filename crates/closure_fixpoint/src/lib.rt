@@ -13,6 +13,7 @@ mod plan;
 mod searches;
 mod targets;
 mod visits;
+mod walked;
 mod wanting;
 mod worklist;
 

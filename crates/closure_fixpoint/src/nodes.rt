@@ -8,9 +8,11 @@ ghost use Rattle.closure_fixpoint.specs.Gathering as gathering;
 ghost use Rattle.closure_fixpoint.specs.Progress.{located_told};
 ghost use Rattle.closure_fixpoint.specs.Targets.{heard_of};
 ghost use Rattle.closure_fixpoint.specs.Told.{AreNodesOf};
-ghost use Rattle.closure_fixpoint.specs.Gathering.{upward, all_upward, found_walked, searched_walked, hits_walked, sheets_walked, unless_repeated, are_rising};
+ghost use Rattle.closure_fixpoint.specs.parts.Walked.{with_paths, upward_from, all_upward_from};
+ghost use Rattle.closure_fixpoint.specs.Gathering.{upward, found_walked, searched_walked, hits_walked, sheets_walked, unless_repeated, are_rising};
 
 use crate::searches::Searches;
+use crate::walked::Walked;
 use search_path::Visit;
 use sheet_build::Sheet;
 use std::alloc::{AllocError, Global};
@@ -29,12 +31,11 @@ pub fn nodes_told(
     ensures canonical { IfOk result (λ nodes. All IsCanonical nodes.items) }
 {
     // Most nodes were walked for many files, so what is above them is added once they stand once.
-    let mut walked = Vec::new(alloc);
+    let mut walked = Walked::new(alloc);
     add_searched(alloc, searches, &mut walked)?;
     add_sheets(alloc, sheets, &mut walked)?;
-    let walked = sorted(alloc, walked)?;
     let mut nodes = Vec::new(alloc);
-    add_all_upward(alloc, walked.as_slice(), &mut nodes)?;
+    add_all_upward(alloc, &walked, &mut nodes)?;
     sorted(alloc, nodes)
 }
 
@@ -80,91 +81,114 @@ fn add_copy(alloc: Global, path: &CanonPath, copies: &mut Vec<CanonPath>) -> Res
     Ok(())
 }
 
-// Adds the nodes that were walked for the files that searches found, each as often as it was.
-fn add_searched(
-    alloc: Global,
-    searches: &Searches,
-    nodes: &mut Vec<CanonPath>,
-) -> Result<(), AllocError>
-    ensures nodes { OnOk result (nodes.new.items ≡ nodes.old.items ++ searched_walked searches.now) }
-    ensures canonical { OnOk result (All IsCanonical nodes.old.items → All IsCanonical nodes.new.items) }
+// Adds those paths that aren't there yet.
+#[tactic(auto, unfolding(crate::specs::parts::Walked::with_paths))]
+fn add_walked(alloc: Global, paths: &[CanonPath], walked: &mut Walked) -> Result<(), AllocError>
+    ensures { OnOk result (walked.new ≡ with_paths walked.old paths.now) }
+{
+    for path in paths {
+        walked.add(alloc, path)?;
+    }
+    Ok(())
+}
+
+// Adds the nodes that were walked for the files that searches found.
+#[tactic(auto, unfolding(crate::specs::parts::Walked::with_paths))]
+fn add_searched(alloc: Global, searches: &Searches, walked: &mut Walked) -> Result<(), AllocError>
+    ensures { OnOk result (walked.new ≡ with_paths walked.old (searched_walked searches.now)) }
 {
     for number in 0..searches.len() {
-        add_found(alloc, searches.found_by(number), nodes)?;
+        add_found(alloc, searches.found_by(number), walked)?;
     }
     Ok(())
 }
 
 // Adds the nodes that were walked for what a search found.
+#[tactic(auto, unfolding(crate::specs::parts::Walked::with_paths))]
 fn add_found(
     alloc: Global,
     found: &Option<(Visit, Located)>,
-    nodes: &mut Vec<CanonPath>,
+    walked: &mut Walked,
 ) -> Result<(), AllocError>
-    ensures nodes { OnOk result (nodes.new.items ≡ nodes.old.items ++ found_walked found.now) }
-    ensures canonical { OnOk result (All IsCanonical nodes.old.items → All IsCanonical nodes.new.items) }
+    ensures { OnOk result (walked.new ≡ with_paths walked.old (found_walked found.now)) }
 {
     match found {
         None => Ok(()),
-        Some((_, located)) => add_copies(alloc, located.walked.as_slice(), nodes),
+        Some((_, located)) => add_walked(alloc, located.walked.as_slice(), walked),
     }
 }
 
 // Adds the nodes that were walked for the files of sheets.
+#[tactic(auto, unfolding(crate::specs::parts::Walked::with_paths))]
 fn add_sheets(
     alloc: Global,
     sheets: &[(Visit, Sheet)],
-    nodes: &mut Vec<CanonPath>,
+    walked: &mut Walked,
 ) -> Result<(), AllocError>
-    ensures nodes { OnOk result (nodes.new.items ≡ nodes.old.items ++ sheets_walked sheets.now) }
-    ensures canonical { OnOk result (All IsCanonical nodes.old.items → All IsCanonical nodes.new.items) }
+    ensures { OnOk result (walked.new ≡ with_paths walked.old (sheets_walked sheets.now)) }
 {
     for told in sheets {
-        add_hits(alloc, told.1.plain(), nodes)?;
-        add_files(alloc, told.1.probes(), nodes)?;
+        add_hits(alloc, told.1.plain(), walked)?;
+        add_files(alloc, told.1.probes(), walked)?;
     }
     Ok(())
 }
 
 // Adds the nodes that were walked for the files of visits.
-fn add_hits(
-    alloc: Global,
-    hits: &[(Visit, Located)],
-    nodes: &mut Vec<CanonPath>,
-) -> Result<(), AllocError>
-    ensures nodes { OnOk result (nodes.new.items ≡ nodes.old.items ++ hits_walked hits.now) }
-    ensures canonical { OnOk result (All IsCanonical nodes.old.items → All IsCanonical nodes.new.items) }
+#[tactic(auto, unfolding(crate::specs::parts::Walked::with_paths))]
+fn add_hits(alloc: Global, hits: &[(Visit, Located)], walked: &mut Walked) -> Result<(), AllocError>
+    ensures { OnOk result (walked.new ≡ with_paths walked.old (hits_walked hits.now)) }
 {
     for hit in hits {
-        add_copies(alloc, hit.1.walked.as_slice(), nodes)?;
+        add_walked(alloc, hit.1.walked.as_slice(), walked)?;
     }
     Ok(())
 }
 
 // Adds the nodes that were walked for files.
-fn add_files(alloc: Global, files: &[Located], nodes: &mut Vec<CanonPath>) -> Result<(), AllocError>
-    ensures nodes { OnOk result (nodes.new.items ≡ nodes.old.items ++ gathering.walked_of files.now) }
-    ensures canonical { OnOk result (All IsCanonical nodes.old.items → All IsCanonical nodes.new.items) }
+#[tactic(auto, unfolding(crate::specs::parts::Walked::with_paths))]
+fn add_files(alloc: Global, files: &[Located], walked: &mut Walked) -> Result<(), AllocError>
+    ensures { OnOk result (walked.new ≡ with_paths walked.old (gathering.walked_of files.now)) }
 {
     for file in files {
-        add_copies(alloc, file.walked.as_slice(), nodes)?;
+        add_walked(alloc, file.walked.as_slice(), walked)?;
     }
     Ok(())
 }
 
-// Adds paths and what is above them.
+// Adds the paths that were walked and what is above them.
 fn add_all_upward(
     alloc: Global,
-    paths: &[CanonPath],
+    walked: &Walked,
     nodes: &mut Vec<CanonPath>,
 ) -> Result<(), AllocError>
-    ensures nodes { OnOk result (nodes.new.items ≡ nodes.old.items ++ all_upward paths.now) }
+    ensures nodes { OnOk result (nodes.new.items ≡ nodes.old.items ++ all_upward_from walked.now walked.now) }
     ensures canonical { OnOk result (All IsCanonical nodes.old.items → All IsCanonical nodes.new.items) }
 {
-    for path in paths {
-        add_upward(alloc, path, nodes)?;
+    for number in 0..walked.len() {
+        add_upward_from(alloc, walked, walked.at(number), nodes)?;
     }
     Ok(())
+}
+
+// Adds a path, and those above it where the one right above it wasn't walked: else they are added for that one.
+fn add_upward_from(
+    alloc: Global,
+    walked: &Walked,
+    path: &CanonPath,
+    nodes: &mut Vec<CanonPath>,
+) -> Result<(), AllocError>
+    ensures nodes { OnOk result (nodes.new.items ≡ nodes.old.items ++ upward_from walked.now path.now) }
+    ensures canonical { OnOk result (All IsCanonical nodes.old.items → All IsCanonical nodes.new.items) }
+{
+    if path.is_root() {
+        return Ok(());
+    }
+    let above = path.parent(alloc)?;
+    if walked.has(&above) {
+        return add_copy(alloc, path, nodes);
+    }
+    add_upward(alloc, path, nodes)
 }
 
 // Adds a path and those above it, without the root, from the inside out.

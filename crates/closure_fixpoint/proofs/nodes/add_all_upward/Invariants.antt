@@ -1,10 +1,10 @@
 use Rattle.std.proofs.Common.{◌≡◌, ◌++◌, All, drop}
 use Rattle.tree_model.specs.Paths.{IsCanonical}
-use Rattle.closure_fixpoint.specs.Gathering.{all_upward}
+use Rattle.closure_fixpoint.specs.parts.Walked.{all_upward_from}
 use Rattle.closure_fixpoint.proofs.nodes.add_all_upward.Given as goal
 
-abbrev pub invariant-loop-path : goal.invariant-loop-path
-invariant-loop-path l = record {
-  nodes : l.nodes.items ++ all_upward (drop l.path-index l.paths) ≡ l.fn.nodes.items ++ all_upward l.paths;
+abbrev pub invariant-loop-number : goal.invariant-loop-number
+invariant-loop-number l = record {
+  nodes : l.nodes.items ++ all_upward_from l.walked (drop l.number l.walked) ≡ l.fn.nodes.items ++ all_upward_from l.walked l.walked;
   canonical : All IsCanonical l.fn.nodes.items → All IsCanonical l.nodes.items;
 }

@@ -6,21 +6,17 @@ use Rattle.sheet_build.specs.Sheet.{SheetData}
 use Rattle.macro_defs.proofs.Fronts.{front_at}
 use Rattle.closure_fixpoint.specs.Gathering as gathering
 use Rattle.closure_fixpoint.specs.Gathering.{hits_walked, sheets_walked}
-use Rattle.closure_fixpoint.proofs.Steps.{goes-on}
-use Rattle.closure_fixpoint.proofs.NodesTold.{two-parts}
+use Rattle.closure_fixpoint.specs.parts.Walked.{with_paths}
+use Rattle.closure_fixpoint.proofs.WalkedLaws.{walks-on, in-two-parts}
 use Rattle.closure_fixpoint.proofs.nodes.add_sheets.Goals as goal
 
 pub loop-told-preserved : goal.loop-told-preserved
 loop-told-preserved c =
     let below : c.loop-told.told-index < length c.args.sheets.now = omega arith in
-    record {
-      nodes =
-          goes-on (λ (sheets : List (Visit × SheetData)). sheets_walked sheets) (hits_walked c.told-item.result.1.plain ++ gathering.walked_of c.told-item.result.1.probes)
-          c.args.sheets.now c.loop-told.told-index c.loop-told.nodes.items c.add_files.new.nodes.items (c.args.nodes.now.items ++ sheets_walked c.args.sheets.now)
-          (ap (λ (sheets : List (Visit × SheetData)). sheets_walked sheets) (front_at c.args.sheets.now c.loop-told.told-index c.told-item.result below c.told-item.is))
-          c.loop-told.invariant.nodes
-          (two-parts c.loop-told.nodes.items c.add_hits.new.nodes.items c.add_files.new.nodes.items (hits_walked c.told-item.result.1.plain) (gathering.walked_of c.told-item.result.1.probes)
-          (c.in_ok-add_hits.ensures.nodes ∙ ap (λ (hits : List Hit). c.loop-told.nodes.items ++ hits_walked hits) c.plain.ensures)
-          (c.in_ok-add_files.ensures.nodes ∙ ap (λ (files : List Located). c.add_hits.new.nodes.items ++ gathering.walked_of files) c.probes.ensures));
-      canonical = λ before. c.in_ok-add_files.ensures.canonical (c.in_ok-add_hits.ensures.canonical (c.loop-told.invariant.canonical before));
-    }
+    walks-on (λ (sheets : List (Visit × SheetData)). sheets_walked sheets) (hits_walked c.told-item.result.1.plain ++ gathering.walked_of c.told-item.result.1.probes)
+    c.args.sheets.now c.loop-told.told-index c.loop-told.walked c.add_files.new.walked (with_paths c.args.walked.now (sheets_walked c.args.sheets.now))
+    (ap (λ (sheets : List (Visit × SheetData)). sheets_walked sheets) (front_at c.args.sheets.now c.loop-told.told-index c.told-item.result below c.told-item.is))
+    c.loop-told.invariant
+    (in-two-parts c.loop-told.walked c.add_hits.new.walked c.add_files.new.walked (hits_walked c.told-item.result.1.plain) (gathering.walked_of c.told-item.result.1.probes)
+    (c.in_ok-add_hits.ensures ∙ ap (λ (hits : List Hit). with_paths c.loop-told.walked (hits_walked hits)) c.plain.ensures)
+    (c.in_ok-add_files.ensures ∙ ap (λ (files : List Located). with_paths c.add_hits.new.walked (gathering.walked_of files)) c.probes.ensures))

@@ -1,10 +1,7 @@
-use Rattle.std.proofs.Common.{◌≡◌, ◌++◌, All, drop}
-use Rattle.tree_model.specs.Paths.{IsCanonical}
+use Rattle.std.proofs.Common.{◌≡◌, drop}
 use Rattle.closure_fixpoint.specs.Gathering.{sheets_walked}
+use Rattle.closure_fixpoint.specs.parts.Walked.{with_paths}
 use Rattle.closure_fixpoint.proofs.nodes.add_sheets.Given as goal
 
 abbrev pub invariant-loop-told : goal.invariant-loop-told
-invariant-loop-told l = record {
-  nodes : l.nodes.items ++ sheets_walked (drop l.told-index l.sheets) ≡ l.fn.nodes.items ++ sheets_walked l.sheets;
-  canonical : All IsCanonical l.fn.nodes.items → All IsCanonical l.nodes.items;
-}
+invariant-loop-told l = with_paths l.walked (sheets_walked (drop l.told-index l.sheets)) ≡ with_paths l.fn.walked (sheets_walked l.sheets)
