@@ -4,7 +4,7 @@ ghost use Rattle.pp_tokens.specs.Tokens.{rest_of};
 ghost use Rattle.macro_expand.specs.declared.outcome.Mode.TheVariants.{Text};
 ghost use Rattle.macro_expand.specs.Seen.{kept_plain};
 
-use base_types::Bytes;
+use base_types::{Bytes, List};
 use directive_scan::{Directive, DirectiveRef};
 use macro_defs::{DefineError, MacroTable, names_macro, read_define};
 use macro_expand::{Expander, Mode, Presumed, Run, Standing};
@@ -58,7 +58,7 @@ impl Unit {
     /// A directive is obeyed where it is `#define` or `#undef`.
     pub fn obey(&mut self, alloc: Global, line: DirectiveRef<'_>) -> Result<(), AllocError> {
         match line.read(alloc)? {
-            Directive::Define(rest) => self.define(alloc, rest.as_slice()),
+            Directive::Define(rest) => self.define(alloc, rest),
             Directive::Undef(rest) => {
                 self.undefine(rest.as_slice());
                 Ok(())
@@ -68,7 +68,7 @@ impl Unit {
     }
 
     // Defines what a line defines; one that defines nothing is counted and passed over.
-    fn define(&mut self, alloc: Global, rest: &[Token]) -> Result<(), AllocError> {
+    fn define(&mut self, alloc: Global, rest: List<Token>) -> Result<(), AllocError> {
         match read_define(alloc, rest) {
             Ok((name, definition)) => self.table.define(name, definition),
             Err(DefineError::Memory) => Err(AllocError),

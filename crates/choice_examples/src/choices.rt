@@ -73,7 +73,7 @@ fn choices_of(alloc: Global, way: Way, body: &[u8]) -> Result<String, AllocError
     requires { length body.now ≤ 16777216 }
 {
     let pieces = pieces_of(alloc, body)?;
-    choices_of_pieces(alloc, way, pieces.as_slice())
+    choices_of_pieces(alloc, way, pieces)
 }
 
 fn pieces_of(alloc: Global, body: &[u8]) -> Result<List<Piece>, AllocError>
@@ -83,7 +83,7 @@ fn pieces_of(alloc: Global, body: &[u8]) -> Result<List<Piece>, AllocError>
     scan(alloc, &lexed)
 }
 
-fn choices_of_pieces(alloc: Global, way: Way, pieces: &[Piece]) -> Result<String, AllocError> {
+fn choices_of_pieces(alloc: Global, way: Way, pieces: List<Piece>) -> Result<String, AllocError> {
     let mut reading = Reading {
         way,
         sets: way.sets(alloc)?,
@@ -102,24 +102,24 @@ struct Reading {
 }
 
 impl Reading {
-    fn add_pieces(&mut self, alloc: Global, pieces: &[Piece]) -> Result<(), AllocError> {
-        for piece in pieces {
+    fn add_pieces(&mut self, alloc: Global, pieces: List<Piece>) -> Result<(), AllocError> {
+        for piece in pieces.into_vec() {
             self.add_piece(alloc, piece)?;
         }
         Ok(())
     }
 
-    fn add_piece(&mut self, alloc: Global, piece: &Piece) -> Result<(), AllocError> {
+    fn add_piece(&mut self, alloc: Global, piece: Piece) -> Result<(), AllocError> {
         match piece {
             Piece::Run { tokens } => self.add_run(alloc, tokens.as_slice()),
             Piece::Line { what, .. } => match what {
-                Directive::Define(rest) => self.define(alloc, rest.as_slice()),
+                Directive::Define(rest) => self.define(alloc, rest),
                 _ => Ok(()),
             },
         }
     }
 
-    fn define(&mut self, alloc: Global, rest: &[Token]) -> Result<(), AllocError> {
+    fn define(&mut self, alloc: Global, rest: List<Token>) -> Result<(), AllocError> {
         match read_define(alloc, rest) {
             Ok((name, definition)) => {
                 self.sets.add(alloc, name.as_slice(), &definition)?;

@@ -8,7 +8,7 @@ ghost use Rattle.daemon_cpp.specs.parts.Showing.{Goes, here_seen, TellsDefinitio
 use crate::diagnostic::Problem;
 use crate::kept::{Kept, Places};
 use crate::stop::{Stop, refused};
-use base_types::Bytes;
+use base_types::{Bytes, List};
 use macro_defs::{DefineError, Definition, MacroTable, names_macro, read_define};
 use pp_tokens::Token;
 use std::alloc::Global;
@@ -19,9 +19,9 @@ pub fn define(
     kept: &mut Kept,
     places: Places<'_>,
     at: u32,
-    tokens: &[Token],
+    tokens: List<Token>,
 ) -> Result<(), Stop>
-    ensures goes { Goes kept.old kept.new places.entry.source.now (here_seen places.entry) (λ state. define_step at (defined_by tokens.now) state) result }
+    ensures goes { Goes kept.old kept.new places.entry.source.now (here_seen places.entry) (λ state. define_step at (defined_by tokens) state) result }
     ensures spends { kept.new.work.left ≤ kept.old.work.left }
     ensures no_fault { IsErrOf result Stop.Fault → ⊥ }
 {

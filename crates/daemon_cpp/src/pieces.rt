@@ -77,7 +77,7 @@ fn run_line<T: Tree>(
     ensures cause { HasCause Stop.Fault (T.faults tree.old) (T.faults tree.new) result }
 {
     let what = line.read(alloc)?;
-    run_directive(alloc, tree, kept, places, at, &what)
+    run_directive(alloc, tree, kept, places, at, what)
 }
 
 // A directive on a line.
@@ -87,19 +87,19 @@ fn run_directive<T: Tree>(
     kept: &mut Kept,
     places: Places<'_>,
     at: u32,
-    what: &Directive,
+    what: Directive,
 ) -> Result<Move, Stop>
     ensures same { T.told tree.new ≡ T.told tree.old }
     ensures moves { ForSome (T.told tree.old) (λ told. Moves kept.old kept.new places.entry.source.now (here_seen places.entry)
-        (λ entering state. directive_step (world_of told places.entry.setup.now) entering at what.now state) result) }
+        (λ entering state. directive_step (world_of told places.entry.setup.now) entering at what state) result) }
     ensures narrow { IfOk result IsNumbered }
     ensures spends { kept.new.work.left ≤ kept.old.work.left }
     ensures cause { HasCause Stop.Fault (T.faults tree.old) (T.faults tree.new) result }
 {
     match what {
-        Directive::Include(target) => run_include(alloc, tree, kept, places, false, at, target),
-        Directive::Next(target) => run_include(alloc, tree, kept, places, true, at, target),
-        Directive::Define(tokens) => onward(define(alloc, kept, places, at, tokens.as_slice())),
+        Directive::Include(target) => run_include(alloc, tree, kept, places, false, at, &target),
+        Directive::Next(target) => run_include(alloc, tree, kept, places, true, at, &target),
+        Directive::Define(tokens) => onward(define(alloc, kept, places, at, tokens)),
         Directive::Undef(tokens) => onward(undefine(alloc, kept, places, at, tokens.as_slice())),
         Directive::Line(tokens) => renumber(alloc, kept, places, at, tokens.as_slice()),
         Directive::Error(tokens) => {

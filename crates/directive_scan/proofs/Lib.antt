@@ -1,5 +1,6 @@
 mod Steps
 mod Spotted
+mod DirectiveNames
 mod Roles
 mod Outlines
 mod OneOutline
@@ -9,3 +10,4 @@ mod Whole
 mod ClosedNames
 mod PartSteps
 mod TextLines
+mod Probed

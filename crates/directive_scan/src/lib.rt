@@ -5,6 +5,7 @@ mod conditional;
 mod directive;
 mod header;
 mod law;
+mod name;
 mod operand;
 mod outline;
 mod pieces;
@@ -19,6 +20,7 @@ pub use header::header_of;
 pub use law::{
     directives_stand_alone, nesting_told, one_outline, outline_holds, parts_without_probe,
 };
+pub use name::DirectiveName;
 pub use operand::{ConditionPart, has_operands, has_probe, parts_of};
 pub use pieces::{DirectiveRef, PieceRef, Pieces};
 pub use role::Nesting;

@@ -1,17 +1,23 @@
 // The pieces of a file, lent from its lexed form.
-ghost use Rattle.std.specs.Prelude.{◌≡◌, ◌<◌, ◌≤◌, ◌+◌, [], length, map, get_or, IfOk};
+ghost use Rattle.std.specs.Prelude.{◌≡◌, ◌<◌, ◌≤◌, ◌+◌, [], length, map, drop, get_or, codes, IfOk};
+ghost use Rattle.std.specs.List.{list_any};
+ghost use Rattle.pp_tokens.specs.Marks.{is_word};
+ghost use Rattle.pp_tokens.specs.Tokens.{token_seen};
 ghost use Rattle.directive_scan.specs.Directives.{pieces};
 ghost use Rattle.directive_scan.specs.Groups.{malformed_by, outline, role_of};
+ghost use Rattle.directive_scan.specs.Gathered.{tokens_at_line};
+ghost use Rattle.directive_scan.specs.Names.{directive_told, tokens_behind};
 ghost use Rattle.directive_scan.specs.Spots.{piece_seen, directive_seen, role_told};
 ghost use Rattle.directive_scan.specs.declared.directive.Piece.{Piece};
 
 use crate::conditional::Malformed;
 use crate::directive::Directive;
+use crate::name::{DirectiveName, name_at};
 use crate::outline::first_malformed;
 use crate::role::Nesting;
 use crate::scanner::directive_at;
 use crate::spots::{Spot, spots};
-use pp_tokens::{Lexed, Tokens};
+use pp_tokens::{Lexed, TokenRef, Tokens};
 use std::alloc::{AllocError, Global};
 use std::marker::Model;
 use std::sync::Arc;
@@ -137,10 +143,45 @@ impl Pieces {
 }
 
 impl<'a> DirectiveRef<'a> {
+    /// What the directive is, by its name. No token is made.
+    pub fn name(&self) -> DirectiveName
+        ensures { directive_seen self.now ≡ directive_told result (tokens_behind self.now) }
+    {
+        name_at(self.lexed, self.line)
+    }
+
+    /// Whether an identifier `__has_include` stands behind the name, as `has_probe` asks of tokens. No token is made.
+    pub fn has_probe(&self) -> bool
+        ensures { result ≡ list_any (is_word (codes "__has_include")) (tokens_behind self.now) }
+    {
+        probes_from(self.lexed, self.line, 2)
+    }
+
     /// The directive, with a copy of the tokens that it needs. The only error is want of memory.
     pub fn read(&self, alloc: Global) -> Result<Directive, AllocError>
         ensures { IfOk result (λ d. d ≡ directive_seen self.now) }
     {
         directive_at(alloc, self.lexed, self.line)
     }
+}
+
+// Whether an identifier `__has_include` stands on a line from a place on.
+fn probes_from(lexed: &Lexed, line: usize, place: usize) -> bool
+    ensures { result ≡ list_any (is_word (codes "__has_include")) (drop place (tokens_at_line lexed.now line)) }
+{
+    for at in place..lexed.token_count(line) {
+        if let Some(token) = lexed.token(line, at) {
+            if is_probe(&token) {
+                return true;
+            }
+        }
+    }
+    false
+}
+
+// Whether a token is an identifier `__has_include`.
+fn is_probe(token: &TokenRef<'_>) -> bool
+    ensures { result ≡ is_word (codes "__has_include") (token_seen token.now) }
+{
+    token.is_identifier() && token.text == b"__has_include".as_slice()
 }

@@ -1,12 +1,12 @@
 // What a directive is to the nesting of conditionals.
-ghost use Rattle.std.specs.Prelude.{◌≡◌, drop, List};
+ghost use Rattle.std.specs.Prelude.{◌≡◌, List};
 ghost use Rattle.pp_tokens.specs.declared.Token.{Token};
-ghost use Rattle.directive_scan.specs.Directives.{directive_named, directive_of};
-ghost use Rattle.directive_scan.specs.Gathered.{tokens_at_line};
 ghost use Rattle.directive_scan.specs.Groups.{directive_role};
+ghost use Rattle.directive_scan.specs.Names.{directive_told};
 ghost use Rattle.directive_scan.specs.Spots.{role_told, directive_on};
 
 use crate::conditional::BranchName;
+use crate::name::{DirectiveName, name_at};
 use pp_tokens::Lexed;
 
 /// What a directive is to the nesting of conditionals (ISO C 6.10.1): a line by itself, the opening of a conditional,
@@ -19,33 +19,23 @@ pub enum Nesting {
 }
 
 // What the directive on a line is; its name alone is read.
-#[tactic(auto, unfolding(crate::specs::Directives::directive_of))]
 pub fn nesting_at(file: &Lexed, line: usize) -> Nesting
     ensures { role_told result ≡ directive_role (directive_on file.now line) }
 {
-    match file.token(line, 1) {
-        Some(name) => nesting_of(name.text),
-        None => Nesting::Single,
-    }
+    nesting_of(name_at(file, line))
 }
 
 // What a directive with a name is.
-fn nesting_of(name: &[u8]) -> Nesting
-    ensures { (ts : List Token) → role_told result ≡ directive_role (directive_named name.now ts) }
+fn nesting_of(name: DirectiveName) -> Nesting
+    ensures { (ts : List Token) → role_told result ≡ directive_role (directive_told name ts) }
 {
-    if name == b"if".as_slice() {
-        Nesting::Opening
-    } else if name == b"ifdef".as_slice() {
-        Nesting::Opening
-    } else if name == b"ifndef".as_slice() {
-        Nesting::Opening
-    } else if name == b"elif".as_slice() {
-        Nesting::Branch(BranchName::Elif)
-    } else if name == b"else".as_slice() {
-        Nesting::Branch(BranchName::Else)
-    } else if name == b"endif".as_slice() {
-        Nesting::Branch(BranchName::Endif)
-    } else {
-        Nesting::Single
+    match name {
+        DirectiveName::If => Nesting::Opening,
+        DirectiveName::Ifdef => Nesting::Opening,
+        DirectiveName::Ifndef => Nesting::Opening,
+        DirectiveName::Elif => Nesting::Branch(BranchName::Elif),
+        DirectiveName::Else => Nesting::Branch(BranchName::Else),
+        DirectiveName::Endif => Nesting::Branch(BranchName::Endif),
+        _ => Nesting::Single,
     }
 }

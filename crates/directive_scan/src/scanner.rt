@@ -1,13 +1,14 @@
 // The pieces of a lexed file.
 ghost use Rattle.std.specs.Prelude as seen;
-ghost use Rattle.std.specs.Prelude.{◌≡◌, ◌++◌, ◌∷◌, [], map, drop, false, bytes_eq, codes, unwrap_or, slice_get, IfOk, OnOk};
+ghost use Rattle.std.specs.Prelude.{◌≡◌, ◌++◌, ◌∷◌, [], map, drop, unwrap_or, slice_get, IfOk, OnOk};
 ghost use Rattle.pp_tokens.specs.Tokens.{rest_of};
-ghost use Rattle.directive_scan.specs.Directives.{header_name, target_of, pragma_of, directive_named, directive_of, pieces};
+ghost use Rattle.directive_scan.specs.Directives.{header_name, target_of, pragma_of, directive_of, pieces};
 ghost use Rattle.directive_scan.specs.Gathered.{tokens_at_line};
 ghost use Rattle.directive_scan.specs.Spots.{piece_at};
 
 use crate::directive::{Directive, HeaderName, Piece, Target};
 use crate::header::between;
+use crate::name::{DirectiveName, name_at};
 use crate::spots::{Spot, spots};
 use base_types::{Bytes, List};
 use pp_tokens::{Kind, Lexed, Token, Tokens};
@@ -59,64 +60,27 @@ fn copied(alloc: Global, lent: Tokens<'_>) -> Result<List<Token>, AllocError>
     Ok(tokens)
 }
 
-// The directive on a line, by its tokens behind the `#`.
-#[tactic(auto, unfolding(crate::specs::Directives::directive_of))]
+// The directive on a line, by its tokens behind the `#`. Tokens are made where the directive has them.
 pub fn directive_at(alloc: Global, lexed: &Lexed, line: usize) -> Result<Directive, AllocError>
     ensures { IfOk result (λ what. what ≡ directive_of (drop 1 (tokens_at_line lexed.now line))) }
 {
-    match lexed.token(line, 1) {
-        Some(name) => named_at(alloc, lexed, line, name.text),
-        None => Ok(Directive::Null),
-    }
-}
-
-// The directive on a line, by its name.
-#[tactic(auto, unfolding(crate::specs::Directives::directive_named))]
-fn named_at(alloc: Global, lexed: &Lexed, line: usize, name: &[u8]) -> Result<Directive, AllocError>
-    ensures { IfOk result (λ what. what ≡ directive_named name.now (drop 2 (tokens_at_line lexed.now line))) }
-{
-    if name == b"include".as_slice() {
-        Ok(Directive::Include(target_at(alloc, lexed, line)?))
-    } else if name == b"include_next".as_slice() {
-        Ok(Directive::Next(target_at(alloc, lexed, line)?))
-    } else {
-        Ok(directive_with(name, behind_name(alloc, lexed, line)?))
-    }
-}
-
-// The directive of a name that is none of the two above, with the tokens behind it.
-#[tactic(auto, unfolding(crate::specs::Directives::directive_named))]
-fn directive_with(name: &[u8], tokens: List<Token>) -> Directive
-    requires plain { bytes_eq name.now (codes "include") ≡ false }
-    requires next { bytes_eq name.now (codes "include_next") ≡ false }
-    ensures { result ≡ directive_named name.now tokens }
-{
-    if name == b"define".as_slice() {
-        Directive::Define(tokens)
-    } else if name == b"undef".as_slice() {
-        Directive::Undef(tokens)
-    } else if name == b"if".as_slice() {
-        Directive::If(tokens)
-    } else if name == b"ifdef".as_slice() {
-        Directive::Ifdef(tokens)
-    } else if name == b"ifndef".as_slice() {
-        Directive::Ifndef(tokens)
-    } else if name == b"elif".as_slice() {
-        Directive::Elif(tokens)
-    } else if name == b"else".as_slice() {
-        Directive::Else
-    } else if name == b"endif".as_slice() {
-        Directive::Endif
-    } else if name == b"line".as_slice() {
-        Directive::Line(tokens)
-    } else if name == b"error".as_slice() {
-        Directive::Error(tokens)
-    } else if name == b"warning".as_slice() {
-        Directive::Warning
-    } else if name == b"pragma".as_slice() {
-        pragma_with(tokens)
-    } else {
-        Directive::Unknown
+    match name_at(lexed, line) {
+        DirectiveName::Include => Ok(Directive::Include(target_at(alloc, lexed, line)?)),
+        DirectiveName::Next => Ok(Directive::Next(target_at(alloc, lexed, line)?)),
+        DirectiveName::Define => Ok(Directive::Define(behind_name(alloc, lexed, line)?)),
+        DirectiveName::Undef => Ok(Directive::Undef(behind_name(alloc, lexed, line)?)),
+        DirectiveName::If => Ok(Directive::If(behind_name(alloc, lexed, line)?)),
+        DirectiveName::Ifdef => Ok(Directive::Ifdef(behind_name(alloc, lexed, line)?)),
+        DirectiveName::Ifndef => Ok(Directive::Ifndef(behind_name(alloc, lexed, line)?)),
+        DirectiveName::Elif => Ok(Directive::Elif(behind_name(alloc, lexed, line)?)),
+        DirectiveName::Else => Ok(Directive::Else),
+        DirectiveName::Endif => Ok(Directive::Endif),
+        DirectiveName::Line => Ok(Directive::Line(behind_name(alloc, lexed, line)?)),
+        DirectiveName::Error => Ok(Directive::Error(behind_name(alloc, lexed, line)?)),
+        DirectiveName::Warning => Ok(Directive::Warning),
+        DirectiveName::Pragma => Ok(pragma_with(behind_name(alloc, lexed, line)?)),
+        DirectiveName::Null => Ok(Directive::Null),
+        DirectiveName::Unknown => Ok(Directive::Unknown),
     }
 }
 

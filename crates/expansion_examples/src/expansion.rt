@@ -50,7 +50,7 @@ fn expansion_of(alloc: Global, way: Way, body: &[u8]) -> Result<String, AllocErr
     requires { length body.now ≤ 16777216 }
 {
     let pieces = pieces_of(alloc, body)?;
-    expansion_of_pieces(alloc, way, pieces.as_slice())
+    expansion_of_pieces(alloc, way, pieces)
 }
 
 fn pieces_of(alloc: Global, body: &[u8]) -> Result<List<Piece>, AllocError>
@@ -60,7 +60,7 @@ fn pieces_of(alloc: Global, body: &[u8]) -> Result<List<Piece>, AllocError>
     scan(alloc, &lexed)
 }
 
-fn expansion_of_pieces(alloc: Global, way: Way, pieces: &[Piece]) -> Result<String, AllocError> {
+fn expansion_of_pieces(alloc: Global, way: Way, pieces: List<Piece>) -> Result<String, AllocError> {
     let mut expansion = Expansion::new(alloc, way)?;
     expansion.add_pieces(alloc, pieces)?;
     Ok(expansion.text)
@@ -92,8 +92,8 @@ impl Expansion {
         })
     }
 
-    fn add_pieces(&mut self, alloc: Global, pieces: &[Piece]) -> Result<(), AllocError> {
-        for piece in pieces {
+    fn add_pieces(&mut self, alloc: Global, pieces: List<Piece>) -> Result<(), AllocError> {
+        for piece in pieces.into_vec() {
             self.add_piece(alloc, piece)?;
         }
         match self.way {
@@ -103,18 +103,18 @@ impl Expansion {
     }
 
     // Adds what a run becomes, or obeys a line.
-    fn add_piece(&mut self, alloc: Global, piece: &Piece) -> Result<(), AllocError> {
+    fn add_piece(&mut self, alloc: Global, piece: Piece) -> Result<(), AllocError> {
         match piece {
             Piece::Run { tokens } => self.add_run(alloc, tokens.as_slice()),
             Piece::Line { what, .. } => match what {
-                Directive::Define(rest) => self.define(alloc, rest.as_slice()),
+                Directive::Define(rest) => self.define(alloc, rest),
                 Directive::Undef(rest) => Ok(self.undefine(rest.as_slice())),
                 _ => Ok(()),
             },
         }
     }
 
-    fn define(&mut self, alloc: Global, rest: &[Token]) -> Result<(), AllocError> {
+    fn define(&mut self, alloc: Global, rest: List<Token>) -> Result<(), AllocError> {
         match read_define(alloc, rest) {
             Ok((name, definition)) => self.table.define(name, definition),
             Err(DefineError::Memory) => Err(AllocError),

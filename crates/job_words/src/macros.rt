@@ -24,7 +24,7 @@ pub fn define_word(alloc: Global, text: &[u8]) -> Result<MacroWord, WordError>
 {
     let line = define_line(alloc, text)?;
     let tokens = line_tokens(alloc, &line)?;
-    defined(alloc, tokens.as_slice())
+    defined(alloc, tokens)
 }
 
 // What a `-U` says.
@@ -95,9 +95,9 @@ fn first_line(alloc: Global, lexed: &Lexed) -> Result<List<Token>, AllocError>
 }
 
 // What tokens behind `#define` define.
-fn defined(alloc: Global, tokens: &[Token]) -> Result<MacroWord, WordError>
-    ensures macros { IfOk result (λ word. defined_word (defined_by tokens.now) ≡ Some word) }
-    ensures why { IfErr result (λ e. IsNoMacro e (defined_word (defined_by tokens.now))) }
+fn defined(alloc: Global, tokens: List<Token>) -> Result<MacroWord, WordError>
+    ensures macros { IfOk result (λ word. defined_word (defined_by tokens) ≡ Some word) }
+    ensures why { IfErr result (λ e. IsNoMacro e (defined_word (defined_by tokens))) }
 {
     match read_define(alloc, tokens) {
         Ok((name, definition)) => Ok(MacroWord::Define(name, definition)),

@@ -1,15 +1,16 @@
 -- What the tokens behind a name define.
-use Rattle.std.proofs.Common.{◌≡◌, ℕ, ◌<◌, Bool, true, false, List, ◌∷◌, length, ◌-◌, take, drop, sym, ap, ◌∙◌, subst, if◌then◌else◌}
-use Rattle.std.specs.Prelude.{not, ◌&&◌, Result, Ok, Err, IfOk, IfErr}
-use Rattle.pp_tokens.specs.declared.Token.{Token}
-use Rattle.macro_defs.specs.declared.definition.Shape.TheVariants.{Object}
-use Rattle.macro_defs.specs.declared.definition.DefineError.{DefineError}
-use Rattle.macro_defs.specs.declared.definition.DefineError.TheVariants.{Name}
-use Rattle.pp_tokens.specs.Marks.{is_open}
-use Rattle.macro_defs.specs.MacroDefinition.{MacroDefinition}
-use Rattle.macro_defs.specs.Defining.{Named, RefusesDefinition, names_macro, after_name, enclosed_of, up_to_parenthesis, with_body, defined_by}
+use Rattle.std.proofs.Common.{◌≡◌, ℕ, ◌≤◌, Bool, true, false, List, [], ◌∷◌, ◌++◌, length, ◌-◌, take, drop, sym, ap, ◌∙◌, subst, if◌then◌else◌, append_assoc, length-append, arith}
+use Rattle.std.specs.Prelude.{Result, Ok, Err, IfOk, IfErr}
+use Rattle.std.specs.List.{list_any}
 use Rattle.std.proofs.lemmas.List.{take_rest}
-use Rattle.macro_defs.proofs.Fronts.{none_left}
+use Rattle.std.proofs.Math.Seq.{drop-append_seam}
+use Rattle.pp_tokens.specs.declared.Token.{Token}
+use Rattle.pp_tokens.specs.Marks.{is_close}
+use Rattle.macro_defs.specs.declared.definition.DefineError.{DefineError}
+use Rattle.macro_defs.specs.declared.definition.DefineError.TheVariants.{Name, Params}
+use Rattle.macro_defs.specs.MacroDefinition.{MacroDefinition}
+use Rattle.macro_defs.specs.Defining.{Named, RefusesDefinition, IsParted, names_macro, after_name, enclosed_of, function_of, parameters_of, up_to_parenthesis, defined_by}
+use Rattle.macro_defs.proofs.Pieces.{closed, unclosed}
 
 -- a definition that is found, whatever the name
 abbrev pub Found : Result MacroDefinition DefineError → (List ℕ → Result Named DefineError) → Type 0
@@ -27,42 +28,56 @@ pub wrong_so : (result : Result MacroDefinition DefineError) (one other : List �
 wrong_so (Ok d) one other same wrong = tt
 wrong_so (Err e) one other same wrong = λ name. subst (RefusesDefinition e) (sym (same name)) (wrong name)
 
--- no token behind the name
-pub nothing_behind : (behind : List Token) → length behind < 1 → (name : List ℕ) → after_name name behind ≡ with_body name Object true behind
-nothing_behind behind below name = ap (after_name name) (none_left behind below) ∙ ap (with_body name Object true) (sym (none_left behind below))
+-- the tokens behind a `)` that stands behind the first token
+behind_mark : (tokens within body : List Token) → 1 ≤ length tokens → IsParted is_close (drop 1 tokens) within body → drop (length tokens - length body) tokens ≡ body
+behind_mark [] within body some parted = absurd (omega arith)
+behind_mark (t ∷ tokens) within body some parted =
+    let front = t ∷ within ++ parted.mark ∷ [] in
+    let whole : t ∷ tokens ≡ front ++ body = ap (λ ts. t ∷ ts) (parted.whole ∙ sym (append_assoc within (parted.mark ∷ []) body)) in
+    let count : length (t ∷ tokens) - length body ≡ length front = omega (arith, ap length whole, length-append front body) in
+    ap (λ n. drop n (t ∷ tokens)) count ∙ ap (drop (length front)) whole ∙ drop-append_seam front body
 
--- a token that begins no parameters
-pub no_parameters : (behind : List Token) (t : Token) → behind ≡ t ∷ drop 1 behind → (is_open t && not t.space) ≡ false → (name : List ℕ) → after_name name behind ≡ with_body name Object true behind
-no_parameters behind t is none name =
-    ap (after_name name) is
-    ∙ ap (λ (b : Bool). if b then enclosed_of name (up_to_parenthesis (drop 1 behind)) else with_body name Object true (t ∷ drop 1 behind)) none
-    ∙ ap (with_body name Object true) (sym is)
+-- the tokens behind the first, as a slice shows them
+abbrev pub inside : List Token → List Token
+inside shown = take (length shown - 1) (drop 1 shown)
 
--- a token that does
-pub some_parameters : (behind : List Token) (t : Token) → behind ≡ t ∷ drop 1 behind → (is_open t && not t.space) ≡ true → (name : List ℕ) → after_name name behind ≡ enclosed_of name (up_to_parenthesis (drop 1 behind))
-some_parameters behind t is some name =
-    ap (after_name name) is
-    ∙ ap (λ (b : Bool). if b then enclosed_of name (up_to_parenthesis (drop 1 behind)) else with_body name Object true (t ∷ drop 1 behind)) some
+inside_of : (tokens shown : List Token) → shown ≡ tokens → inside shown ≡ drop 1 tokens
+inside_of tokens shown same = take_rest shown 1 ∙ ap (drop 1) same
+
+-- a macro whose parameters have no end
+pub without_end : (tokens shown : List Token) → shown ≡ tokens → list_any is_close (inside shown) ≡ false → (name : List ℕ) → enclosed_of name (up_to_parenthesis (drop 1 tokens)) ≡ Err Params
+without_end tokens shown same none name = ap (λ ts. enclosed_of name (up_to_parenthesis ts)) (sym (inside_of tokens shown same)) ∙ ap (enclosed_of name) (unclosed (inside shown) none)
+
+-- what a macro with parameters is, by the tokens before and behind its `)`
+pub with_end : (tokens shown within body : List Token) → shown ≡ tokens → IsParted is_close (inside shown) within body
+    → (name : List ℕ) → enclosed_of name (up_to_parenthesis (drop 1 tokens)) ≡ function_of name (parameters_of within) body
+with_end tokens shown within body same parted name =
+    ap (λ ts. enclosed_of name (up_to_parenthesis ts)) (sym (inside_of tokens shown same)) ∙ ap (enclosed_of name) (closed (inside shown) within body parted)
+
+-- its replacement list, by the number of the tokens
+pub body_given : (tokens shown within body given : List Token) (count : ℕ) → shown ≡ tokens → 1 ≤ length tokens → IsParted is_close (inside shown) within body
+    → count ≡ length tokens → given ≡ drop (count - length body) tokens → given ≡ body
+body_given tokens shown within body given count same some parted counted is =
+    is ∙ ap (λ n. drop (n - length body) tokens) counted ∙ behind_mark tokens within body some (subst (λ ts. IsParted is_close ts within body) (inside_of tokens shown same) parted)
 
 -- A whole line.
 
-pub no_token : (rest : List Token) → length rest < 1 → defined_by rest ≡ Err Name
+pub no_token : (rest : List Token) → rest ≡ [] → defined_by rest ≡ Err Name
 unfolding defined_by
-no_token rest below = ap defined_by (none_left rest below)
+no_token rest none = ap defined_by none
 
-pub no_macro : (rest : List Token) (t : Token) → rest ≡ t ∷ drop 1 rest → names_macro t ≡ false → defined_by rest ≡ Err Name
+pub no_macro : (rest behind : List Token) (t : Token) → rest ≡ t ∷ behind → names_macro t ≡ false → defined_by rest ≡ Err Name
 unfolding defined_by
-no_macro rest t is none = ap defined_by is ∙ ap (λ (b : Bool). if b then after_name t.text (drop 1 rest) else Err Name) none
+no_macro rest behind t is none = ap defined_by is ∙ ap (λ (b : Bool). if b then after_name t.text behind else Err Name) none
 
-pub a_macro : (rest : List Token) (t : Token) → rest ≡ t ∷ drop 1 rest → names_macro t ≡ true → defined_by rest ≡ after_name t.text (drop 1 rest)
+a_macro : (rest behind : List Token) (t : Token) → rest ≡ t ∷ behind → names_macro t ≡ true → defined_by rest ≡ after_name t.text behind
 unfolding defined_by
-a_macro rest t is some = ap defined_by is ∙ ap (λ (b : Bool). if b then after_name t.text (drop 1 rest) else Err Name) some
+a_macro rest behind t is some = ap defined_by is ∙ ap (λ (b : Bool). if b then after_name t.text behind else Err Name) some
 
-pub right_macro : (rest : List Token) (t : Token) (text : List ℕ) (d : MacroDefinition) → rest ≡ t ∷ drop 1 rest → names_macro t ≡ true → text ≡ t.text
-    → ((name : List ℕ) → after_name name (take (length rest - 1) (drop 1 rest)) ≡ Ok (record { name = name; definition = d })) → defined_by rest ≡ Ok (record { name = text; definition = d })
-right_macro rest t text d is some same right =
-    a_macro rest t is some ∙ ap (after_name t.text) (sym (take_rest rest 1)) ∙ right t.text ∙ ap {B = Result Named DefineError} (λ n. Ok (record { name = n; definition = d })) (sym same)
+pub right_macro : (rest behind : List Token) (t : Token) (d : MacroDefinition) → rest ≡ t ∷ behind → names_macro t ≡ true
+    → ((name : List ℕ) → after_name name behind ≡ Ok (record { name = name; definition = d })) → defined_by rest ≡ Ok (record { name = t.text; definition = d })
+right_macro rest behind t d is some right = a_macro rest behind t is some ∙ right t.text
 
-pub wrong_macro : (rest : List Token) (t : Token) (e : DefineError) → rest ≡ t ∷ drop 1 rest → names_macro t ≡ true
-    → ((name : List ℕ) → RefusesDefinition e (after_name name (take (length rest - 1) (drop 1 rest)))) → RefusesDefinition e (defined_by rest)
-wrong_macro rest t e is some wrong = subst (RefusesDefinition e) (sym (a_macro rest t is some ∙ ap (after_name t.text) (sym (take_rest rest 1)))) (wrong t.text)
+pub wrong_macro : (rest behind : List Token) (t : Token) (e : DefineError) → rest ≡ t ∷ behind → names_macro t ≡ true
+    → ((name : List ℕ) → RefusesDefinition e (after_name name behind)) → RefusesDefinition e (defined_by rest)
+wrong_macro rest behind t e is some wrong = subst (RefusesDefinition e) (sym (a_macro rest behind t is some)) (wrong t.text)

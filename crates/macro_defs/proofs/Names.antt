@@ -1,5 +1,5 @@
 -- Names of parameters, one after the other, and sets of them.
-use Rattle.std.proofs.Common.{◌≡◌, ℕ, ◌+◌, ◌<◌, Bool, true, false, List, [], ◌∷◌, ◌++◌, length, get_or, take, drop, refl, sym, ap, ◌∙◌, true≢false, if◌then◌else◌}
+use Rattle.std.proofs.Common.{◌≡◌, ℕ, ◌+◌, ◌-◌, ◌<◌, ◌≤◌, Bool, true, false, List, [], ◌∷◌, ◌++◌, length, get_or, take, drop, refl, sym, ap, ◌∙◌, true≢false, if◌then◌else◌}
 use Rattle.std.specs.Prelude.{not, ◌&&◌, ◌||◌, bytes_eq}
 use Rattle.std.specs.Borrow.{Bor}
 use Rattle.std.specs.List.{list_any}
@@ -7,6 +7,7 @@ use Rattle.std.proofs.Math.Bool.{or-false, and-false}
 use Rattle.std.proofs.Math.ListN.{take-append-drop}
 use Rattle.std.proofs.lemmas.Cmp.{nat_list_eq_equiv}
 use Rattle.std.proofs.lemmas.Slice.Eq.{bytes_eq-Decides}
+use Rattle.std.proofs.lemmas.List.{take_rest, drop_all}
 use Rattle.std.proofs.lemmas.List.Folds.{list_any-append}
 use Rattle.indexmap.specs.IndexSet.{insert_key}
 use Rattle.pp_tokens.specs.declared.Token.{Token}
@@ -111,6 +112,22 @@ pub still_tells : (names known now : List (List ℕ)) (i : ℕ) (name : List ℕ
 still_tells names known now i name step tells more other =
     more other ∙ ap (λ (b : Bool). b || bytes_eq other name) (tells other)
     ∙ sym (ap (list_any (bytes_eq other)) step ∙ list_any-append (bytes_eq other) (take i names) (name ∷ []) ∙ ap (λ (b : Bool). list_any (bytes_eq other) (take i names) || b) (or-false (bytes_eq other name)))
+
+-- Each name is compared with those behind it.
+
+-- one name more
+pub distinct_turn : (names : List (List ℕ)) (i : ℕ) (name : List ℕ) (again : Bool) → i < length names → name ≡ get_or names i name
+    → again ≡ list_any (bytes_eq name) (take (length names - (i + 1)) (drop (i + 1) names)) → are_distinct (drop i names) ≡ (not again && are_distinct (drop (i + 1) names))
+unfolding are_distinct
+distinct_turn names i name again within at is =
+    ap are_distinct (front_at names i name within at)
+    ∙ ap (λ (rest : List (List ℕ)). not (list_any (bytes_eq name) rest) && are_distinct (drop (i + 1) names)) (sym (take_rest names (i + 1)))
+    ∙ ap (λ (b : Bool). not b && are_distinct (drop (i + 1) names)) (sym is)
+
+-- no name more
+pub distinct_end : (names : List (List ℕ)) (i : ℕ) → length names ≤ i → are_distinct (drop i names) ≡ true
+unfolding are_distinct
+distinct_end names i past = ap are_distinct (drop_all i names past)
 
 -- `#` goes by what a set tells of names.
 parameter_alike : (known names : List (List ℕ)) (body : List Token) → ((other : List ℕ) → list_any (bytes_eq other) known ≡ list_any (bytes_eq other) names) → begins_with_parameter known body ≡ begins_with_parameter names body

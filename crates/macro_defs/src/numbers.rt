@@ -4,13 +4,11 @@ ghost use Rattle.macro_defs.specs.Arguments.{argument_named, parameters_in};
 ghost use Rattle.macro_defs.specs.parts.Stored.{number_for_name, number_named, numbers_kept};
 
 use crate::Shape;
+use crate::params::FEW;
 use base_types::Bytes;
 use indexmap::IndexMap;
 use pp_tokens::Token;
 use std::alloc::{AllocError, Global};
-
-// So many names are compared with a spelling in no more time than it is hashed.
-const FEW: usize = 8;
 
 // For each token of a replacement list the number of the parameter that it names; nothing where there are no parameters.
 pub(crate) fn numbers_in(

@@ -2,7 +2,7 @@
 ghost use Rattle.std.specs.Prelude.{◌≡◌, ◌++◌, ◌∷◌, [], ℕ, List, not, ◌||◌, codes, bytes_eq, IfOk, IfErr, OnOk, MatchOption, Some, None};
 ghost use Rattle.std.specs.List.{list_any};
 ghost use Rattle.std.specs.Option.{option_flatten};
-ghost use Rattle.macro_defs.specs.parts.Stored.{spellings_of};
+ghost use Rattle.macro_defs.specs.parts.Stored.{spellings_of, names_held};
 ghost use Rattle.macro_defs.specs.Defining as spec;
 ghost use Rattle.macro_defs.specs.Defining.{Parameters, RefusesParameters, before_parameters, last_parameter, cut_at_commas, is_written_reserved};
 
@@ -12,6 +12,9 @@ use base_types::{Bytes, List};
 use indexmap::IndexSet;
 use pp_tokens::Token;
 use std::alloc::{AllocError, Global};
+
+// So many names are compared with a spelling in no more time than it is hashed.
+pub(crate) const FEW: usize = 8;
 
 const VARIABLE_ARGUMENT: &[u8] = b"__VA_ARGS__";
 
@@ -124,8 +127,69 @@ fn named_variadic<'t>(token: &'t Token, dots: &Token) -> Option<(&'t [u8], bool)
     Some((token.text.as_slice(), true))
 }
 
+// Names for look-ups: a few are compared one by one, more are looked up in a set.
+#[derive(Drop)]
+pub(crate) enum Names<'n> {
+    Few(&'n [Bytes]),
+    Many(IndexSet<&'n [u8]>),
+}
+
+// The names, for look-ups.
+pub(crate) fn names_for(alloc: Global, names: &[Bytes]) -> Result<Names<'_>, AllocError>
+    ensures { IfOk result (λ known. (name : List ℕ) → list_any (bytes_eq name) (names_held known) ≡ list_any (bytes_eq name) names.now) }
+{
+    if names.len() <= FEW {
+        return Ok(Names::Few(names));
+    }
+    Ok(Names::Many(known_names(alloc, names)?))
+}
+
+impl Names<'_> {
+    ghost use Rattle.std.specs.Prelude.{◌≡◌, bytes_eq};
+    ghost use Rattle.std.specs.List.{list_any};
+    ghost use Rattle.macro_defs.specs.parts.Stored.{names_held};
+
+    // Whether a name is one of these.
+    pub(crate) fn hold(&self, name: &[u8]) -> bool
+        ensures { result ≡ list_any (bytes_eq name.now) (names_held self.now) }
+    {
+        match self {
+            Names::Few(names) => is_among(names, name),
+            Names::Many(known) => holds(known, name),
+        }
+    }
+}
+
+fn is_among(names: &[Bytes], name: &[u8]) -> bool
+    ensures { result ≡ list_any (bytes_eq name.now) names.now }
+{
+    names.iter().any(|other| name == other.as_slice())
+}
+
 // Whether no name stands twice.
 fn are_distinct(alloc: Global, names: &[Bytes]) -> Result<bool, AllocError>
+    ensures { IfOk result (λ distinct. distinct ≡ spec.are_distinct names.now) }
+{
+    if names.len() <= FEW {
+        return Ok(few_distinct(names));
+    }
+    many_distinct(alloc, names)
+}
+
+// The same of a few names, by comparing each with those behind it.
+fn few_distinct(names: &[Bytes]) -> bool
+    ensures { result ≡ spec.are_distinct names.now }
+{
+    for (i, name) in names.iter().enumerate() {
+        if is_among(&names[i + 1..], name.as_slice()) {
+            return false;
+        }
+    }
+    true
+}
+
+// The same of any number of names, by a set of those before each.
+fn many_distinct(alloc: Global, names: &[Bytes]) -> Result<bool, AllocError>
     ensures { IfOk result (λ distinct. distinct ≡ spec.are_distinct names.now) }
 {
     let mut known = IndexSet::new(alloc);
@@ -137,8 +201,8 @@ fn are_distinct(alloc: Global, names: &[Bytes]) -> Result<bool, AllocError>
     Ok(true)
 }
 
-// The names, for look-ups.
-pub(crate) fn known_names(alloc: Global, names: &[Bytes]) -> Result<IndexSet<&[u8]>, AllocError>
+// A set of the names.
+fn known_names(alloc: Global, names: &[Bytes]) -> Result<IndexSet<&[u8]>, AllocError>
     ensures { IfOk result (λ known. (name : List ℕ) → list_any (bytes_eq name) (spellings_of known.keys) ≡ list_any (bytes_eq name) names.now) }
 {
     let mut known = IndexSet::new(alloc);
@@ -159,8 +223,8 @@ fn add_name<'n>(known: &mut IndexSet<&'n [u8]>, name: &'n Bytes) -> Result<bool,
     }
 }
 
-// Whether a name is one of these.
-pub(crate) fn holds(known: &IndexSet<&[u8]>, name: &[u8]) -> bool
+// Whether a name is in a set.
+fn holds(known: &IndexSet<&[u8]>, name: &[u8]) -> bool
     ensures { result ≡ list_any (bytes_eq name.now) (spellings_of known.now.keys) }
 {
     known.contains(name)

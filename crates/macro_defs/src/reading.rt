@@ -1,5 +1,6 @@
 // Reading a `#define` line.
-ghost use Rattle.std.specs.Prelude.{◌≡◌, ℕ, List, IfOk, IfErr, Ok};
+ghost use Rattle.std.specs.Prelude.{◌≡◌, ◌≤◌, ◌∷◌, [], ℕ, List, length, drop, true, if◌then◌else◌, MatchOption, IfOk, IfErr, IsTrue, Ok};
+ghost use Rattle.macro_defs.specs.declared.definition.Shape.TheVariants.{Object};
 ghost use Rattle.macro_defs.specs.Defining as spec;
 ghost use Rattle.macro_defs.specs.Defining.{defined_by, up_to_parenthesis, RefusesDefinition};
 
@@ -7,9 +8,9 @@ use crate::marks::{begins_parameters, parted};
 use crate::params::parameters_of;
 use crate::replacement::{hashes_parameters, with_body};
 use crate::{DefineError, Definition, Shape};
-use base_types::Bytes;
+use base_types::{Bytes, List};
 use pp_tokens::Token;
-use std::alloc::Global;
+use std::alloc::{AllocError, Global};
 
 /// Whether a token may name a macro, in `#define` and in `#undef` (ISO C 6.10.8 paragraph 4): an identifier other than
 /// `defined`, `__FILE__`, `__LINE__`, `__VA_ARGS__` and `__has_include`.
@@ -30,54 +31,86 @@ fn is_reserved(name: &[u8]) -> bool
         || name == b"__has_include".as_slice()
 }
 
-/// The name and the definition that the tokens behind `#define` give, or the first of the four errors, in their order. Each
-/// spelling is copied once. Time is linear in the tokens, on average.
-pub fn read_define(alloc: Global, rest: &[Token]) -> Result<(Bytes, Definition), DefineError>
-    ensures ok { IfOk result (λ d. defined_by rest.now ≡ Ok (record { name = d.0; definition = d.1 })) }
-    ensures err { IfErr result (λ e. RefusesDefinition e (defined_by rest.now)) }
+/// The name and the definition that the tokens behind `#define` give, or the first of the four errors, in their order. The
+/// tokens of the replacement list are moved into the definition. Time is linear in the tokens, on average.
+pub fn read_define(alloc: Global, rest: List<Token>) -> Result<(Bytes, Definition), DefineError>
+    ensures ok { IfOk result (λ d. defined_by rest ≡ Ok (record { name = d.0; definition = d.1 })) }
+    ensures err { IfErr result (λ e. RefusesDefinition e (defined_by rest)) }
 {
-    let [name, behind @ ..] = rest else {
+    let Some((name, behind)) = first_and_rest(rest) else {
         return Err(DefineError::Name);
     };
-    if !names_macro(name) {
+    if !names_macro(&name) {
         return Err(DefineError::Name);
     }
     let definition = after_name(alloc, behind)?;
-    let name = Bytes::copy_of(alloc, name.text.as_slice())?;
-    Ok((name, definition))
+    Ok((name.text, definition))
+}
+
+// The first token, and those behind it.
+fn first_and_rest(tokens: List<Token>) -> Option<(Token, Vec<Token>)>
+    ensures { MatchOption result (tokens ≡ []) (λ parts. tokens ≡ parts.0 ∷ parts.1.items) }
+{
+    let mut tokens = tokens.into_vec();
+    if tokens.is_empty() {
+        return None;
+    }
+    let first = tokens.remove(0);
+    Some((first, tokens))
 }
 
 // What the tokens behind the name define.
-fn after_name(alloc: Global, behind: &[Token]) -> Result<Definition, DefineError>
-    ensures ok { IfOk result (λ d. (name : List ℕ) → spec.after_name name behind.now ≡ Ok (record { name = name; definition = d })) }
-    ensures err { IfErr result (λ e. (name : List ℕ) → RefusesDefinition e (spec.after_name name behind.now)) }
+fn after_name(alloc: Global, behind: Vec<Token>) -> Result<Definition, DefineError>
+    ensures ok { IfOk result (λ d. (name : List ℕ) → spec.after_name name behind.items ≡ Ok (record { name = name; definition = d })) }
+    ensures err { IfErr result (λ e. (name : List ℕ) → RefusesDefinition e (spec.after_name name behind.items)) }
 {
-    let [first, enclosed @ ..] = behind else {
-        return with_body(alloc, Shape::Object, true, behind);
-    };
-    if begins_parameters(first) {
-        return enclosed_of(alloc, enclosed);
+    if begin_parameters(&behind) {
+        return enclosed_of(alloc, behind);
     }
     with_body(alloc, Shape::Object, true, behind)
 }
 
-// What the tokens behind the `(` define.
-fn enclosed_of(alloc: Global, enclosed: &[Token]) -> Result<Definition, DefineError>
-    ensures ok { IfOk result (λ d. (name : List ℕ) → spec.enclosed_of name (up_to_parenthesis enclosed.now) ≡ Ok (record { name = name; definition = d })) }
-    ensures err { IfErr result (λ e. (name : List ℕ) → RefusesDefinition e (spec.enclosed_of name (up_to_parenthesis enclosed.now))) }
+// Whether parameters stand first behind the name.
+fn begin_parameters(behind: &[Token]) -> bool
+    ensures told { (name : List ℕ) → spec.after_name name behind.now ≡ (if result then spec.enclosed_of name (up_to_parenthesis (drop 1 behind.now)) else spec.with_body name Object true behind.now) }
+    ensures some { IsTrue result → 1 ≤ length behind.now }
 {
-    let Some((within, body)) = parted(enclosed, b")") else {
-        return Err(DefineError::Params);
-    };
-    function_of(alloc, within, body)
+    match behind {
+        [first, ..] => begins_parameters(first),
+        [] => false,
+    }
 }
 
-// What the tokens between the parentheses and those behind them define.
-fn function_of(alloc: Global, within: &[Token], body: &[Token]) -> Result<Definition, DefineError>
-    ensures ok { IfOk result (λ d. (name : List ℕ) → spec.function_of name (spec.parameters_of within.now) body.now ≡ Ok (record { name = name; definition = d })) }
+// What a `(` and the tokens behind it define.
+fn enclosed_of(alloc: Global, tokens: Vec<Token>) -> Result<Definition, DefineError>
+    requires { 1 ≤ length tokens.items }
+    ensures ok { IfOk result (λ d. (name : List ℕ) → spec.enclosed_of name (up_to_parenthesis (drop 1 tokens.items)) ≡ Ok (record { name = name; definition = d })) }
+    ensures err { IfErr result (λ e. (name : List ℕ) → RefusesDefinition e (spec.enclosed_of name (up_to_parenthesis (drop 1 tokens.items)))) }
+{
+    let Some((within, body)) = parted(&tokens[1..], b")") else {
+        return Err(DefineError::Params);
+    };
+    let (shape, hashes) = form_of(alloc, within, body)?;
+    let front = tokens.len() - body.len();
+    let body = behind_first(tokens, front)?;
+    with_body(alloc, shape, hashes, body)
+}
+
+// The form of a macro with the parameters that stand between the parentheses, and whether one follows each `#` of the body.
+fn form_of(alloc: Global, within: &[Token], body: &[Token]) -> Result<(Shape, bool), DefineError>
+    ensures ok { IfOk result (λ form. (name : List ℕ) → spec.function_of name (spec.parameters_of within.now) body.now ≡ spec.with_body name form.0 form.1 body.now) }
     ensures err { IfErr result (λ e. (name : List ℕ) → RefusesDefinition e (spec.function_of name (spec.parameters_of within.now) body.now)) }
 {
     let (params, variadic) = parameters_of(alloc, within)?;
     let hashes = hashes_parameters(alloc, params.as_slice(), body)?;
-    with_body(alloc, Shape::Function { params, variadic }, hashes, body)
+    Ok((Shape::Function { params, variadic }, hashes))
+}
+
+// The tokens behind so many.
+fn behind_first(tokens: Vec<Token>, count: usize) -> Result<Vec<Token>, AllocError>
+    requires { count ≤ length tokens.items }
+    ensures { IfOk result (λ behind. behind.items ≡ drop count tokens.items) }
+{
+    let mut tokens = tokens;
+    tokens.split_off(count)
 }

@@ -1,14 +1,12 @@
 // Replacement lists (ISO C 6.10.3).
 ghost use Rattle.std.specs.Prelude.{◌≡◌, ℕ, List, IfOk, IfErr, Ok};
-ghost use Rattle.macro_defs.specs.parts.Stored.{spellings_of};
+ghost use Rattle.macro_defs.specs.parts.Stored.{names_held};
 ghost use Rattle.macro_defs.specs.Defining as spec;
 ghost use Rattle.macro_defs.specs.Defining.{RefusesDefinition};
 
-use crate::copies::copy_tokens;
-use crate::params::{holds, known_names};
+use crate::params::{Names, names_for};
 use crate::{DefineError, Definition, Shape};
-use base_types::Bytes;
-use indexmap::IndexSet;
+use base_types::{Bytes, List};
 use pp_tokens::Token;
 use std::alloc::{AllocError, Global};
 
@@ -17,23 +15,21 @@ pub(crate) fn with_body(
     alloc: Global,
     shape: Shape,
     hashes: bool,
-    body: &[Token],
+    body: Vec<Token>,
 ) -> Result<Definition, DefineError>
-    ensures ok { IfOk result (λ d. (name : List ℕ) → spec.with_body name shape hashes body.now ≡ Ok (record { name = name; definition = d })) }
-    ensures err { IfErr result (λ e. (name : List ℕ) → RefusesDefinition e (spec.with_body name shape hashes body.now)) }
+    ensures ok { IfOk result (λ d. (name : List ℕ) → spec.with_body name shape hashes body.items ≡ Ok (record { name = name; definition = d })) }
+    ensures err { IfErr result (λ e. (name : List ℕ) → RefusesDefinition e (spec.with_body name shape hashes body.items)) }
 {
-    if begins_with_pasting(body) {
+    if begins_with_pasting(&body) {
         return Err(DefineError::PasteEnd);
     }
-    if ends_with_pasting(body) {
+    if ends_with_pasting(&body) {
         return Err(DefineError::PasteEnd);
     }
     if !hashes {
         return Err(DefineError::Hash);
     }
-    let body = copy_tokens(alloc, body)?;
-    let definition = Definition::new(alloc, shape, body)?;
-    Ok(definition)
+    Ok(Definition::new(alloc, shape, List::of(body))?)
 }
 
 fn begins_with_pasting(body: &[Token]) -> bool
@@ -62,12 +58,12 @@ pub(crate) fn hashes_parameters(
 ) -> Result<bool, AllocError>
     ensures { IfOk result (λ right. right ≡ spec.hashes_parameters names.now body.now) }
 {
-    let known = known_names(alloc, names)?;
+    let known = names_for(alloc, names)?;
     Ok(hashes_known(&known, body))
 }
 
-fn hashes_known(known: &IndexSet<&[u8]>, body: &[Token]) -> bool
-    ensures { result ≡ spec.hashes_parameters (spellings_of known.now.keys) body.now }
+fn hashes_known(known: &Names<'_>, body: &[Token]) -> bool
+    ensures { result ≡ spec.hashes_parameters (names_held known.now) body.now }
 {
     for (i, token) in body.iter().enumerate() {
         if is_wrong_hash(known, token, &body[i + 1..]) {
@@ -78,17 +74,17 @@ fn hashes_known(known: &IndexSet<&[u8]>, body: &[Token]) -> bool
 }
 
 // Whether the token is a `#` that no parameter follows.
-fn is_wrong_hash(known: &IndexSet<&[u8]>, token: &Token, behind: &[Token]) -> bool
-    ensures { result ≡ spec.is_wrong_hash (spellings_of known.now.keys) token.now behind.now }
+fn is_wrong_hash(known: &Names<'_>, token: &Token, behind: &[Token]) -> bool
+    ensures { result ≡ spec.is_wrong_hash (names_held known.now) token.now behind.now }
 {
     token.is_hash() && !begins_with_parameter(known, behind)
 }
 
-fn begins_with_parameter(known: &IndexSet<&[u8]>, tokens: &[Token]) -> bool
-    ensures { result ≡ spec.begins_with_parameter (spellings_of known.now.keys) tokens.now }
+fn begins_with_parameter(known: &Names<'_>, tokens: &[Token]) -> bool
+    ensures { result ≡ spec.begins_with_parameter (names_held known.now) tokens.now }
 {
     match tokens {
-        [first, ..] => first.is_identifier() && holds(known, first.text.as_slice()),
+        [first, ..] => first.is_identifier() && known.hold(first.text.as_slice()),
         [] => false,
     }
 }

@@ -14,7 +14,7 @@ fn defined(rt: &impl Abort, alloc: Global, line: &str) -> Result<(Bytes, Definit
         rt.panic("a line is too long");
     }
     let pieces = pieces_of(alloc, line.as_bytes()).expect(rt, "no memory");
-    match first_define(pieces.as_slice()) {
+    match first_define(pieces) {
         Some(tokens) => read_define(alloc, tokens),
         None => rt.panic("no macro is defined"),
     }
@@ -27,11 +27,11 @@ fn pieces_of(alloc: Global, line: &[u8]) -> Result<List<Piece>, AllocError>
     scan(alloc, &lexed)
 }
 
-fn first_define(pieces: &[Piece]) -> Option<&[Token]> {
-    for piece in pieces {
+fn first_define(pieces: List<Piece>) -> Option<List<Token>> {
+    for piece in pieces.into_vec() {
         if let Piece::Line { what, .. } = piece {
             if let Directive::Define(tokens) = what {
-                return Some(tokens.as_slice());
+                return Some(tokens);
             }
         }
     }

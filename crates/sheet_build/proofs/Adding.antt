@@ -1,5 +1,6 @@
 -- How sheets grow.
-use Rattle.std.proofs.Common.{◌≡◌, ◌<◌, ◌+◌, ◌++◌, ◌∷◌, [], ℕ, Bool, true, false, ◌||◌, List, length, take, get_or, map, Option, Some, refl, sym, ap, ◌∙◌, append_assoc}
+use Rattle.std.proofs.Common.{◌≡◌, ◌<◌, ◌+◌, ◌++◌, ◌∷◌, [], ℕ, Bool, true, false, ◌||◌, List, length, take, get_or, map, Option, Some, refl, sym, ap, ◌∙◌, append_assoc, if◌then◌else◌}
+use Rattle.std.specs.Prelude.{codes, bytes_eq}
 use Rattle.std.specs.List.{filter_map, flat_map}
 use Rattle.std.specs.Option.{option_map}
 use Rattle.std.proofs.Math.Bool.{or-false}
@@ -12,6 +13,10 @@ use Rattle.directive_scan.specs.declared.Piece.{Piece}
 use Rattle.directive_scan.specs.declared.Piece.TheVariants.{Line}
 use Rattle.directive_scan.specs.declared.Directive.{Directive}
 use Rattle.directive_scan.specs.declared.Directive.TheVariants as named
+use Rattle.directive_scan.specs.declared.DirectiveName.{DirectiveName}
+use Rattle.directive_scan.specs.declared.DirectiveName.TheVariants as name
+use Rattle.directive_scan.specs.Names.{directive_told}
+use Rattle.directive_scan.specs.Directives.{pragma_of}
 use Rattle.directive_scan.specs.declared.ConditionPart.{ConditionPart}
 use Rattle.directive_scan.specs.declared.ConditionPart.TheVariants.{Written}
 use Rattle.directive_scan.specs.Operands.{parts_of, operands_of, targets_of}
@@ -21,8 +26,8 @@ use Rattle.search_path.specs.Search.{Hit}
 use Rattle.search_path.specs.declared.asking.Ask.{Ask}
 use Rattle.search_path.specs.declared.asking.Visit.{Visit}
 use Rattle.tree_model.specs.declared.walk.Located.{Located}
-use Rattle.sheet_build.specs.Sheet.{SheetData, ComputedAsk, AskedTarget, asked_so, plain_hit, computed_of, includes_in, probes_in, probes_for, definition_in, is_line, sheet_from}
-use Rattle.sheet_build.specs.parts.Stored.{joined_sheets, with_includes, with_probes}
+use Rattle.sheet_build.specs.Sheet.{empty_sheet, SheetData, ComputedAsk, AskedTarget, asked_so, plain_hit, computed_of, includes_in, probes_in, probes_for, definition_in, is_line, sheet_from}
+use Rattle.sheet_build.specs.parts.Stored.{AddsNothing, joined_sheets, with_includes, with_probes}
 
 abbrev sheet_made : List Named → List Hit → List Located → List ComputedAsk → Bool → SheetData
 sheet_made defs plain probes computed has_line = record { defs = defs; plain = plain; probes = probes; computed = computed; has_line = has_line }
@@ -173,3 +178,51 @@ probeless-adds find visit tokens s parts =
     sym (probes-none find visit s)
     ∙ ap (λ (ts : List Target). with_probes find visit (map (asked_so false true) ts) s) (sym (no-targets tokens))
     ∙ ap (λ (o : Option (List ConditionPart)). with_probes find visit (probes_for (option_map targets_of o)) s) (sym parts)
+
+-- ---- a directive that adds nothing ----
+
+joined-empty : (s : SheetData) → s ≡ joined_sheets s empty_sheet
+joined-empty s =
+    same_sheet s.defs (s.defs ++ []) s.plain (s.plain ++ []) s.probes (s.probes ++ []) s.computed (s.computed ++ []) s.has_line (s.has_line || false)
+    (sym (append-nil s.defs)) (sym (append-nil s.plain)) (sym (append-nil s.probes)) (sym (append-nil s.computed)) (sym (or-false s.has_line))
+
+pragma-empty : (find : Ask → Option Hit) (visit : Visit) (at : ℕ) (ts : List Token) → empty_sheet ≡ sheet_on find visit at (pragma_of ts)
+unfolding pragma_of
+pragma-empty find visit at [] = refl
+pragma-empty find visit at (t ∷ ts) = by (bytes_eq t.text (codes "once"))
+  where
+    by : (b : Bool) → empty_sheet ≡ sheet_on find visit at (if b then named.Once else named.Pragma (t ∷ ts))
+    by true = refl
+    by false = refl
+
+others-empty : (find : Ask → Option Hit) (visit : Visit) (at : ℕ) (n : DirectiveName) (ts : List Token) →
+    (n ≡ name.Include → ⊥) → (n ≡ name.Next → ⊥) → (n ≡ name.Define → ⊥) → (n ≡ name.Line → ⊥) → (n ≡ name.If → ⊥) → (n ≡ name.Elif → ⊥) → empty_sheet ≡ sheet_on find visit at (directive_told n ts)
+others-empty find visit at name.Include ts a b c d e f = absurd (a refl)
+others-empty find visit at name.Next ts a b c d e f = absurd (b refl)
+others-empty find visit at name.Define ts a b c d e f = absurd (c refl)
+others-empty find visit at name.Line ts a b c d e f = absurd (d refl)
+others-empty find visit at name.If ts a b c d e f = absurd (e refl)
+others-empty find visit at name.Elif ts a b c d e f = absurd (f refl)
+others-empty find visit at name.Undef ts a b c d e f = refl
+others-empty find visit at name.Ifdef ts a b c d e f = refl
+others-empty find visit at name.Ifndef ts a b c d e f = refl
+others-empty find visit at name.Else ts a b c d e f = refl
+others-empty find visit at name.Endif ts a b c d e f = refl
+others-empty find visit at name.Error ts a b c d e f = refl
+others-empty find visit at name.Warning ts a b c d e f = refl
+others-empty find visit at name.Pragma ts a b c d e f = pragma-empty find visit at ts
+others-empty find visit at name.Null ts a b c d e f = refl
+others-empty find visit at name.Unknown ts a b c d e f = refl
+
+-- a name that tells so
+pub others-add-nothing : (what : Directive) (n : DirectiveName) (ts : List Token) → what ≡ directive_told n ts →
+    (n ≡ name.Include → ⊥) → (n ≡ name.Next → ⊥) → (n ≡ name.Define → ⊥) → (n ≡ name.Line → ⊥) → (n ≡ name.If → ⊥) → (n ≡ name.Elif → ⊥) → AddsNothing what
+others-add-nothing what n ts is a b c d e f find visit at s =
+    on-line find visit at what (directive_told n ts) s is (joined-empty s ∙ ap (joined_sheets s) (others-empty find visit at n ts a b c d e f))
+
+-- a condition that asks for no file
+pub if-adds-nothing : (what : Directive) (ts : List Token) → what ≡ named.If ts → parts_of ts ≡ Some (map Written ts) → AddsNothing what
+if-adds-nothing what ts is plain find visit at s = on-line find visit at what (named.If ts) s is (probeless-adds find visit ts s plain ∙ if-adds find visit at ts s)
+
+pub elif-adds-nothing : (what : Directive) (ts : List Token) → what ≡ named.Elif ts → parts_of ts ≡ Some (map Written ts) → AddsNothing what
+elif-adds-nothing what ts is plain find visit at s = on-line find visit at what (named.Elif ts) s is (probeless-adds find visit ts s plain ∙ elif-adds find visit at ts s)

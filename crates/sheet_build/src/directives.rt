@@ -1,24 +1,25 @@
 // What directives add to a sheet (ISO C 6.10).
-ghost use Rattle.std.specs.Prelude.{◌≡◌, ℕ, ◌∷◌, [], OnOk, IsErrOf};
+ghost use Rattle.std.specs.Prelude.{◌≡◌, false, ℕ, ◌∷◌, [], OnOk, IsErrOf};
 ghost use Rattle.std.specs.List.{cons_option};
 ghost use Rattle.std.specs.Option.{ForSome};
 ghost use Rattle.base_types.specs.Causes.{HasCause};
-ghost use Rattle.directive_scan.specs.Spots.{piece_seen};
+ghost use Rattle.directive_scan.specs.Spots.{piece_seen, directive_seen};
 ghost use Rattle.directive_scan.specs.declared.Piece.TheVariants.{Line};
 ghost use Rattle.macro_defs.specs.Defining.{defined_by};
 ghost use Rattle.sheet_build.specs.Sheet.{accepted};
-ghost use Rattle.sheet_build.specs.parts.Stored.{sheet_of_parts, with_definitions, Adds};
+ghost use Rattle.sheet_build.specs.parts.Stored.{sheet_of_parts, with_definitions, Adds, AddsNothing};
 
 use crate::sheets::Parts;
 use crate::targets::{add_include, add_probes};
-use directive_scan::{Directive, PieceRef};
+use base_types::List;
+use directive_scan::{Directive, DirectiveName, DirectiveRef, PieceRef, parts_without_probe};
 use macro_defs::{DefineError, read_define};
 use pp_tokens::Token;
 use search_path::{Setup, Visit};
 use std::alloc::Global;
 use tree_model::{Tree, TreeError};
 
-// A piece of a file. The tokens of text aren't read, those of a directive are made here.
+// A piece of a file. The tokens of text aren't read; those of a directive are made here, where it may add something.
 pub fn add_piece<T: Tree>(
     alloc: Global,
     tree: &mut T,
@@ -36,9 +37,28 @@ pub fn add_piece<T: Tree>(
     match piece {
         PieceRef::Run(_) => Ok(()),
         PieceRef::Line { at: _, what } => {
+            if !may_add(what) {
+                return Ok(());
+            }
             let what = what.read(alloc)?;
             add_directive(alloc, tree, setup, visit, what, parts)
         }
+    }
+}
+
+// Whether a directive may add something to a sheet, as far as its name tells it, and as a condition asks for a file.
+fn may_add(line: DirectiveRef<'_>) -> bool
+    ensures { result ≡ false → AddsNothing (directive_seen line.entry) }
+{
+    parts_without_probe();
+    match line.name() {
+        DirectiveName::Include => true,
+        DirectiveName::Next => true,
+        DirectiveName::Define => true,
+        DirectiveName::Line => true,
+        DirectiveName::If => line.has_probe(),
+        DirectiveName::Elif => line.has_probe(),
+        _ => false,
     }
 }
 
@@ -60,7 +80,7 @@ fn add_directive<T: Tree>(
     match what {
         Directive::Include(target) => add_include(alloc, tree, setup, visit, false, target, parts),
         Directive::Next(target) => add_include(alloc, tree, setup, visit, true, target, parts),
-        Directive::Define(tokens) => add_definition(alloc, tokens.as_slice(), parts),
+        Directive::Define(tokens) => add_definition(alloc, tokens, parts),
         Directive::If(tokens) => add_probes(alloc, tree, setup, visit, tokens.as_slice(), parts),
         Directive::Elif(tokens) => add_probes(alloc, tree, setup, visit, tokens.as_slice(), parts),
         Directive::Line(_) => {
@@ -72,8 +92,8 @@ fn add_directive<T: Tree>(
 }
 
 // A `#define`: one that is refused adds nothing.
-fn add_definition(alloc: Global, tokens: &[Token], parts: &mut Parts) -> Result<(), TreeError>
-    ensures adds { OnOk result (sheet_of_parts parts.new ≡ with_definitions (cons_option (accepted (defined_by tokens.now)) []) (sheet_of_parts parts.old)) }
+fn add_definition(alloc: Global, tokens: List<Token>, parts: &mut Parts) -> Result<(), TreeError>
+    ensures adds { OnOk result (sheet_of_parts parts.new ≡ with_definitions (cons_option (accepted (defined_by tokens)) []) (sheet_of_parts parts.old)) }
     ensures no_fault { IsErrOf result TreeError.Fault → ⊥ }
     ensures never_large { IsErrOf result TreeError.Large → ⊥ }
 {

@@ -5,6 +5,8 @@ use Rattle.indexmap.specs.IndexMap.{IndexMap, get_by}
 use Rattle.pp_tokens.specs.declared.Token.{Token}
 use Rattle.pp_tokens.specs.Marks.{is_identifier}
 use Rattle.macro_defs.specs.MacroDefinition.{MacroDefinition}
+use Rattle.macro_defs.specs.declared.params.Names.{Names}
+use Rattle.macro_defs.specs.declared.params.Names.TheVariants as names
 use Rattle.macro_defs.specs.Arguments.{argument_named}
 use Rattle.macro_defs.specs.Table.{TableEntries}
 
@@ -15,6 +17,11 @@ entries_of_map entries = map (λ e. (e.0.items, e.1)) entries
 -- the spellings in a set of names
 abbrev pub spellings_of : List (Bor (List ℕ)) → List (List ℕ)
 spellings_of names = map (λ n. n.now) names
+
+-- the names that are looked up
+abbrev pub names_held : Names → List (List ℕ)
+names_held (names.Few ns) = ns.now
+names_held (names.Many known) = spellings_of known.keys
 
 -- the number that a map has for a name
 abbrev pub number_for_name : {S : Type 0} → IndexMap (Bor (List ℕ)) ℕ S → List ℕ → Option ℕ

@@ -1,7 +1,9 @@
 -- What code keeps of a sheet, and how it grows piece by piece.
-use Rattle.std.specs.Prelude.{◌≡◌, List, ◌++◌, ◌||◌, Option, map}
+use Rattle.std.specs.Prelude.{◌≡◌, ℕ, List, [], ◌∷◌, ◌++◌, ◌||◌, Option, map}
 use Rattle.std.specs.List.{filter_map}
+use Rattle.directive_scan.specs.declared.Directive.{Directive}
 use Rattle.directive_scan.specs.declared.Piece.{Piece}
+use Rattle.directive_scan.specs.declared.Piece.TheVariants.{Line}
 use Rattle.macro_defs.specs.Defining.{Named}
 use Rattle.search_path.specs.SetupOf.{SetupData}
 use Rattle.search_path.specs.Search.{Hit, search}
@@ -28,6 +30,10 @@ joined_sheets s t = record {
 -- what some pieces add to parts
 abbrev pub Adds : FileTree → SetupData → Visit → List Piece → Parts → Parts → Type 0
 Adds told setup visit ps old new = sheet_of_parts new ≡ joined_sheets (sheet_of_parts old) (sheet_from (search told setup) visit ps)
+
+-- a directive adds nothing, on whatever line
+abbrev pub AddsNothing : Directive → Type 0
+AddsNothing d = (find : Ask → Option Hit) (visit : Visit) (at : ℕ) (s : SheetData) → s ≡ joined_sheets s (sheet_from find visit (Line at d ∷ []))
 
 -- a sheet with more definitions
 abbrev pub with_definitions : List Named → SheetData → SheetData

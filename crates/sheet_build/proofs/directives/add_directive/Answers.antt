@@ -21,7 +21,7 @@ returns-in-Next-clause-adds g c = λ told is.
 pub returns-in-If-clause-adds : goal.returns-in-If-clause-adds
 returns-in-If-clause-adds g c = λ told is.
     on_ok_weaker c.add_probes.result
-    (λ added at. added ∙ on-line (search told c.args.setup.now) c.args.visit.now at c.args.what (If c.as_slice-in-If.result.now) (sheet_of_parts c.args.parts.now) (c.in-If.is ∙ ap If (sym c.as_slice-in-If.ensures)) (if-adds (search told c.args.setup.now) c.args.visit.now at c.as_slice-in-If.result.now (sheet_of_parts c.args.parts.now)))
+    (λ added at. added ∙ on-line (search told c.args.setup.now) c.args.visit.now at c.args.what (If c.as_slice.result.now) (sheet_of_parts c.args.parts.now) (c.in-If.is ∙ ap If (sym c.as_slice.ensures)) (if-adds (search told c.args.setup.now) c.args.visit.now at c.as_slice.result.now (sheet_of_parts c.args.parts.now)))
     (c.add_probes.ensures.adds told is)
 
 pub returns-in-Elif-clause-adds : goal.returns-in-Elif-clause-adds

@@ -1,9 +1,9 @@
-use Rattle.std.proofs.Common.{◌≡◌, ◌∷◌, [], sym, ap, ◌∙◌}
+use Rattle.std.proofs.Common.{refl, ◌≡◌, ◌∷◌, [], sym, ap, ◌∙◌}
 use Rattle.std.proofs.lemmas.Result.{on_ok_weaker}
 use Rattle.directive_scan.specs.declared.Directive.{Directive}
 use Rattle.directive_scan.specs.declared.Piece.{Piece}
 use Rattle.directive_scan.specs.declared.Piece.TheVariants.{Line}
-use Rattle.directive_scan.specs.Spots.{piece_seen}
+use Rattle.directive_scan.specs.Spots.{piece_seen, directive_seen}
 use Rattle.search_path.specs.Search.{search}
 use Rattle.sheet_build.specs.Sheet.{sheet_from}
 use Rattle.sheet_build.specs.parts.Stored.{sheet_of_parts, joined_sheets}
@@ -15,3 +15,9 @@ returns-in_ok-what-in-Line-clause-adds g c = λ told is.
     on_ok_weaker c.add_directive.result
     (λ added. added c.in-Line.at ∙ ap (λ (p : Piece). joined_sheets (sheet_of_parts c.args.parts.now) (sheet_from (search told c.args.setup.now) c.args.visit.now (p ∷ []))) seen)
     (c.add_directive.ensures.adds told is)
+
+pub returns-then-not-may_add-clause-adds : goal.returns-then-not-may_add-clause-adds
+returns-then-not-may_add-clause-adds g c = λ told is.
+    let seen : Line c.in-Line.at (directive_seen c.in-Line.what) ≡ piece_seen c.args.piece = sym (ap piece_seen c.in-Line.is) in
+    c.if-not-may_add.ensures refl (search told c.args.setup.now) c.args.visit.now c.in-Line.at (sheet_of_parts c.args.parts.now)
+    ∙ ap (λ (p : Piece). joined_sheets (sheet_of_parts c.args.parts.now) (sheet_from (search told c.args.setup.now) c.args.visit.now (p ∷ []))) seen

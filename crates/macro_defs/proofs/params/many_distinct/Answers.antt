@@ -5,7 +5,7 @@ use Rattle.std.proofs.lemmas.List.{take_more}
 use Rattle.macro_defs.specs.parts.Stored.{spellings_of}
 use Rattle.macro_defs.specs.Defining.{are_distinct}
 use Rattle.macro_defs.proofs.Names.{repeated, still_distinct, still_tells}
-use Rattle.macro_defs.proofs.params.are_distinct.Goals as goal
+use Rattle.macro_defs.proofs.params.many_distinct.Goals as goal
 
 pub loop-name-init : goal.loop-name-init
 unfolding are_distinct

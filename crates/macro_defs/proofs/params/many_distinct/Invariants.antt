@@ -3,7 +3,7 @@ use Rattle.std.specs.Prelude.{bytes_eq}
 use Rattle.std.specs.List.{list_any}
 use Rattle.macro_defs.specs.parts.Stored.{spellings_of}
 use Rattle.macro_defs.specs.Defining as spec
-use Rattle.macro_defs.proofs.params.are_distinct.Given as goal
+use Rattle.macro_defs.proofs.params.many_distinct.Given as goal
 
 abbrev pub invariant-loop-name : goal.invariant-loop-name
 invariant-loop-name l = record {
