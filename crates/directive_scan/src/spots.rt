@@ -32,19 +32,23 @@ struct Gathered {
     run: Option<usize>,
 }
 
+// The spots of most files find room for so many at once.
+const ROOM: usize = 64;
+
 // The spots of a file's pieces. No token is copied; time is linear in the lines.
 pub fn spots(alloc: Global, file: &Lexed) -> Result<Vec<Spot>, AllocError>
     ensures shown { IfOk result (λ s. map (piece_at file.now) s.items ≡ pieces file.now.lines) }
     ensures roles { IfOk result (λ s. EachKnowsRole file.now s.items) }
 {
+    let count = file.line_count();
     let mut gathered = Gathered {
-        ended: Vec::new(alloc),
+        ended: Vec::with_capacity(alloc, count.min(ROOM))?,
         run: None,
     };
-    for line in 0..file.line_count() {
+    for line in 0..count {
         gathered = with_line(file, line, gathered)?;
     }
-    all_ended(file, file.line_count(), gathered)
+    all_ended(file, count, gathered)
 }
 
 // What is gathered with one more line.

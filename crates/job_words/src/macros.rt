@@ -85,7 +85,7 @@ fn has_newline(text: &[u8]) -> bool
 fn first_line(alloc: Global, lexed: &Lexed) -> Result<List<Token>, AllocError>
     ensures { IfOk result (λ tokens. tokens ≡ line_at lexed.now 0) }
 {
-    let mut tokens = Vec::new(alloc);
+    let mut tokens = Vec::with_capacity(alloc, lexed.token_count(0))?;
     for at in 0..lexed.token_count(0) {
         if let Some(token) = lexed.token(0, at) {
             tokens.push(token.to_token(alloc)?)?;

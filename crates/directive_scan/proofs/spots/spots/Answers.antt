@@ -7,7 +7,7 @@ use Rattle.directive_scan.proofs.Spotted.{no_role}
 use Rattle.directive_scan.proofs.spots.spots.Goals as goal
 
 pub loop-line-init : goal.loop-line-init
-loop-line-init c = record { shown = rw c.new.ensures.items refl; roles = rw c.new.ensures.items (no_role c.args.file.now); begins = tt; within = omega arith }
+loop-line-init c = record { shown = rw c.in_ok-with_capacity.ensures.items refl; roles = rw c.in_ok-with_capacity.ensures.items (no_role c.args.file.now); begins = tt; within = omega arith }
 
 pub loop-line-preserved : goal.loop-line-preserved
 loop-line-preserved c =
@@ -27,7 +27,7 @@ returns-clause-shown c =
     let file = c.args.file.now in
     let before = c.loop-line.gathered in
     let past : length file.lines ≤ c.loop-line.line = omega arith in
-    let end : c.line_count.result ≡ c.loop-line.line = omega (arith, past, c.loop-line.invariant.within, c.line_count.ensures) in
+    let end : c.line_count-count.result ≡ c.loop-line.line = omega (arith, past, c.loop-line.invariant.within, c.line_count-count.ensures) in
     IfOk-weaker c.all_ended.result _ _
     (λ s same.
     same
