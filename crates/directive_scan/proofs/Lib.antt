@@ -11,3 +11,4 @@ mod ClosedNames
 mod PartSteps
 mod TextLines
 mod Probed
+pub mod Asking

@@ -59,6 +59,27 @@ pub before_more : (file : LexedFile) (line : ℕ) → line < length file.lines �
 before_more file line below =
     omega (arith, ap length (before_next file line below), length-append (flat_map (λ l. l) (take line file.lines)) (tokens_at_line file line))
 
+pub before_two : (file : LexedFile) (line : ℕ) → line < length file.lines → 2 ≤ length (tokens_at_line file line) → tokens_before file line + 2 ≤ tokens_before file (line + 1)
+before_two file line below two =
+    omega (arith, ap length (before_next file line below), length-append (flat_map (λ l. l) (take line file.lines)) (tokens_at_line file line), two)
+
+-- the tokens of a line behind its first two
+pub behind_two : (file : LexedFile) (line : ℕ) → line < length file.lines → 2 ≤ length (tokens_at_line file line)
+    → tokens_between file (tokens_before file line + 2) (tokens_before file (line + 1)) ≡ drop 2 (tokens_at_line file line)
+behind_two file line below two =
+    let a = flat_map (λ l. l) (take line file.lines) in
+    let l = tokens_at_line file line in
+    let r = flat_map (λ l. l) (drop (line + 1) file.lines) in
+    let halves : take 2 l ++ drop 2 l ≡ l = take-append-drop 2 l in
+    let first : length (a ++ take 2 l) ≡ length a + 2 = omega (arith, length-append a (take 2 l), length-append (take 2 l) (drop 2 l), ap length halves, length-drop 2 l, two) in
+    let end : flat_map (λ l. l) (take (line + 1) file.lines) ≡ (a ++ take 2 l) ++ drop 2 l =
+    before_next file line below ∙ ap (λ (ts : List Token). a ++ ts) (sym halves) ∙ sym (append_assoc a (take 2 l) (drop 2 l)) in
+    let all : all_tokens file ≡ (a ++ take 2 l) ++ (drop 2 l ++ r) =
+    parts file line below ∙ ap (λ (ts : List Token). a ++ (ts ++ r)) (sym halves)
+    ∙ ap (λ (ts : List Token). a ++ ts) (append_assoc (take 2 l) (drop 2 l) r) ∙ sym (append_assoc a (take 2 l) (drop 2 l ++ r)) in
+    let none : length (a ++ take 2 l) - length (a ++ take 2 l) ≡ 0 = omega arith in
+    rw (end, all, ← first, stretch (a ++ take 2 l) (drop 2 l) r (length (a ++ take 2 l)) (omega arith), none) refl
+
 -- a line behind a run
 onto_both : (run line : List Token) (others : List Piece) → onto_run (run ++ line) others ≡ onto_run run (onto_run line others)
 onto_both run line [] = refl

@@ -15,6 +15,9 @@ use Rattle.directive_scan.specs.declared.role.Nesting.TheVariants as nesting
 use Rattle.directive_scan.specs.declared.spots.Spot.{Spot}
 use Rattle.directive_scan.specs.declared.spots.Spot.TheVariants as spot
 use Rattle.directive_scan.specs.declared.directive.Directive.{Directive}
+use Rattle.directive_scan.specs.declared.directive.Directive.TheVariants as directive
+use Rattle.directive_scan.specs.declared.asked.Asked.{Asked}
+use Rattle.directive_scan.specs.declared.asked.Asked.TheVariants as asked
 use Rattle.directive_scan.specs.Directives.{directive_of}
 use Rattle.directive_scan.specs.Gathered.{tokens_at_line, gathered_pieces}
 use Rattle.directive_scan.specs.Groups.{Role, single, opening, elif_line, else_line, endif_line, directive_role}
@@ -59,6 +62,22 @@ directive_seen line = directive_on line.lexed.now line.line
 abbrev pub piece_seen : PieceRef → Piece
 piece_seen (lent.Run tokens) = piece.Run (rest_of tokens)
 piece_seen (lent.Line at line) = piece.Line at (directive_seen line)
+
+-- a directive that is no condition's line
+abbrev pub AsksNothing : Directive → Type 0
+AsksNothing (directive.If tokens) = ⊥
+AsksNothing (directive.Elif tokens) = ⊥
+AsksNothing (directive.Ifdef tokens) = ⊥
+AsksNothing (directive.Ifndef tokens) = ⊥
+AsksNothing _ = Unit {0}
+
+-- what a directive asks (6.10.1)
+abbrev pub AsksOf : Asked → Directive → Type 0
+AsksOf (asked.If tokens) what = what ≡ directive.If (rest_of tokens)
+AsksOf (asked.Elif tokens) what = what ≡ directive.Elif (rest_of tokens)
+AsksOf (asked.Ifdef tokens) what = what ≡ directive.Ifdef (rest_of tokens)
+AsksOf (asked.Ifndef tokens) what = what ≡ directive.Ifndef (rest_of tokens)
+AsksOf asked.Nothing what = AsksNothing what
 
 -- the pieces of a file: those of the spots so far, a run that goes on from a token up to a line, and those of the other lines
 abbrev pub so_far : LexedFile → List Spot → Option ℕ → ℕ → List Piece → List Piece

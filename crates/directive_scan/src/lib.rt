@@ -1,6 +1,7 @@
 //! The directives of a file (ISO C 6.10), and how its conditionals nest.
 #![tactic(auto)]
 
+mod asked;
 mod conditional;
 mod directive;
 mod header;
@@ -14,6 +15,7 @@ mod scanner;
 mod spots;
 mod stage;
 
+pub use asked::Asked;
 pub use conditional::{BranchName, Malformed};
 pub use directive::{Directive, HeaderName, Piece, Target};
 pub use header::header_of;

@@ -7,9 +7,10 @@ ghost use Rattle.directive_scan.specs.Directives.{pieces};
 ghost use Rattle.directive_scan.specs.Groups.{malformed_by, outline, role_of};
 ghost use Rattle.directive_scan.specs.Gathered.{tokens_at_line};
 ghost use Rattle.directive_scan.specs.Names.{directive_told, tokens_behind};
-ghost use Rattle.directive_scan.specs.Spots.{piece_seen, directive_seen, role_told};
+ghost use Rattle.directive_scan.specs.Spots.{AsksOf, piece_seen, directive_seen, role_told};
 ghost use Rattle.directive_scan.specs.declared.directive.Piece.{Piece};
 
+use crate::asked::{Asked, asked_at};
 use crate::conditional::Malformed;
 use crate::directive::Directive;
 use crate::name::{DirectiveName, name_at};
@@ -162,6 +163,13 @@ impl<'a> DirectiveRef<'a> {
         ensures { IfOk result (λ d. d ≡ directive_seen self.now) }
     {
         directive_at(alloc, self.lexed, self.line)
+    }
+
+    /// What the line asks, where it is of a conditional. No token is copied.
+    pub fn asked(&self) -> Asked<'a>
+        ensures { AsksOf result (directive_seen self.now) }
+    {
+        asked_at(self.lexed, self.line)
     }
 }
 
