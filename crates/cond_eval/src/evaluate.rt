@@ -24,7 +24,7 @@ pub fn value(alloc: Global, tokens: &[Token]) -> Result<Num, CondError>
     ensures err { IfErr result (λ e. RefusesCondition e (expression_value tokens.now)) }
 {
     match lexemes_of(alloc, tokens) {
-        Ok(lexemes) => value_in(alloc, &lexemes),
+        Ok(lexemes) => value_of_lexemes(alloc, &lexemes),
         Err(error) => Err(error),
     }
 }
@@ -36,7 +36,7 @@ fn lexemes_of(alloc: Global, tokens: &[Token]) -> Result<Vec<Lexeme>, CondError>
 {
     let mut lexemes = Vec::new(alloc);
     for token in tokens {
-        match lexeme_of(token) {
+        match lexeme_of(&token.as_ref()) {
             Ok(lexeme) => put(&mut lexemes, lexeme)?,
             Err(error) => return Err(error),
         }
@@ -54,8 +54,9 @@ fn put(lexemes: &mut Vec<Lexeme>, lexeme: Lexeme) -> Result<(), CondError>
     }
 }
 
-// The value of the expression that lexemes spell.
-fn value_in(alloc: Global, lexemes: &[Lexeme]) -> Result<Num, CondError>
+/// The value of the expression that lexemes spell, those of its tokens by [`lexeme_of`](crate::lexeme_of), or why it has none, as for
+/// [`value`](crate::value). Time is linear in them.
+pub fn value_of_lexemes(alloc: Global, lexemes: &[Lexeme]) -> Result<Num, CondError>
     ensures ok { IfOk result (λ n. value_in (spelled_expression lexemes.now) ≡ Ok n) }
     ensures err { IfErr result (λ e. RefusesCondition e (value_in (spelled_expression lexemes.now))) }
 {

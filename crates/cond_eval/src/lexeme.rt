@@ -1,12 +1,13 @@
 // What a token is in an expression.
 ghost use Rattle.std.specs.Prelude.{◌≡◌};
+ghost use Rattle.pp_tokens.specs.Tokens.{token_seen};
 ghost use Rattle.cond_eval.specs.Lexemes.{lexeme_of, punctuator_of, constant_read};
 
 use crate::character::character_value;
 use crate::number::number_value;
 use crate::operator::Binary;
 use crate::{CondError, Num};
-use pp_tokens::{Kind, Token};
+use pp_tokens::{Kind, TokenRef};
 
 /// A constant; an operator between two operands, where `+` and `-` are unary too; a `!`, `~`, `?`, `:`, `(` or `)`; or a token
 /// that no expression has.
@@ -69,10 +70,10 @@ fn constant(read: Result<Num, CondError>) -> Result<Lexeme, CondError>
 
 /// What a token is in an expression, or what is wrong with a constant.
 #[tactic(auto, unfolding(crate::specs::Lexemes::lexeme_of))]
-pub fn lexeme_of(token: &Token) -> Result<Lexeme, CondError>
-    ensures { result ≡ lexeme_of token.now }
+pub fn lexeme_of(token: &TokenRef<'_>) -> Result<Lexeme, CondError>
+    ensures { result ≡ lexeme_of (token_seen token.now) }
 {
-    let text = token.text.as_slice();
+    let text = token.text;
     match token.kind {
         Kind::Number => constant(number_value(text)),
         Kind::Char => constant(character_value(text)),

@@ -13,6 +13,8 @@ mod pending;
 mod reading;
 mod seen;
 
-pub use evaluate::value;
+pub use evaluate::{value, value_of_lexemes};
 pub use law::one_reading;
+pub use lexeme::{Lexeme, lexeme_of};
 pub use num::{CondError, Num};
+pub use operator::Binary;
