@@ -14,18 +14,31 @@ use Rattle.directive_scan.specs.declared.Piece.TheVariants.{Line}
 use Rattle.directive_scan.specs.declared.ConditionPart.{ConditionPart}
 use Rattle.directive_scan.specs.declared.ConditionPart.TheVariants.{Written, Probe}
 use Rattle.directive_scan.specs.Operands.{parts_of}
-use Rattle.cond_eval.specs.Value.{expression_value}
+use Rattle.macro_expand.specs.Asking as failure
+use Rattle.macro_expand.specs.Asking.{Failure}
+use Rattle.macro_expand.specs.declared.outcome.ExpandError.{ExpandError}
+use Rattle.macro_expand.specs.declared.outcome.ExpandError.TheVariants as expand_error
+use Rattle.macro_expand.specs.declared.outcome.Mode.TheVariants.{Condition}
+use Rattle.macro_expand.specs.declared.outcome.Work.{Work as WorkLeft}
+use Rattle.macro_expand.specs.Expansion.{Expanded, expanded_by}
+use Rattle.macro_expand.specs.Replacement.{unmarked}
+use Rattle.macro_expand.specs.Seen.{place_of, ReportsResult}
+use Rattle.macro_expand.specs.Stream.{given}
+use Rattle.daemon_cpp.specs.declared.kept.Places.{Places}
+use Rattle.daemon_cpp.specs.parts.Controlling.{LineSoFar, at_first, with_tokens, read_from, judged}
+use Rattle.daemon_cpp.proofs.Texts.{shown-expansion}
+use Rattle.daemon_cpp.proofs.Judged.{whole-said}
 use Rattle.search_path.specs.Asks.{header_ask}
 use Rattle.search_path.specs.Search.{Hit}
-use Rattle.tree_model.specs.Paths.{Path, spelled}
+use Rattle.tree_model.specs.Paths.{Text, Path, spelled}
 use Rattle.tree_model.specs.declared.walk.Located.{Located}
 use Rattle.daemon_cpp.specs.declared.kept.Kept.{Kept}
 use Rattle.daemon_cpp.specs.declared.stop.Stop.{Stop}
 use Rattle.daemon_cpp.specs.declared.stop.Stop.TheVariants as stop
-use Rattle.daemon_cpp.specs.Diagnostics.{Complaint, Diagnostic}
-use Rattle.daemon_cpp.specs.Prep.{World, Here, State, Reached, Gives, Ends, reach, refuse, touch, visit_of, is_defined, with_defined, zeroed, truth_of, probe_free, defined_answered, expanded_condition, answered_condition, probed, probe_named, probe, answer_parts, parts_condition, condition, name_condition, directive_test, piece_test, answer_token}
-use Rattle.daemon_cpp.specs.parts.Showing.{Shows, IsNotReached, Leads, Refuses, TellsNothing, part_answered, answers_behind, Continues}
-use Rattle.daemon_cpp.proofs.Steps.{at-line, leads-gives, leads-refuse, leads-then, leads-stop, leads-same}
+use Rattle.daemon_cpp.specs.Diagnostics.{Complaint, Diagnostic, WrongCount, UnendedCall, BadPaste, DeepArguments, WorkLimit}
+use Rattle.daemon_cpp.specs.Prep.{World, Here, State, Reached, Gives, Ends, reach, refuse, touch, visit_of, is_defined, with_defined, tokens_of, expand_line, line_expanded, failure_at, defined_answered, expanded_condition, answered_condition, probed, probe_named, probe, answer_parts, parts_condition, condition, name_condition, directive_test, piece_test, answer_token}
+use Rattle.daemon_cpp.specs.parts.Showing.{Shows, here_seen, failure_told, TellsError, IsNotReached, Leads, Refuses, TellsNothing, part_answered, answers_behind, Continues}
+use Rattle.daemon_cpp.proofs.Steps.{at-line, of-job, leads-gives, leads-refuse, leads-then, leads-stop, leads-same}
 
 -- a diagnostic at a line of the file that is read
 pub refused-leads : {A : Type 0} (old : Kept) (main : Path) (file : Here) (f : State → Reached A) (at : ℕ) (complaint : Complaint) (e : Stop) →
@@ -39,25 +52,10 @@ pub then-leads : {A B : Type 0} (old mid new : Kept) (main : Path) (file : Here)
     r ≡ Ok x → Leads old mid main file f r → Leads mid new main file (g x) s → Leads old new main file (λ state. reach g (f state)) s
 then-leads old mid new main file f g r x s is first next = leads-then old mid new main file f g x s (subst (λ q. Leads old mid main file f q) is first) next
 
--- ---- a line that was expanded ----
-
-pub free-leads : (kept : Kept) (main : Path) (file : Here) (at : ℕ) (probes : Bool) (tokens zeros : List Token) (r : Result Bool Stop) →
-    probes ≡ false → zeros ≡ map zeroed tokens → Leads kept kept main file (λ state. truth_of at (expression_value zeros) state) r → Leads kept kept main file (λ state. probe_free at probes tokens state) r
-free-leads kept main file at probes tokens zeros r free are leads =
-    leads-same kept kept main file (λ state. truth_of at (expression_value zeros) state) (λ state. probe_free at probes tokens state) r
-    (λ state shows. ap (λ (b : Bool). probe_free at b tokens state) free ∙ ap (λ (ts : List Token). truth_of at (expression_value ts) state) (sym are)) leads
-
-pub expanded-leads : (kept : Kept) (main : Path) (file : Here) (at : ℕ) (tokens answered : List Token) (r : Result Bool Stop) → Some answered ≡ with_defined (is_defined (lookup kept.macros)) tokens →
-    Leads kept kept main file (λ state. probe_free at (list_any (is_word (codes "__has_include")) answered) answered state) r → Leads kept kept main file (λ state. expanded_condition at tokens state) r
-expanded-leads kept main file at tokens answered r is leads =
-    leads-same kept kept main file (λ state. probe_free at (list_any (is_word (codes "__has_include")) answered) answered state) (λ state. expanded_condition at tokens state) r
-    (λ state shows. ap (λ (o : Option (List Token)). defined_answered at o state) (ap (λ m. with_defined (is_defined m) tokens) shows.macros ∙ sym is)) leads
-
 -- the first token of an ifdef's line
-pub first-leads : (kept : Kept) (main : Path) (file : Here) (at : ℕ) (wanted : Bool) (tokens : List Token) (name : Token) (r : Result Bool Stop) → 1 ≤ length tokens → name ≡ get_or tokens 0 name →
+pub first-leads : (kept : Kept) (main : Path) (file : Here) (at : ℕ) (wanted : Bool) (tokens others : List Token) (name : Token) (r : Result Bool Stop) → tokens ≡ name ∷ others →
     ((others : List Token) → Leads kept kept main file (λ state. name_condition at wanted (name ∷ others) state) r) → Leads kept kept main file (λ state. name_condition at wanted tokens state) r
-first-leads kept main file at wanted [] name r above is leads = absurd (omega (arith, above))
-first-leads kept main file at wanted (t ∷ ts) name r above is leads = subst (λ (u : Token). Leads kept kept main file (λ state. name_condition at wanted (u ∷ ts) state) r) is (leads ts)
+first-leads kept main file at wanted tokens others name r is leads = subst (λ (ts : List Token). Leads kept kept main file (λ state. name_condition at wanted ts state) r) (sym is) (leads others)
 
 -- ---- an operand ----
 
@@ -230,3 +228,100 @@ directive-leads world old new main file at what seen r is leads = subst (λ (d :
 pub line-leads : (world : World) (old new : Kept) (main : Path) (file : Here) (at : ℕ) (what : Directive) (piece : Piece) (r : Result Bool Stop) → piece ≡ Line at what →
     Leads old new main file (λ state. directive_test world at what state) r → Leads old new main file (λ state. piece_test world piece state) r
 line-leads world old new main file at what piece r is leads = subst (λ (p : Piece). Leads old new main file (λ state. piece_test world p state) r) (sym is) leads
+
+-- ---- a line that is read as it is expanded ----
+
+-- what is reached in another state, from where it is the same
+leads-from : {A : Type 0} (old new : Kept) (main : Path) (file : Here) (f g : State → Reached A) (r : Result A Stop) →
+    ((state : State) → Shows old main file state → (after : State) × ((f state ≡ g after) × Shows new main file after)) → Leads new new main file g r → Leads old new main file f r
+leads-from old new main file f g (Ok x) same leads = λ state shows.
+    let one = same state shows in
+    let two = leads one.0 one.1.1 in
+    (two.0, (one.1.0 ∙ two.1.0, two.1.1))
+leads-from old new main file f g (Err (stop.Ended words)) same leads = λ state shows.
+    let one = same state shows in
+    subst (λ r. IsNotReached words new.opened r) (sym one.1.0) (leads one.0 one.1.1)
+leads-from old new main file f g (Err stop.Fault) same leads = tt
+leads-from old new main file f g (Err stop.Memory) same leads = tt
+
+read-gives : (defined : Text → Bool) (at : ℕ) (r : Result Expanded Failure) (state : State) (line : LineSoFar) (left : ℕ) → read_from defined at_first (given r) ≡ Ok (line, left) → is_defined state.macros ≡ defined →
+    reach (λ ts after. expanded_condition at ts after) (line_expanded at r state) ≡ judged at line (record state { left = left })
+read-gives defined at (Err f) state line left same is = absurd (cc)
+read-gives defined at (Ok e) state line left same is =
+    let pair : (with_tokens defined (tokens_of e) at_first, e.units) ≡ (line, left) = cc in
+    ap (λ (d : Text → Bool). defined_answered at (with_defined d (tokens_of e)) (record state { left = e.units })) is
+    ∙ sym (whole-said defined at (record state { left = e.units }) (tokens_of e))
+    ∙ ap (λ (p : LineSoFar × ℕ). judged at p.0 (record state { left = p.1 })) pair
+
+-- the line that was read says what its tokens say
+pub read-leads : (old : Kept) (work : WorkLeft) (places : Places) (at : ℕ) (tokens : List Token) (line : LineSoFar) (r : Result Bool Stop) →
+    read_from (is_defined (lookup old.macros)) at_first (given (expanded_by (lookup old.macros) (place_of places.presumed.now) Condition 0 old.work.left (map unmarked tokens))) ≡ Ok (line, work.left) →
+    ((kept : Kept) → Leads kept kept places.source.now (here_seen places) (λ state. judged at line state) r) →
+    Leads old (record old { work = work }) places.source.now (here_seen places) (λ state. answered_condition at tokens state) r
+read-leads old work places at tokens line r read leads =
+    leads-from old (record old { work = work }) places.source.now (here_seen places) (λ state. answered_condition at tokens state) (λ state. judged at line state) r
+    (λ state shows. (
+      record state { left = work.left },
+      (
+        ap (λ (q : Result Expanded Failure). reach (λ ts after. expanded_condition at ts after) (line_expanded at q state)) (shown-expansion old places.source.now places state Condition tokens shows)
+            ∙ read-gives (is_defined (lookup old.macros)) at (expanded_by (lookup old.macros) (place_of places.presumed.now) Condition 0 old.work.left (map unmarked tokens)) state line work.left read
+            (ap (λ m. is_defined m) shows.macros),
+        record {
+          source = shows.source;
+          output = shows.output;
+          within = shows.within;
+          left = refl;
+          opened = shows.opened;
+          macros = shows.macros;
+          once = shows.once;
+          here = shows.here;
+        },
+      ),
+    ))
+    (leads (record old { work = work }))
+
+-- ---- a line whose expansion fails ----
+
+given-failure : (r : Result Expanded Failure) (f : Failure) → given r ≡ Err f → r ≡ Err f
+given-failure (Ok e) f same = absurd (cc)
+given-failure (Err g) f same = cc
+
+failure-shown : (kept : Kept) (main : Path) (file : Here) (at : ℕ) (f : Failure) (state : State) → Shows kept main file state → failure_at at f state ≡ failure_told file.place main at f
+failure-shown kept main file at (failure.Count name line) state shows = at-line kept main file at (WrongCount name) state shows
+failure-shown kept main file at (failure.Unclosed name line) state shows = at-line kept main file at (UnendedCall name) state shows
+failure-shown kept main file at (failure.Paste left right line) state shows = at-line kept main file at (BadPaste left right) state shows
+failure-shown kept main file at (failure.Deep line) state shows = at-line kept main file at DeepArguments state shows
+failure-shown kept main file at failure.Work state shows = of-job kept main file WorkLimit state shows
+
+-- units that were spent tell nothing of a failure
+spent-leads : {A : Type 0} (old : Kept) (work : WorkLeft) (main : Path) (file : Here) (f : State → Reached A) (e : Stop) → Leads old old main file f (Err e) → Leads old (record old { work = work }) main file f (Err e)
+spent-leads old work main file f (stop.Ended words) leads = leads
+spent-leads old work main file f stop.Fault leads = tt
+spent-leads old work main file f stop.Memory leads = tt
+
+memory-leads : {A : Type 0} (old new : Kept) (main : Path) (file : Here) (f : State → Reached A) (e : Stop) → e ≡ stop.Memory → Leads old new main file f (Err e)
+memory-leads old new main file f e is = subst (λ (s : Stop). Leads old new main file f (Err s)) (sym is) tt
+
+module _ (old : Kept) (work : WorkLeft) (places : Places) (at : ℕ) (tokens : List Token) where
+  failed-leads : (f : Failure) (e : Stop) → given (expanded_by (lookup old.macros) (place_of places.presumed.now) Condition 0 old.work.left (map unmarked tokens)) ≡ Err f →
+      Refuses (failure_told places.visit.now.place places.source.now at f) e → Leads old (record old { work = work }) places.source.now (here_seen places) (λ state. answered_condition at tokens state) (Err e)
+  failed-leads f e same told =
+      leads-stop old (record old { work = work }) places.source.now (here_seen places) (λ state. expand_line at Condition tokens state) (λ ts after. expanded_condition at ts after) e
+      (spent-leads old work places.source.now (here_seen places) (λ state. expand_line at Condition tokens state) e
+      (leads-refuse old places.source.now (here_seen places) (λ state. expand_line at Condition tokens state) (failure_told places.visit.now.place places.source.now at f) e
+      (λ state shows.
+      ap (λ (r : Result Expanded Failure). line_expanded at r state)
+      (shown-expansion old places.source.now places state Condition tokens shows
+      ∙ given-failure (expanded_by (lookup old.macros) (place_of places.presumed.now) Condition 0 old.work.left (map unmarked tokens)) f same)
+      ∙ ap (λ (d : Diagnostic). Ends d state) (failure-shown old places.source.now (here_seen places) at f state shows))
+      told))
+
+  pub error-leads : (error : ExpandError) (e : Stop) → ReportsResult error (given (expanded_by (lookup old.macros) (place_of places.presumed.now) Condition 0 old.work.left (map unmarked tokens))) →
+      TellsError places.visit.now.place places.source.now at error e → Leads old (record old { work = work }) places.source.now (here_seen places) (λ state. answered_condition at tokens state) (Err e)
+  error-leads (expand_error.Count name line) e reports told = failed-leads (failure.Count name line) e reports told
+  error-leads (expand_error.Unclosed name line) e reports told = failed-leads (failure.Unclosed name line) e reports told
+  error-leads (expand_error.Paste left right line) e reports told = failed-leads (failure.Paste left right line) e reports told
+  error-leads (expand_error.Deep line) e reports told = failed-leads (failure.Deep line) e reports told
+  error-leads expand_error.Work e reports told = failed-leads failure.Work e reports told
+  error-leads expand_error.Memory e reports told =
+      memory-leads old (record old { work = work }) places.source.now (here_seen places) (λ state. answered_condition at tokens state) e told

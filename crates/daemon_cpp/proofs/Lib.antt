@@ -11,7 +11,8 @@
 --     Defines      definitions, as steps
 --     Lines        the numbers of line directives
 --     Conditions   what the steps of conditions lead to
---     DefinedSteps one more token behind a `defined`
+--     Controlled   a condition's line, read token by token as it is expanded
+--     Judged       what a line says that was read so is what its tokens say
 --     Flat         pieces one after another are groups
 --     Skipping     pieces that aren't read
 --     Sections     where an if-section goes on
@@ -32,7 +33,8 @@ pub mod Texts
 pub mod Defines
 pub mod Lines
 pub mod Conditions
-pub mod DefinedSteps
+pub mod Controlled
+pub mod Judged
 pub mod Flat
 pub mod Skipping
 pub mod Sections

@@ -1,8 +1,10 @@
 -- Helpers of contracts: no definition in the folder above rests on them.
+--     Controlling  what the code keeps of a condition's line that is being expanded
 --     FileTexts what is kept of a file that was lexed
 --     Problems  the problems of the code, as complaints
 --     Reading   what is left to do where files are read: the code's stack of includes, and its place in a conditional
 --     Showing   what the code keeps of a state, and what its functions lead to
+pub mod Controlling
 pub mod Files
 pub mod FileTexts
 pub mod Narrow

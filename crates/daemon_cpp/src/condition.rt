@@ -5,31 +5,33 @@ ghost use Rattle.std.specs.Option.{ForSome};
 ghost use Rattle.base_types.specs.Causes.{HasCause};
 ghost use Rattle.pp_tokens.specs.declared.Token.{Token};
 ghost use Rattle.pp_tokens.specs.Marks.{is_word};
+ghost use Rattle.pp_tokens.specs.Tokens.{token_seen, rest_of};
 ghost use Rattle.directive_scan.specs.Spots.{directive_seen, piece_seen};
+ghost use Rattle.macro_expand.specs.parts.Pending.{run_tokens};
 ghost use Rattle.tree_model.specs.Paths.{spelled};
-ghost use Rattle.cond_eval.specs.Value.{expression_value};
 ghost use Rattle.search_path.specs.Asks.{header_ask};
 ghost use Rattle.daemon_cpp.specs.declared.kept.Kept.{Kept};
-ghost use Rattle.daemon_cpp.specs.Prep.{world_of, piece_test, directive_test, condition, parts_condition, answer_parts, probe, probe_named, answered_condition, expanded_condition, probe_free, truth_of, cond_complaint, name_condition};
+ghost use Rattle.daemon_cpp.specs.Prep.{world_of, piece_test, directive_test, condition, parts_condition, answer_parts, probe, probe_named, answered_condition, cond_complaint, name_condition};
+ghost use Rattle.daemon_cpp.specs.parts.Controlling.{judged};
 ghost use Rattle.daemon_cpp.specs.parts.Showing.{Leads, here_seen, Refuses, part_answered, TellsNothing};
 
-use crate::defined::{answer_token, with_defined, zeroed};
+use crate::controlling::{Controlling, read_expanded};
+use crate::defined::answer_token;
 use crate::diagnostic::Problem;
 use crate::header::header_reached;
 use crate::kept::{Kept, Places};
 use crate::stop::{Stop, refused};
-use crate::text::expand_line;
+use crate::text::expansion_stop;
 use crate::tree::find_file;
 use base_types::List;
 use cond_eval::CondError;
 use directive_scan::{
-    ConditionPart, Directive, DirectiveRef, HeaderName, PieceRef, Target, has_probe, parts_of,
-    parts_without_probe,
+    Asked, ConditionPart, DirectiveRef, HeaderName, PieceRef, Target, parts_of, parts_without_probe,
 };
-use macro_expand::Mode;
-use pp_tokens::Token;
+use macro_expand::{Expander, Mode, Run};
+use pp_tokens::{Token, TokenRef, Tokens};
 use search_path::header_ask;
-use std::alloc::Global;
+use std::alloc::{AllocError, Global};
 use tree_model::Tree;
 
 /// Whether the group behind a line of a conditional is read, where none before it was.
@@ -52,7 +54,7 @@ pub fn test_line<T: Tree>(
     }
 }
 
-// A directive on a line, whose tokens are made here.
+// A directive on a line. Lines of other directives have no condition.
 fn test_directive_ref<T: Tree>(
     alloc: Global,
     tree: &mut T,
@@ -67,42 +69,71 @@ fn test_directive_ref<T: Tree>(
     ensures spends { kept.new.work.left ≤ kept.old.work.left }
     ensures cause { HasCause Stop.Fault (T.faults tree.old) (T.faults tree.new) result }
 {
-    match line.read(alloc) {
-        Ok(what) => test_directive(alloc, tree, kept, places, at, &what),
-        Err(_) => Err(Stop::Memory),
-    }
-}
-
-// Whether the group behind a directive is read. Lines of other directives have no condition.
-fn test_directive<T: Tree>(
-    alloc: Global,
-    tree: &mut T,
-    kept: &mut Kept,
-    places: Places<'_>,
-    at: u32,
-    what: &Directive,
-) -> Result<bool, Stop>
-    ensures same { T.told tree.new ≡ T.told tree.old }
-    ensures leads { ForSome (T.told tree.old) (λ told. Leads kept.old kept.new places.entry.source.now (here_seen places.entry)
-        (λ state. directive_test (world_of told places.entry.setup.now) at what.now state) result) }
-    ensures spends { kept.new.work.left ≤ kept.old.work.left }
-    ensures cause { HasCause Stop.Fault (T.faults tree.old) (T.faults tree.new) result }
-{
-    match what {
-        Directive::If(tokens) => condition(alloc, tree, kept, places, at, tokens.as_slice()),
-        Directive::Elif(tokens) => condition(alloc, tree, kept, places, at, tokens.as_slice()),
-        Directive::Ifdef(tokens) => {
-            name_condition(alloc, kept, places, at, true, tokens.as_slice())
-        }
-        Directive::Ifndef(tokens) => {
-            name_condition(alloc, kept, places, at, false, tokens.as_slice())
-        }
-        _ => Ok(true),
+    match line.asked() {
+        Asked::If(tokens) => condition(alloc, tree, kept, places, at, tokens),
+        Asked::Elif(tokens) => condition(alloc, tree, kept, places, at, tokens),
+        Asked::Ifdef(tokens) => name_condition(alloc, kept, places, at, true, tokens),
+        Asked::Ifndef(tokens) => name_condition(alloc, kept, places, at, false, tokens),
+        Asked::Nothing => Ok(true),
     }
 }
 
 // The condition of an `#if` or `#elif`. A line without `__has_include`, as most are, is expanded without a copy of its tokens.
 fn condition<T: Tree>(
+    alloc: Global,
+    tree: &mut T,
+    kept: &mut Kept,
+    places: Places<'_>,
+    at: u32,
+    tokens: Tokens<'_>,
+) -> Result<bool, Stop>
+    ensures same { T.told tree.new ≡ T.told tree.old }
+    ensures leads { ForSome (T.told tree.old) (λ told. Leads kept.old kept.new places.entry.source.now (here_seen places.entry)
+        (λ state. condition (world_of told places.entry.setup.now) at (rest_of tokens.entry) state) result) }
+    ensures spends { kept.new.work.left ≤ kept.old.work.left }
+    ensures cause { HasCause Stop.Fault (T.faults tree.old) (T.faults tree.new) result }
+{
+    parts_without_probe();
+    if !has_probe_word(tokens) {
+        return answered_condition(alloc, kept, places, at, Run::Lexed(tokens));
+    }
+    match copied(alloc, tokens) {
+        Ok(line) => probing_condition(alloc, tree, kept, places, at, line.as_slice()),
+        Err(_) => Err(Stop::Memory),
+    }
+}
+
+// Whether a line has an identifier `__has_include`.
+fn has_probe_word(tokens: Tokens<'_>) -> bool
+    ensures { result ≡ list_any (is_word (codes "__has_include")) (rest_of tokens.entry) }
+{
+    for token in tokens {
+        if is_probe(&token) {
+            return true;
+        }
+    }
+    false
+}
+
+fn is_probe(token: &TokenRef<'_>) -> bool
+    ensures { result ≡ is_word (codes "__has_include") (token_seen token.now) }
+{
+    token.is_identifier() && token.text == b"__has_include".as_slice()
+}
+
+// A copy of a line's tokens.
+fn copied(alloc: Global, lent: Tokens<'_>) -> Result<List<Token>, AllocError>
+    ensures { IfOk result (λ ts. ts ≡ rest_of lent.entry) }
+{
+    let mut tokens = List::new(alloc);
+    for token in lent {
+        tokens.push(token.to_token(alloc)?)?;
+    }
+    Ok(tokens)
+}
+
+// The condition of a line that may have `__has_include`s.
+fn probing_condition<T: Tree>(
     alloc: Global,
     tree: &mut T,
     kept: &mut Kept,
@@ -116,10 +147,6 @@ fn condition<T: Tree>(
     ensures spends { kept.new.work.left ≤ kept.old.work.left }
     ensures cause { HasCause Stop.Fault (T.faults tree.old) (T.faults tree.new) result }
 {
-    parts_without_probe();
-    if !has_probe(tokens) {
-        return answered_condition(alloc, kept, places, at, tokens);
-    }
     match parts_of(alloc, tokens) {
         Ok(Some(parts)) => parts_condition(alloc, tree, kept, places, at, parts),
         Ok(None) => Err(refused(alloc, &places.visit.place, at, Problem::BadProbe)),
@@ -143,7 +170,9 @@ fn parts_condition<T: Tree>(
     ensures cause { HasCause Stop.Fault (T.faults tree.old) (T.faults tree.new) result }
 {
     match answer_parts(alloc, tree, kept, places, at, parts) {
-        Ok(tokens) => answered_condition(alloc, kept, places, at, tokens.as_slice()),
+        Ok(tokens) => {
+            answered_condition(alloc, kept, places, at, Run::Listed(tokens.as_slice()))
+        }
         Err(stop) => Err(stop),
     }
 }
@@ -264,62 +293,38 @@ fn is_found<T: Tree>(
     }
 }
 
-// A line whose operands of `__has_include` were answered.
+// A line whose operands of `__has_include` were answered. It is read as it is expanded.
 fn answered_condition(
     alloc: Global,
     kept: &mut Kept,
     places: Places<'_>,
     at: u32,
-    tokens: &[Token],
+    run: Run<'_>,
 ) -> Result<bool, Stop>
-    ensures leads { Leads kept.old kept.new places.entry.source.now (here_seen places.entry) (λ state. answered_condition at tokens.now state) result }
+    ensures leads { Leads kept.old kept.new places.entry.source.now (here_seen places.entry) (λ state. answered_condition at (run_tokens run.entry) state) result }
     ensures spends { kept.new.work.left ≤ kept.old.work.left }
     ensures no_fault { IsErrOf result Stop.Fault → ⊥ }
 {
-    match expand_line(alloc, kept, places, at, Mode::Condition, tokens) {
-        Ok(expanded) => expanded_condition(alloc, kept, places, at, expanded),
-        Err(stop) => Err(stop),
+    let here = places.presumed;
+    let stream = Expander::over(alloc, &kept.macros, run, here, Mode::Condition);
+    match read_expanded(alloc, stream, &kept.macros, &mut kept.work) {
+        Ok(line) => judged(alloc, places, at, &line),
+        Err(error) => Err(expansion_stop(alloc, places, at, &error)),
     }
 }
 
-// A line that was expanded.
-fn expanded_condition(
-    alloc: Global,
-    kept: &Kept,
-    places: Places<'_>,
-    at: u32,
-    tokens: List<Token>,
-) -> Result<bool, Stop>
-    ensures leads { Leads kept.now kept.now places.entry.source.now (here_seen places.entry) (λ state. expanded_condition at tokens state) result }
+// Whether a line that was read to its end holds: each `defined` has its operand, no `__has_include` is left, and its value isn't 0.
+fn judged(alloc: Global, places: Places<'_>, at: u32, line: &Controlling) -> Result<bool, Stop>
+    ensures leads { (kept : Kept) → Leads kept kept places.entry.source.now (here_seen places.entry) (λ state. judged at line.now state) result }
     ensures no_fault { IsErrOf result Stop.Fault → ⊥ }
 {
-    match with_defined(alloc, &kept.macros, tokens) {
-        Ok(Some(answered)) => probe_free(alloc, places, at, answered),
-        Ok(None) => Err(refused(alloc, &places.visit.place, at, Problem::BadExpression)),
-        Err(_) => Err(Stop::Memory),
+    if !line.is_whole() {
+        return Err(refused(alloc, &places.visit.place, at, Problem::BadExpression));
     }
-}
-
-// A line whose `defined`s were answered: no `__has_include` may be left.
-fn probe_free(alloc: Global, places: Places<'_>, at: u32, tokens: List<Token>) -> Result<bool, Stop>
-    ensures leads { (kept : Kept) → Leads kept kept places.entry.source.now (here_seen places.entry) (λ state. probe_free at (list_any (is_word (codes "__has_include")) tokens) tokens state) result }
-    ensures no_fault { IsErrOf result Stop.Fault → ⊥ }
-{
-    if has_probe(tokens.as_slice()) {
+    if line.has_probe() {
         return Err(refused(alloc, &places.visit.place, at, Problem::BadProbe));
     }
-    match zeroed(alloc, tokens) {
-        Ok(tokens) => is_true(alloc, places, at, tokens.as_slice()),
-        Err(_) => Err(Stop::Memory),
-    }
-}
-
-// Whether an expression's value isn't 0.
-fn is_true(alloc: Global, places: Places<'_>, at: u32, tokens: &[Token]) -> Result<bool, Stop>
-    ensures leads { (kept : Kept) → Leads kept kept places.entry.source.now (here_seen places.entry) (λ state. truth_of at (expression_value tokens.now) state) result }
-    ensures no_fault { IsErrOf result Stop.Fault → ⊥ }
-{
-    match cond_eval::value(alloc, tokens) {
+    match line.value(alloc) {
         Ok(number) => Ok(number.bits != 0),
         Err(error) => Err(unvalued(alloc, places, at, error)),
     }
@@ -348,14 +353,14 @@ fn name_condition(
     places: Places<'_>,
     at: u32,
     wanted: bool,
-    tokens: &[Token],
+    mut tokens: Tokens<'_>,
 ) -> Result<bool, Stop>
-    ensures leads { Leads kept.now kept.now places.entry.source.now (here_seen places.entry) (λ state. name_condition at wanted tokens.now state) result }
+    ensures leads { Leads kept.now kept.now places.entry.source.now (here_seen places.entry) (λ state. name_condition at wanted (rest_of tokens.entry) state) result }
     ensures no_fault { IsErrOf result Stop.Fault → ⊥ }
 {
-    match tokens {
-        [] => Err(refused(alloc, &places.visit.place, at, Problem::NoIdentifier)),
-        [name, ..] => is_as_wanted(alloc, kept, places, at, wanted, name),
+    match tokens.next() {
+        Some(name) => is_as_wanted(alloc, kept, places, at, wanted, name),
+        None => Err(refused(alloc, &places.visit.place, at, Problem::NoIdentifier)),
     }
 }
 
@@ -366,14 +371,14 @@ fn is_as_wanted(
     places: Places<'_>,
     at: u32,
     wanted: bool,
-    name: &Token,
+    name: TokenRef<'_>,
 ) -> Result<bool, Stop>
-    ensures leads { (others : List Token) → Leads kept.now kept.now places.entry.source.now (here_seen places.entry) (λ state. name_condition at wanted (name.now ∷ others) state) result }
+    ensures leads { (others : List Token) → Leads kept.now kept.now places.entry.source.now (here_seen places.entry) (λ state. name_condition at wanted (token_seen name.entry ∷ others) state) result }
     ensures no_fault { IsErrOf result Stop.Fault → ⊥ }
 {
     if !name.is_identifier() {
         return Err(refused(alloc, &places.visit.place, at, Problem::NoIdentifier));
     }
-    let is_defined = kept.macros.is_defined(name.text.as_slice());
+    let is_defined = kept.macros.is_defined(name.text);
     Ok(is_defined == wanted)
 }

@@ -2,6 +2,7 @@
 #![tactic(auto)]
 
 mod condition;
+mod controlling;
 mod cpp;
 mod define;
 mod defined;

@@ -74,8 +74,8 @@ pub fn expand_line(
     }
 }
 
-// Why preprocessing ends where an expansion has an error, told at a line.
-fn expansion_stop(alloc: Global, places: Places<'_>, at: u32, error: &ExpandError) -> Stop
+/// Why preprocessing ends where an expansion has an error, told at a line.
+pub fn expansion_stop(alloc: Global, places: Places<'_>, at: u32, error: &ExpandError) -> Stop
     ensures { TellsError places.entry.visit.now.place places.entry.source.now at error.now result }
 {
     let place = &places.visit.place;

@@ -1,5 +1,5 @@
 -- What the code keeps of a state of preprocessing, and what its functions lead to. No public contract rests on it.
-use Rattle.std.specs.Prelude.{◌≡◌, ◌≤◌, ℕ, List, length, drop, Option, Some, None, Result, Ok, Err, if◌then◌else◌, true, false, Bool, ◌+◌, ◌<◌, map, ◌++◌, option_map}
+use Rattle.std.specs.Prelude.{◌≡◌, ◌≤◌, ℕ, List, length, drop, Option, Some, None, Result, Ok, Err, if◌then◌else◌, true, false, Bool, ◌+◌, ◌<◌, map, ◌++◌}
 use Rattle.std.specs.List.{list_any}
 use Rattle.macro_defs.specs.Table.{lookup}
 use Rattle.directive_scan.specs.declared.Piece.{Piece}
@@ -15,7 +15,7 @@ use Rattle.daemon_cpp.specs.declared.section.Sought.{Sought}
 use Rattle.daemon_cpp.specs.declared.pieces.Move.{Move}
 use Rattle.daemon_cpp.specs.declared.pieces.Move.TheVariants.{Onward, Enter, Renumber}
 use Rattle.daemon_cpp.specs.Diagnostics.{Diagnostic, diagnostic_text, BadLine, WrongCount, UnendedCall, BadPaste, DeepArguments, WorkLimit, TextLimit}
-use Rattle.daemon_cpp.specs.Prep.{World, Here, State, PrepStep, Go, Stop as Stopped, Reached, Gives, Ends, Entering, is_marked, here_at, line_set, define_complaint, answer_token, answer_parts, probe, reach, DefinedSort, defining, naming, opening_mark, closing_mark, plain, DefinedStage, outside, named_next, in_parentheses, closing_next, defined_from}
+use Rattle.daemon_cpp.specs.Prep.{World, Here, State, PrepStep, Go, Stop as Stopped, Reached, Gives, Ends, Entering, is_marked, here_at, line_set, define_complaint, answer_token, answer_parts, probe, reach}
 use Rattle.daemon_cpp.specs.parts.Reading.{ReadingStage, run_flat, reading, stage_of}
 use Rattle.macro_defs.specs.declared.definition.DefineError.{DefineError}
 use Rattle.macro_defs.specs.declared.definition.DefineError.TheVariants as define_error
@@ -33,10 +33,6 @@ use Rattle.daemon_cpp.specs.declared.text.TextError.TheVariants as text_error
 use Rattle.pp_tokens.specs.declared.Token.{Token}
 use Rattle.directive_scan.specs.declared.ConditionPart.{ConditionPart}
 use Rattle.directive_scan.specs.declared.ConditionPart.TheVariants.{Written, Probe}
-use Rattle.daemon_cpp.specs.declared.defined.Sort.{Sort as SortRead}
-use Rattle.daemon_cpp.specs.declared.defined.Sort.TheVariants as sort
-use Rattle.daemon_cpp.specs.declared.defined.Stage.{Stage as StageRead}
-use Rattle.daemon_cpp.specs.declared.defined.Stage.TheVariants as stage
 
 -- the file that is read, as its parts say
 abbrev pub here_seen : Places → Here
@@ -280,41 +276,6 @@ TellsLine place at None (Ok x) = ⊥
 TellsLine place at None (Err s) = Refuses (record { place = spelled place; at = at; complaint = BadLine }) s
 
 -- ---- conditions ----
-
--- what a token is to a `defined`, as the code has it
-abbrev pub defined_sort_told : SortRead → DefinedSort
-defined_sort_told sort.Defining = defining
-defined_sort_told sort.Naming = naming
-defined_sort_told sort.OpeningMark = opening_mark
-defined_sort_told sort.ClosingMark = closing_mark
-defined_sort_told sort.Plain = plain
-
-abbrev pub is_defining : DefinedSort → Bool
-is_defining s = elim s [ defining ↦ true | _ ↦ false ]
-
-abbrev pub is_name_sort : DefinedSort → Bool
-is_name_sort s = elim s [ defining ↦ true | naming ↦ true | _ ↦ false ]
-
-abbrev pub is_opening_sort : DefinedSort → Bool
-is_opening_sort s = elim s [ opening_mark ↦ true | _ ↦ false ]
-
-abbrev pub is_closing_sort : DefinedSort → Bool
-is_closing_sort s = elim s [ closing_mark ↦ true | _ ↦ false ]
-
-abbrev pub defined_stage_told : StageRead → DefinedStage
-defined_stage_told stage.Outside = outside
-defined_stage_told (stage.NamedNext word) = named_next word
-defined_stage_told (stage.InParentheses word) = in_parentheses word
-defined_stage_told (stage.ClosingNext word name) = closing_next word name
-
--- the tokens so far, and those that are left from a stage on
-abbrev pub answered_behind : (Text → Bool) → List Token → DefinedStage → List Token → Option (List Token)
-answered_behind defined done s others = option_map (λ more. done ++ more) (defined_from defined s others)
-
--- the same behind a token, which may have left a `defined` without an operand
-abbrev pub stage_reached : (Text → Bool) → List Token → Option StageRead → List Token → Option (List Token)
-stage_reached defined done None others = None
-stage_reached defined done (Some s) others = answered_behind defined done (defined_stage_told s) others
 
 module _ (world : World) where
   -- a part of a condition's line, answered

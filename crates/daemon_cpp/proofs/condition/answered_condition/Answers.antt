@@ -1,11 +1,29 @@
-use Rattle.macro_expand.specs.declared.Mode.TheVariants.{Condition}
-use Rattle.daemon_cpp.specs.Prep.{expand_line, expanded_condition}
-use Rattle.daemon_cpp.specs.parts.Showing.{here_seen}
-use Rattle.daemon_cpp.proofs.Steps.{leads-then}
+use Rattle.std.proofs.Common.{sym, ◌∙◌, ap, subst}
+use Rattle.macro_defs.specs.Table.{lookup}
+use Rattle.macro_expand.specs.declared.outcome.Mode.TheVariants.{Condition}
+use Rattle.macro_expand.specs.parts.Pending.{run_tokens}
+use Rattle.macro_expand.specs.Seen.{ReportsResult}
+use Rattle.macro_expand.specs.Stream.{Stream, to_come}
+use Rattle.daemon_cpp.specs.Prep.{is_defined}
+use Rattle.daemon_cpp.specs.parts.Controlling.{at_first, read_from}
+use Rattle.daemon_cpp.proofs.Controlled.{come-init}
+use Rattle.daemon_cpp.proofs.Conditions.{read-leads, error-leads}
 use Rattle.daemon_cpp.proofs.condition.answered_condition.Goals as goal
 
 pub returns-in-Ok-clause-leads : goal.returns-in-Ok-clause-leads
 returns-in-Ok-clause-leads c =
-    leads-then c.args.kept.now c.expand_line.new.kept c.expand_line.new.kept c.args.places.source.now (here_seen c.args.places)
-    (λ state. expand_line c.args.at Condition c.args.tokens.now state) (λ ts after. expanded_condition c.args.at ts after) c.in-Ok.expanded c.expanded_condition.result
-    c.in-Ok.ensures.leads c.expanded_condition.ensures.leads
+    let defined = is_defined (lookup c.args.kept.now.macros) in
+    read-leads c.args.kept.now c.read_expanded.new.work c.args.places c.args.at (run_tokens c.args.run) c.in-Ok.line c.judged.result
+    (ap (read_from defined at_first) (sym (come-init c.args.kept.now.macros c.args.places.presumed.now Condition c.args.kept.now.work.left (run_tokens c.args.run)))
+    ∙ ap (λ (s : Stream). read_from defined at_first (to_come s c.args.kept.now.work.left)) (sym c.over-stream.ensures)
+    ∙ c.in-Ok.ensures.ok)
+    c.judged.ensures.leads
+
+pub returns-in-Err-clause-leads : goal.returns-in-Err-clause-leads
+returns-in-Err-clause-leads c =
+    error-leads c.args.kept.now c.read_expanded.new.work c.args.places c.args.at (run_tokens c.args.run) c.in-Err.error c.expansion_stop.result
+    (subst (λ r. ReportsResult c.in-Err.error r)
+    (ap (λ (s : Stream). to_come s c.args.kept.now.work.left) c.over-stream.ensures
+    ∙ come-init c.args.kept.now.macros c.args.places.presumed.now Condition c.args.kept.now.work.left (run_tokens c.args.run))
+    c.in-Err.ensures.err)
+    c.expansion_stop.ensures
