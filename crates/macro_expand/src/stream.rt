@@ -204,10 +204,14 @@ impl<'a> Expander<'a> {
     }
 }
 
-// Whether a token is put out as it is under a table: it is no identifier, or is hidden from itself, or has no definition.
+// Whether a token is put out as it is under a table: it is no identifier, or is hidden from itself, or has no definition. Of a
+// `defined` in a condition it isn't asked here: it is put out together with its operand.
 fn stays(table: &MacroTable, mode: Mode, t: &Marked, rest: &Pending) -> bool
     ensures { IsTrue result → StaysAsItIs (lookup table.now) mode t.now rest.now }
 {
+    if matches!(mode, Mode::Condition) && t.token.text() == b"defined".as_slice() {
+        return false;
+    }
     match role(mode, t, rest) {
         Role::Ordinary => true,
         Role::Name => table.get(t.token.text()).is_none(),
