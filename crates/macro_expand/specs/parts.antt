@@ -7,6 +7,7 @@
 --     Reading  how code reads the operand of `defined` and a call, token by token
 --     Pending  what a run of text still has
 --     Naming   what code reads of a name
+--     Steps    what one step of an expansion puts out, and what is to come
 pub mod Pending
 pub mod Parts
 pub mod Pieces
@@ -15,3 +16,4 @@ pub mod Reading
 pub mod Naming
 pub mod Pasting
 pub mod Tries
+pub mod Steps

@@ -5,7 +5,7 @@ ghost use Rattle.pp_tokens.specs.Tokens.{token_seen};
 ghost use Rattle.macro_defs.specs.Table.{lookup};
 ghost use Rattle.macro_expand.specs.declared.marked.Marked.{Marked as Kept};
 ghost use Rattle.macro_expand.specs.Replacement.{after_open};
-ghost use Rattle.macro_expand.specs.Stream.{StaysAsItIs, TakesUntouched};
+ghost use Rattle.macro_expand.specs.parts.Steps.{StaysAsItIs, TakesUntouched};
 ghost use Rattle.macro_expand.specs.parts.Pending.{run_tokens};
 ghost use Rattle.macro_expand.specs.Seen.{marked_of, kept_plain, kept_token};
 

@@ -7,7 +7,8 @@ ghost use Rattle.macro_expand.specs.Expansion.{expanded_by};
 ghost use Rattle.macro_expand.specs.Answered.{expanded_for, table_answerer};
 ghost use Rattle.macro_expand.specs.Seen.{marked_of, kept_plain, place_of, GivesTokens, Stops, ReportsResult};
 ghost use Rattle.macro_expand.specs.parts.Pending.{run_tokens};
-ghost use Rattle.macro_expand.specs.Stream.{to_come, at_hand, FirstReady, GivesNext, StandsAfter, StandsAfterAnswer, StaysAsItIs, Becomes};
+ghost use Rattle.macro_expand.specs.Stream.{to_come, at_hand, FirstReady, GivesNext, StandsAfter, StandsAfterAnswer};
+ghost use Rattle.macro_expand.specs.parts.Steps.{StaysAsItIs, Becomes};
 
 use crate::answers::{Presumed, TablePlace};
 use crate::expansion::{expand_head, public_error, role};

@@ -1,6 +1,6 @@
 use Rattle.std.proofs.Common.{◌≡◌, ◌+◌, ◌≤◌, [], length}
 use Rattle.macro_defs.specs.Table.{lookup}
-use Rattle.macro_expand.specs.Stream.{Becomes}
+use Rattle.macro_expand.specs.parts.Steps.{Becomes}
 use Rattle.macro_expand.proofs.stream.advance.Given as goal
 
 -- nothing was put out so far, and the pending tokens become what those at the beginning do

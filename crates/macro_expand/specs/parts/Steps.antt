@@ -1,0 +1,26 @@
+-- Steps of an expansion under a table: what of the pending tokens was put out, and what is to come (6.10.3).
+use Rattle.std.specs.Prelude.{◌≡◌, ℕ, ◌⊎◌, List, ◌∷◌, map, None}
+use Rattle.pp_tokens.specs.declared.token.Token.{Token}
+use Rattle.macro_expand.specs.declared.answers.TablePlace.{TablePlace}
+use Rattle.macro_expand.specs.declared.marked.Marked.{Marked as Kept}
+use Rattle.macro_expand.specs.declared.marked.Role.TheVariants.{Name, Ordinary}
+use Rattle.macro_expand.specs.declared.outcome.Mode.{Mode}
+use Rattle.macro_expand.specs.Expansion.{Table, head_role}
+use Rattle.macro_expand.specs.Answered.{before, expanded_for, table_answerer}
+use Rattle.macro_expand.specs.Seen.{marked_of, kept_token, place_of}
+
+-- a token is put out as it is: an ordinary one, or a name without a definition
+abbrev pub StaysAsItIs : Table → Mode → Kept → List Kept → Type 0
+StaysAsItIs table mode t rest =
+    (head_role mode (marked_of t) (map marked_of rest) ≡ Ordinary)
+    ⊎ ((head_role mode (marked_of t) (map marked_of rest) ≡ Name) × (table t.token.text ≡ None))
+
+-- a token, whatever its hide set, is taken from the front of what is pending, and is put out as it is
+abbrev pub TakesUntouched : Table → Mode → Token → List Kept → List Kept → Type 0
+TakesUntouched table mode t old new = (m : Kept) × ((kept_token m ≡ t) × ((old ≡ m ∷ new) × StaysAsItIs table mode m new))
+
+-- these pending tokens become those that were put out, before what the later ones become
+abbrev pub Becomes : Table → TablePlace → Mode → ℕ → List Kept → List Kept → TablePlace → ℕ → List Kept → Type 0
+Becomes table s mode units pending out u left later =
+    expanded_for (table_answerer (λ _. table) (λ p. place_of p.here.now)) s mode 0 units (map marked_of pending)
+    ≡ before (map marked_of out) (expanded_for (table_answerer (λ _. table) (λ p. place_of p.here.now)) u mode 0 left (map marked_of later))
