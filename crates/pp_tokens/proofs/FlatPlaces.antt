@@ -3,7 +3,7 @@ use Rattle.std.specs.Prelude.{◌≡◌, ℕ, zero, suc, ◌+◌, ◌-◌, ◌�
 use Rattle.std.specs.List.{flat_map}
 use Rattle.std.proofs.Common.{sym, ◌∙◌, ap, arith}
 use Rattle.std.proofs.lemmas.List.{map-append, drop-drop, length-map, length-take-le}
-use Rattle.pp_tokens.specs.declared.lexer.Place.{Place}
+use Rattle.pp_tokens.specs.declared.place.Place.{Place}
 use Rattle.pp_tokens.specs.declared.token.Token.{Token}
 use Rattle.pp_tokens.specs.parts.Seen.{token_of_place, seen_lines, last_end, Ascends}
 use Rattle.pp_tokens.proofs.Places.{ascends_last, start_of, token_within, token_past}

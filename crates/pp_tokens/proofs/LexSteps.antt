@@ -6,11 +6,12 @@ use Rattle.std.proofs.lemmas.List.{append-nil, length-append, drop_all, get_or-d
 use Rattle.pp_tokens.specs.declared.token.Token.{Token}
 use Rattle.pp_tokens.specs.declared.due.Before.{Before}
 use Rattle.pp_tokens.specs.declared.due.Before.TheVariants.{Nothing}
-use Rattle.pp_tokens.specs.declared.lexer.Place.{Place}
+use Rattle.pp_tokens.specs.declared.place.Place.{Place}
 use Rattle.pp_tokens.specs.declared.lexer.Gathering.{Gathering}
 use Rattle.pp_tokens.specs.Phases.{Cell, cell, bytes}
 use Rattle.pp_tokens.specs.Lined.{lined, spliced_up_to}
 use Rattle.pp_tokens.specs.Lines.{Part, newline, white, comment, open_comment, token, Element, header_due, words_after, line_of, unended_line, first_part, elements, file_of, or_else, Stands, LexedFile}
+use Rattle.pp_tokens.specs.parts.Packed.{PlaceTold, place_told}
 use Rattle.pp_tokens.specs.parts.Seen.{seen_lines, seen_file, last_end, Ascends, EachWithin}
 use Rattle.pp_tokens.specs.Grammar.{is_white}
 use Rattle.pp_tokens.specs.parts.Text.{after_word, is_due, opens_header}
@@ -87,9 +88,10 @@ line_gathered text spelling line old new g e =
           (append_assoc (seen_lines text places 0 ends) (present_tokens text old ∷ []) (lines_left false [] true es))));
     }
 
-pub token_gathered : (text : List ℕ) (place : Place) (old new : Gathering) → IsGathered text old → place.start + place.length ≤ length text → place.space ≡ old.space
-    → AddsToken old new place (take place.length (drop place.start text))
-    → Gathers text old new (token place.kind) (take place.length (drop place.start text)) place.line
+token_gathered : (text : List ℕ) (place : Place) (old new : Gathering) → IsGathered text old → (place_told place).start + (place_told place).length ≤ length text
+    → (place_told place).space ≡ old.space
+    → AddsToken old new place (take (place_told place).length (drop (place_told place).start text))
+    → Gathers text old new (token (place_told place).kind) (take (place_told place).length (drop (place_told place).start text)) (place_told place).line
 unfolding lines_left unended_line
 token_gathered text place old new g fits spaced e =
     let places = old.places.items in
@@ -105,15 +107,24 @@ token_gathered text place old new g fits spaced e =
       before = e.before;
       lines = rw (e.places, e.ends) (same_lines text places place 0 ends g.ascends);
       present = rw (e.places, e.ends) (token_more text places place (last_end 0 ends) last.1)
-          ∙ ap (λ (t : Bool). present_tokens text old ++ (record { kind = place.kind; text = take place.length (drop place.start text); line = place.line; space = t } ∷ [])) spaced;
+          ∙ ap (λ (t : Bool). present_tokens text old ++ (record { kind = (place_told place).kind; text = take (place_told place).length (drop (place_told place).start text); line = (place_told place).line; space = t } ∷ [])) spaced;
       file = λ cells es same is.
           rw (e.places, e.ends, e.unended, e.begun, e.space, same_lines text places place 0 ends g.ascends, token_more text places place (last_end 0 ends) last.1)
           (λ i. record {
             lines = seen_lines text places 0 ends
-                ++ lines_left true (present_tokens text old ++ (record { kind = place.kind; text = sym same i; line = sym is i; space = spaced i } ∷ [])) false es;
+                ++ lines_left true (present_tokens text old ++ (record { kind = (place_told place).kind; text = sym same i; line = sym is i; space = spaced i } ∷ [])) false es;
             unended = or_else old.unended (unended_line es);
           });
     }
+
+-- the same of what the place tells
+pub token_placed : (text : List ℕ) (place : Place) (told : PlaceTold) (old new : Gathering) → place_told place ≡ told → IsGathered text old → told.start + told.length ≤ length text → told.space ≡ old.space
+    → AddsToken old new place (take told.length (drop told.start text)) → Gathers text old new (token told.kind) (take told.length (drop told.start text)) told.line
+token_placed text place told old new is =
+    subst
+    (λ (s : PlaceTold). IsGathered text old → s.start + s.length ≤ length text → s.space ≡ old.space
+    → AddsToken old new place (take s.length (drop s.start text)) → Gathers text old new (token s.kind) (take s.length (drop s.start text)) s.line)
+    is (token_gathered text place old new)
 
 -- the line of the comment, where the part is one that never ends
 abbrev IsGap : Part → Option ℕ → ℕ → Type 0

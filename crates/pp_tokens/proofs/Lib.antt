@@ -20,6 +20,7 @@ mod LaterPlaces
 mod Splices
 mod OneLine
 mod NewlineCounts
+mod ShortParts
 mod ByteTables
 mod LexSteps
 mod Places

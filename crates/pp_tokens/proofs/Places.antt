@@ -4,8 +4,9 @@ use Rattle.std.proofs.Common.{sym, ◌∙◌, ap, arith, length-drop, subst}
 use Rattle.std.proofs.Math.Seq.{take-length}
 use Rattle.std.proofs.lemmas.List.{map-append, drop-append-le, take-append-le, length-map, length-take-le, get_or_default}
 use Rattle.std.proofs.lemmas.Option.{slice_get-map, slice_get_past}
-use Rattle.pp_tokens.specs.declared.lexer.Place.{Place}
+use Rattle.pp_tokens.specs.declared.place.Place.{Place}
 use Rattle.pp_tokens.specs.declared.token.Token.{Token}
+use Rattle.pp_tokens.specs.parts.Packed.{place_told}
 use Rattle.pp_tokens.specs.parts.Seen.{token_of_place, seen_lines, last_end, Ascends, EachWithin}
 
 pub ascends_last : (from : ℕ) (ends : List ℕ) (last : ℕ) → Ascends from ends last → (from ≤ last_end from ends) × (last_end from ends ≤ last)
@@ -28,7 +29,7 @@ unfolding last_end
 last_of_more from [] last = refl
 last_of_more from (end ∷ ends) last = last_of_more end ends last
 
-pub within_more : (text : List ℕ) (places : List Place) (p : Place) → EachWithin text places → p.start + p.length ≤ length text → EachWithin text (places ++ (p ∷ []))
+pub within_more : (text : List ℕ) (places : List Place) (p : Place) → EachWithin text places → (place_told p).start + (place_told p).length ≤ length text → EachWithin text (places ++ (p ∷ []))
 unfolding EachWithin
 within_more text [] p h le = (le, tt)
 within_more text (q ∷ places) p h le = (h.0, within_more text places p h.1 le)
@@ -101,10 +102,10 @@ ascends_at from [] last line h below = absurd (omega arith)
 ascends_at from (end ∷ ends) last zero (low, h) below = let later = ascends_last end ends last h in (low, omega (arith, later.0, later.1))
 ascends_at from (end ∷ ends) last (suc line) (low, h) below = ascends_at end ends last line h (omega arith)
 
-pub within_at : (text : List ℕ) (places : List Place) (i : ℕ) (p : Place) → EachWithin text places → slice_get places i ≡ Some p → p.start + p.length ≤ length text
+pub within_at : (text : List ℕ) (places : List Place) (i : ℕ) (p : Place) → EachWithin text places → slice_get places i ≡ Some p → (place_told p).start + (place_told p).length ≤ length text
 unfolding EachWithin
 within_at text [] i p h is = absurd (cc)
-within_at text (q ∷ places) zero p h is = let same : q ≡ p = cc in subst (λ (x : Place). x.start + x.length ≤ length text) same h.0
+within_at text (q ∷ places) zero p h is = let same : q ≡ p = cc in subst (λ (x : Place). (place_told x).start + (place_told x).length ≤ length text) same h.0
 within_at text (q ∷ places) (suc i) p h is = within_at text places i p h.1 is
 
 -- an element of a stretch of a list

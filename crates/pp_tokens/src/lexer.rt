@@ -1,7 +1,7 @@
 // The lexer: a body's logical lines of tokens (ISO C 5.1.1.2, phases 1 to 3; `lexed` in specs/Lines.antt).
 //
 // `source.rt` makes a text of the body without trigraphs and splices, with the places of the splices. `gather` cuts this text into parts,
-// each the longest that may stand there (6.4 paragraph 4): newlines, gaps and tokens. Of a token its place is kept, in 16 bytes, with those of
+// each the longest that may stand there (6.4 paragraph 4): newlines, gaps and tokens. Of a token its place is kept, in 12 bytes, with those of
 // all lines in one list; its spelling is a slice of the text, and its line is found by the newlines and splices before it. No token takes
 // memory of its own, and time is linear in the body, since a quote or a delimiter without a partner is looked for once a line
 // (`unpaired.rt`). What holds between two parts stands in specs/parts/Gathered.antt.
@@ -18,7 +18,8 @@ ghost use Rattle.pp_tokens.specs.Grammar.{is_white};
 ghost use Rattle.pp_tokens.specs.Lined.{lined, spliced_up_to, Rising};
 ghost use Rattle.pp_tokens.specs.Lines.{all_tokens, elements, file_of, lexed};
 ghost use Rattle.pp_tokens.specs.DirectiveLines.{directives_alone};
-ghost use Rattle.pp_tokens.specs.parts.Seen.{seen_file, token_of_place};
+ghost use Rattle.pp_tokens.specs.parts.Packed.{place_told};
+ghost use Rattle.pp_tokens.specs.parts.Seen.{seen_file, token_of_place, IsWhole};
 ghost use Rattle.pp_tokens.specs.parts.Text.{part_told};
 ghost use Rattle.pp_tokens.specs.Tokens.{token_seen};
 
@@ -26,28 +27,22 @@ use crate::class::is_white;
 use crate::comment::line_length;
 use crate::due::{Before, after_word, is_due};
 use crate::part::{What, next_part};
+use crate::place::Place;
+use crate::same_source::is_source_of;
 use crate::source::{SourceText, read_source};
 use crate::text_line::{begins_text, line_end};
-use crate::token::{Kind, TokenRef};
+use crate::token::TokenRef;
 use crate::unpaired::Unpaired;
 use std::alloc::{AllocError, Global};
 use std::marker::Model;
-
-// Where a token stands in the text.
-#[derive(Clone, Copy, Drop)]
-struct Place {
-    start: u32,
-    length: u32,
-    line: u32,
-    kind: Kind,
-    space: bool,
-}
 
 /// The tokens of a file, in logical lines, counted from 0. The spellings are slices of one text, and the tokens of
 /// all lines stand one after another.
 #[derive(Drop)]
 pub struct Lexed {
     text: Vec<u8>,
+    // the places of the splices, where all tokens of the text are here
+    splices: Option<Vec<u32>>,
     places: Vec<Place>,
     ends: Vec<u32>,
     unended: Option<u32>,
@@ -55,14 +50,15 @@ pub struct Lexed {
 
 impl Model for Lexed {
     ghost use Rattle.pp_tokens.specs.Lines.{LexedFile};
-    ghost use Rattle.pp_tokens.specs.parts.Seen.{seen_file, Ascends, EachWithin};
+    ghost use Rattle.pp_tokens.specs.parts.Seen.{seen_file, Ascends, EachWithin, IsWhole};
     ghost use Rattle.std.specs.Prelude.{length};
 
     ghost Value = { LexedFile };
 
     ghost view = { λ l. seen_file l.text.items l.places.items l.ends.items l.unended };
 
-    ghost invariant = { λ l. Ascends 0 l.ends.items (length l.places.items) × EachWithin l.text.items l.places.items };
+    ghost invariant = { λ l. Ascends 0 l.ends.items (length l.places.items) × EachWithin l.text.items l.places.items
+        × IsWhole l.splices l.text.items (seen_file l.text.items l.places.items l.ends.items l.unended) };
 }
 
 /// `size` bytes of a text, from a place on.
@@ -160,6 +156,9 @@ impl Gathering {
     ) -> Result<(), AllocError>
         requires small { length text.now ≤ body_limit + 1 }
         requires within { at + size ≤ length text.now }
+        requires some { 0 < size }
+        requires part { IsPart (part_told what) (take size (drop at text.now)) }
+        requires short { size ≤ body_limit + newlines (take size (drop at text.now)) }
         requires few { length self.old.places.items ≤ at }
         requires gathered { IsGathered text.now self.old }
         ensures { IfOk result (λ u. Gathers text.now self.old self.new (part_told what) (take size (drop at text.now)) line) }
@@ -167,13 +166,7 @@ impl Gathering {
         match what {
             What::Newline => self.end_line(),
             What::Token(kind) => {
-                let place = Place {
-                    start: at as u32,
-                    length: size as u32,
-                    line,
-                    kind,
-                    space: self.space,
-                };
+                let place = Place::new(at, size, line, kind, self.space);
                 self.add_token(place, stretch(text, at, size))
             }
             What::White | What::Comment => {
@@ -271,6 +264,7 @@ pub fn newlines(what: What, part: &[u8]) -> usize
 #[inline(never)]
 fn gather(alloc: Global, text: &[u8], splices: &[u32]) -> Result<Gathering, AllocError>
     requires small { length text.now + length splices.now ≤ body_limit + 1 }
+    requires short { length text.now ≤ body_limit + newlines text.now }
     requires rising { Rising 0 splices.now }
     ensures file { IfOk result (λ g. seen_file text.now g.places.items g.ends.items g.unended ≡ file_of (elements zero [] (lined splices.now 0 1 text.now))) }
     ensures gathered { IfOk result (λ g. IsGathered text.now g) }
@@ -297,6 +291,30 @@ fn gather(alloc: Global, text: &[u8], splices: &[u32]) -> Result<Gathering, Allo
     Ok(gathering)
 }
 
+// The file that a text makes and what is gathered of all of it, with its splices where that is all its tokens. Room that
+// nothing took is given back.
+fn finished(text: Vec<u8>, splices: Option<Vec<u32>>, gathering: Gathering) -> Lexed
+    requires gathered { IsGathered text.items gathering }
+    requires whole { IsWhole splices text.items (seen_file text.items gathering.places.items gathering.ends.items gathering.unended) }
+    ensures { result ≡ seen_file text.items gathering.places.items gathering.ends.items gathering.unended }
+{
+    let Gathering {
+        mut places,
+        mut ends,
+        unended,
+        ..
+    } = gathering;
+    places.shrink_to_fit();
+    ends.shrink_to_fit();
+    Lexed {
+        text,
+        splices,
+        places,
+        ends,
+        unended,
+    }
+}
+
 /// The tokens of a file's body, of at most 16 MiB, with trigraphs read where that is asked for (ISO C 5.1.1.2,
 /// phases 1 to 3). Time is linear in the body; the only error is want of memory.
 pub fn lex(alloc: Global, body: &[u8], trigraphs: bool) -> Result<Lexed, AllocError>
@@ -304,24 +322,15 @@ pub fn lex(alloc: Global, body: &[u8], trigraphs: bool) -> Result<Lexed, AllocEr
     ensures { IfOk result (λ l. l ≡ lexed trigraphs body.now) }
 {
     let SourceText { text, splices } = read_source(alloc, body, trigraphs)?;
-    let Gathering {
-        places,
-        ends,
-        unended,
-        ..
-    } = gather(alloc, &text, &splices)?;
-    Ok(Lexed {
-        text,
-        places,
-        ends,
-        unended,
-    })
+    let gathering = gather(alloc, &text, &splices)?;
+    Ok(finished(text, Some(splices), gathering))
 }
 
 // What is gathered of a whole text's directives alone.
 #[inline(never)]
 fn gather_directives(alloc: Global, text: &[u8], splices: &[u32]) -> Result<Gathering, AllocError>
     requires small { length text.now + length splices.now ≤ body_limit + 1 }
+    requires short { length text.now ≤ body_limit + newlines text.now }
     requires rising { Rising 0 splices.now }
     ensures file { IfOk result (λ g. seen_file text.now g.places.items g.ends.items g.unended ≡ directives_alone (file_of (elements zero [] (lined splices.now 0 1 text.now)))) }
     ensures gathered { IfOk result (λ g. IsGathered text.now g) }
@@ -363,18 +372,8 @@ pub fn lex_directives(alloc: Global, body: &[u8], trigraphs: bool) -> Result<Lex
     ensures { IfOk result (λ l. l ≡ directives_alone (lexed trigraphs body.now)) }
 {
     let SourceText { text, splices } = read_source(alloc, body, trigraphs)?;
-    let Gathering {
-        places,
-        ends,
-        unended,
-        ..
-    } = gather_directives(alloc, &text, &splices)?;
-    Ok(Lexed {
-        text,
-        places,
-        ends,
-        unended,
-    })
+    let gathering = gather_directives(alloc, &text, &splices)?;
+    Ok(finished(text, None, gathering))
 }
 
 // The number of the first place of a line.
@@ -391,16 +390,16 @@ fn line_start(ends: &[u32], line: usize) -> usize
 
 // The token at a place of a text.
 fn token_of(text: &[u8], place: Place) -> TokenRef<'_>
-    requires { place.start + place.length ≤ length text.now }
+    requires { (place_told place).start + (place_told place).length ≤ length text.now }
     ensures { token_seen result ≡ token_of_place text.now place }
 {
-    let (_, behind) = text.split_at(place.start as usize);
-    let (text, _) = behind.split_at(place.length as usize);
+    let (_, behind) = text.split_at(place.start());
+    let (text, _) = behind.split_at(place.length());
     TokenRef {
-        kind: place.kind,
+        kind: place.kind(),
         text,
-        line: place.line,
-        space: place.space,
+        line: place.line(),
+        space: place.space(),
     }
 }
 
@@ -412,9 +411,23 @@ impl Lexed {
     {
         Lexed {
             text: Vec::new(alloc),
+            splices: None,
             places: Vec::new(alloc),
             ends: Vec::new(alloc),
             unended: None,
+        }
+    }
+
+    /// Whether these are the tokens of a body of at most 16 MiB, read with trigraphs or without: what `lex` gives of it, which it may deny
+    /// where it was lexed for its directives alone. It takes no memory, and the first difference between the body and the one that was
+    /// lexed ends it.
+    pub fn is_of(&self, body: &[u8], trigraphs: bool) -> bool
+        requires { length body.now ≤ body_limit }
+        ensures { result ≡ true → self.now ≡ lexed trigraphs body.now }
+    {
+        match &self.splices {
+            Some(splices) => is_source_of(&self.text, splices, body, trigraphs),
+            None => false,
         }
     }
 
@@ -466,6 +479,16 @@ impl Lexed {
             return None;
         }
         Some(token_of(&self.text, self.places[number]))
+    }
+
+    /// How many bytes of the text lie from the start of one token to that of the last before another, as `token_at` counts them: what
+    /// is left of room for them is little.
+    pub fn bytes_between(&self, from: usize, end: usize) -> usize {
+        if end <= from || self.places.len() < end {
+            return 0;
+        }
+        let first = self.places[from];
+        self.places[end - 1].start().saturating_sub(first.start())
     }
 
     /// The line of a comment that never ends.

@@ -6,7 +6,8 @@ ghost use Rattle.base_types.specs.Limits.{body_limit};
 ghost use Rattle.memchr.specs.Find.{IsFirstByte};
 ghost use Rattle.pp_tokens.specs.Lined.{lined, Rising};
 ghost use Rattle.pp_tokens.specs.Phases.{newline_ended, trigraph, source_text};
-ghost use Rattle.pp_tokens.specs.parts.Pieces.{newline_length, front_trigraph, front_character, is_kept, FrontStays, IsFront};
+ghost use Rattle.pp_tokens.specs.parts.Gathered.{newlines};
+ghost use Rattle.pp_tokens.specs.parts.Pieces.{newline_length, front_trigraph, front_character, is_kept, ends_line, FrontStays, IsFront};
 
 use memchr::{memchr2, memchr3};
 use std::alloc::{AllocError, Global};
@@ -21,7 +22,7 @@ pub struct SourceText {
 
 // What stands at the front of what is left of a body.
 #[derive(Clone, Copy, Drop)]
-enum Piece {
+pub enum Piece {
     // A byte of the text.
     Byte(u8),
     // A backslash and the newline behind it.
@@ -29,7 +30,7 @@ enum Piece {
 }
 
 // A body up to the newline that ends it, which needn't stand there.
-fn without_last_newline(body: &[u8]) -> &[u8]
+pub fn without_last_newline(body: &[u8]) -> &[u8]
     requires { 0 < length body.now }
     ensures ended { newline_ended body.now ≡ result.now ++ (ascii.newline ∷ []) }
     ensures within { length result.now ≤ length body.now }
@@ -97,7 +98,7 @@ fn long_run(rest: &[u8], trigraphs: bool) -> usize
 }
 
 // How many bytes at the front are sure to be bytes of the text. The start of a search costs more than a look at a few bytes.
-fn run_length(rest: &[u8], trigraphs: bool) -> usize
+pub fn run_length(rest: &[u8], trigraphs: bool) -> usize
     ensures within { result ≤ length rest.now }
     ensures run { FrontStays trigraphs (rest.now ++ (ascii.newline ∷ [])) result }
 {
@@ -170,10 +171,11 @@ fn front_character(rest: &[u8], trigraphs: bool) -> (u8, usize)
 }
 
 // What stands at the front, and how many bytes it has. The newline that ends the body stands behind the rest.
-fn front_piece(rest: &[u8], trigraphs: bool) -> (Piece, usize)
+pub fn front_piece(rest: &[u8], trigraphs: bool) -> (Piece, usize)
     ensures front { (line : ℕ) → IsFront trigraphs line (rest.now ++ (ascii.newline ∷ [])) result.0 result.1 }
     ensures moves { 0 < result.1 }
     ensures within { result.1 ≤ length rest.now + 1 }
+    ensures last { length rest.now < result.1 → ends_line result.0 ≡ true }
 {
     let newline = newline_length(rest);
     if newline > 0 {
@@ -195,6 +197,7 @@ pub fn read_source(alloc: Global, body: &[u8], trigraphs: bool) -> Result<Source
     ensures source { IfOk result (λ s. lined s.splices.items 0 1 s.text.items ≡ source_text trigraphs body.now) }
     ensures rising { IfOk result (λ s. Rising 0 s.splices.items) }
     ensures small { IfOk result (λ s. length s.text.items + length s.splices.items ≤ body_limit + 1) }
+    ensures short { IfOk result (λ s. length s.text.items ≤ body_limit + newlines s.text.items) }
 {
     let mut splices = Vec::new(alloc);
     if body.is_empty() {

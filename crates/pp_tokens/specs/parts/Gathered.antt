@@ -8,7 +8,7 @@ use Rattle.pp_tokens.specs.declared.token.Kind.TheVariants.{Header}
 use Rattle.pp_tokens.specs.Grammar.{is_header}
 use Rattle.pp_tokens.specs.declared.due.Before.{Before}
 use Rattle.pp_tokens.specs.declared.due.Before.TheVariants.{Nothing}
-use Rattle.pp_tokens.specs.declared.lexer.Place.{Place}
+use Rattle.pp_tokens.specs.declared.place.Place.{Place}
 use Rattle.pp_tokens.specs.declared.lexer.Gathering.{Gathering}
 use Rattle.pp_tokens.specs.Phases.{Cell, bytes}
 use Rattle.pp_tokens.specs.Lines.{Part, newline, white, comment, open_comment, token, Element, LexedFile, line_of, unended_line, or_else, part_of}

@@ -1,6 +1,6 @@
 -- What the reading of translation phases 1 and 2 tells of the rest of a body (ISO C 5.1.1.2). No public contract rests on
 -- these. The rest ends with the newline that ends the body, whether it stands there or is added.
-use Rattle.std.specs.Prelude.{◌≡◌, ℕ, ◌+◌, Bool, not, ◌&&◌, ◌||◌, List, [], ◌∷◌, ◌++◌, take, drop, if◌then◌else◌, ◌==◌, nat_eq, get_or, Option, None, Some}
+use Rattle.std.specs.Prelude.{◌≡◌, ℕ, ◌+◌, Bool, true, not, ◌&&◌, ◌||◌, List, [], ◌∷◌, ◌++◌, take, drop, if◌then◌else◌, ◌==◌, nat_eq, get_or, Option, None, Some}
 use Rattle.std.specs.List.{starts_with}
 use Rattle.base_types.specs.Ascii as ascii
 use Rattle.pp_tokens.specs.declared.source.Piece.{Piece}
@@ -41,6 +41,11 @@ front_character trigraphs rest = or_byte (if trigraphs then front_trigraph rest 
 -- a byte that phases 1 and 2 leave as it is, whatever stands behind it
 abbrev pub is_kept : Bool → ℕ → Bool
 is_kept trigraphs b = not ((b == ascii.carriage_return) || ((b == ascii.backslash) || (trigraphs && (b == ascii.question))))
+
+-- the piece is a newline, or has one
+abbrev pub ends_line : Piece → Bool
+ends_line (Byte b) = b == ascii.newline
+ends_line Splice = true
 
 -- the line behind these bytes, of which the first is on this one
 unfoldable pub line_behind : ℕ → List ℕ → ℕ

@@ -8,6 +8,7 @@ use Rattle.pp_tokens.specs.parts.Text.{is_due, part_told}
 use Rattle.pp_tokens.specs.parts.Unpaired.{KnowsUnpaired}
 use Rattle.pp_tokens.proofs.LaterPlaces.{known_later}
 use Rattle.pp_tokens.proofs.Splices.{up_to_all, up_to_later}
+use Rattle.pp_tokens.proofs.ShortParts.{short_stretch}
 use Rattle.pp_tokens.proofs.LexSteps.{first_within, first_is_part, nothing_gathered, lex_start, lex_step, lex_end, white_up_to}
 use Rattle.pp_tokens.proofs.lexer.gather.Goals as goal
 use Rattle.pp_tokens.proofs.lexer.gather.Goals.{After-gathering-else-is_white-1}
@@ -43,6 +44,18 @@ overflow_cast-base c = omega (arith, line_small c)
 
 pub add-requires-clause-within : goal.add-requires-clause-within
 add-requires-clause-within c = (size_is c).1
+
+pub add-requires-clause-some : goal.add-requires-clause-some
+add-requires-clause-some c = (size_is c).0
+
+pub add-requires-clause-part : goal.add-requires-clause-part
+add-requires-clause-part c =
+    let rest = drop c.loop-at.at c.args.text.now in
+    let some : 0 < length rest = omega (arith, length-drop c.loop-at.at c.args.text.now, c.loop-at-test.true) in
+    first_is_part c.is_due.result rest (part_told c.next_part-what.result.0) c.next_part-what.result.1 some c.next_part-what.ensures.part
+
+pub add-requires-clause-short : goal.add-requires-clause-short
+add-requires-clause-short c = short_stretch c.args.text.now c.loop-at.at c.next_part-what.result.1 16777216 (size_is c).1 c.requires.short
 
 pub stretch-requires : goal.stretch-requires
 stretch-requires c = (size_is (goal.at.stretch-requires c).After-gathering-else-is_white-1).1

@@ -11,6 +11,7 @@ use Rattle.pp_tokens.specs.parts.TextLines.{begins_line, begins_text}
 use Rattle.pp_tokens.specs.parts.Unpaired.{KnowsUnpaired}
 use Rattle.pp_tokens.proofs.LaterPlaces.{known_later}
 use Rattle.pp_tokens.proofs.Splices.{up_to_all, up_to_later}
+use Rattle.pp_tokens.proofs.ShortParts.{short_stretch}
 use Rattle.pp_tokens.proofs.LexSteps.{first_within, first_is_part, nothing_gathered, lex_start, lex_step, lex_end, white_up_to}
 use Rattle.pp_tokens.proofs.DirectiveSteps.{nothing_outlined, gap_outlined, part_outlined, text_outlined, text_step, end_outlined, is_a_token}
 use Rattle.pp_tokens.proofs.lexer.gather_directives.Goals as goal
@@ -111,6 +112,16 @@ overflow_cast-base c = omega (arith, line_small (goal.at.overflow_cast-base c).A
 
 pub add-requires-clause-within : goal.add-requires-clause-within
 add-requires-clause-within c = (size_is (goal.at.add-requires-clause-within c).After-next_part-what).1
+
+pub add-requires-clause-some : goal.add-requires-clause-some
+add-requires-clause-some c = (size_is (goal.at.add-requires-clause-some c).After-next_part-what).0
+
+pub add-requires-clause-part : goal.add-requires-clause-part
+add-requires-clause-part c = is_part (goal.at.add-requires-clause-part c).After-next_part-what
+
+pub add-requires-clause-short : goal.add-requires-clause-short
+add-requires-clause-short c =
+    short_stretch c.args.text.now c.loop-at.at c.next_part-what.result.1 16777216 (size_is (goal.at.add-requires-clause-short c).After-next_part-what).1 c.requires.short
 
 pub newlines-base-requires : goal.newlines-base-requires
 newlines-base-requires c =

@@ -9,8 +9,9 @@ use Rattle.pp_tokens.proofs.lexer.lex_directives.Goals as goal
 pub returns : goal.returns
 unfolding lexed
 returns c =
-    let g = c.in_ok-places.field-0 in
-    ap (λ (text : List ℕ). seen_file text g.places.items g.ends.items g.unended) (sym c.deref.ensures.value)
-    ∙ c.in_ok-places.ensures.file
+    let g = c.in_ok-gathering.gathering in
+    c.finished.ensures
+    ∙ ap (λ (text : List ℕ). seen_file text g.places.items g.ends.items g.unended) (sym c.deref.ensures.value)
+    ∙ c.in_ok-gathering.ensures.file
     ∙ (λ i. directives_alone (file_of (elements zero [] (lined (c.deref-2.ensures.value i) 0 1 (c.deref.ensures.value i)))))
     ∙ ap (λ (cells : List Cell). directives_alone (file_of (elements zero [] cells))) c.in_ok-text.ensures.source

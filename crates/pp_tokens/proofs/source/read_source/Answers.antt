@@ -1,13 +1,15 @@
-use Rattle.std.proofs.Common.{◌≡◌, ◌≤◌, ◌<◌, ◌+◌, ◌∷◌, ◌++◌, [], length, drop, refl, sym, ◌∙◌, ap, subst, arith, length-append}
+use Rattle.std.proofs.Common.{◌≡◌, ◌≤◌, ◌<◌, ◌+◌, ◌==◌, true, ◌∷◌, ◌++◌, [], length, drop, refl, sym, ◌∙◌, ap, subst, arith, length-append}
 use Rattle.std.specs.Vec.{vec_len}
 use Rattle.std.proofs.lemmas.Bool.{eqb-true}
 use Rattle.pp_tokens.specs.declared.source.Piece.{Piece}
 use Rattle.pp_tokens.specs.declared.source.Piece.TheVariants.{Byte, Splice}
 use Rattle.pp_tokens.specs.Lined.{Rising}
 use Rattle.pp_tokens.specs.parts.Seen.{Ascends}
-use Rattle.pp_tokens.specs.parts.Pieces.{IsFront}
+use Rattle.pp_tokens.specs.parts.Gathered.{newlines}
+use Rattle.pp_tokens.specs.parts.Pieces.{ends_line, IsFront}
 use Rattle.pp_tokens.proofs.LinedText.{rising}
 use Rattle.pp_tokens.proofs.Places.{ascends_more, ascends_line}
+use Rattle.pp_tokens.proofs.ShortParts.{newlines_both}
 use Rattle.pp_tokens.proofs.SourceSteps.{SourceState, line_now, source_start, source_run_at, source_byte, source_splice, source_done, empty_source, rest_behind, rest_end}
 use Rattle.pp_tokens.proofs.source.read_source.Goals as goal
 use Rattle.pp_tokens.proofs.source.read_source.Goals.{in-Byte+in_ok-push-in-Byte, in-Splice+in_ok-push-in-Splice}
@@ -36,6 +38,7 @@ loop-at-init c =
       fewer = c.without_last_newline-lines.ensures.within;
       small = rw (text, splices) (omega arith);
       ascends = rw (text, splices) none_ascends;
+      last = λ past. absurd (omega (arith, past));
       state = rw (text, splices) (source_start c.args.trigraphs c.args.body.now c.without_last_newline-lines.result.now c.without_last_newline-lines.ensures.ended);
     }
 
@@ -66,6 +69,8 @@ loop-at-preserved c =
     rest_behind lines rest behind at run n c.loop-at-test.true is c.run_length-run.ensures.within back in
     let moves : 0 < n = c.front_piece-piece.ensures.moves in
     let fits : at + (run + n) ≤ length lines + 1 = omega (arith, c.front_piece-piece.ensures.within, c.split_at.ensures.back_len, c.split_at-in-loop-at.ensures.back_len) in
+    let behind_last : length lines < at + (run + n) → length behind < n =
+    (λ past. omega (arith, past, ap length is, c.split_at.ensures.back_len, c.split_at-in-loop-at.ensures.back_len)) in
     elim c.match-piece.branch [
       | in-Byte+in_ok-push-in-Byte w ↦
           (let b = w.in-Byte.byte in
@@ -78,6 +83,11 @@ loop-at-preserved c =
             fewer = c.loop-at.invariant.fewer;
             small = rw (longer, w.splices-is) (omega (arith, c.loop-at.invariant.small, c.split_at-in-loop-at.ensures.front_len));
             ascends = rw (longer, w.splices-is) (ascends_more 0 splices (length (text ++ kept)) (length ((text ++ kept) ++ (b ∷ []))) (omega arith) ascends);
+            last = λ past.
+                rw (longer, w.splices-is)
+                (let feed : (b == 10) ≡ true = subst (λ (p : Piece). ends_line p ≡ true) w.in-Byte.is (c.front_piece-piece.ensures.last (behind_last past)) in
+                let one : newlines (b ∷ []) ≡ 1 = rw feed refl in
+                omega (arith, one, newlines_both (text ++ kept) (b ∷ [])));
             state = rw (longer, w.splices-is, ← left) (source_byte trigraphs body (text ++ kept) splices (behind ++ (10 ∷ [])) b n ascends byte state);
           })
       | in-Splice+in_ok-push-in-Splice w ↦
@@ -93,6 +103,7 @@ loop-at-preserved c =
             fewer = c.loop-at.invariant.fewer;
             small = rw (now, longer) (omega (arith, c.loop-at.invariant.small, c.split_at-in-loop-at.ensures.front_len));
             ascends = rw (now, longer) (ascends_line 0 splices (length (text ++ kept)) ascends);
+            last = λ past. rw (now, longer) (omega (arith, grown));
             state = rw (now, longer, ← left) (source_splice trigraphs body (text ++ kept) splices (behind ++ (10 ∷ [])) n splice state);
           })
     ]
@@ -101,6 +112,11 @@ pub returns-clause-source : goal.returns-clause-source
 returns-clause-source c =
     source_done c.args.trigraphs c.args.body.now c.loop-at.text.items c.loop-at.splices.items _
     (rest_end c.without_last_newline-lines.result.now c.loop-at.at (omega arith)) c.loop-at.invariant.state
+
+pub returns-clause-short : goal.returns-clause-short
+returns-clause-short c =
+    let last = c.loop-at.invariant.last (omega (arith, c.loop-at-test.false)) in
+    omega (arith, last, c.loop-at.invariant.small, c.loop-at.invariant.within, c.loop-at.invariant.fewer, c.requires)
 
 pub returns-clause-rising : goal.returns-clause-rising
 returns-clause-rising c = rising 0 c.loop-at.splices.items (length c.loop-at.text.items) c.loop-at.invariant.ascends

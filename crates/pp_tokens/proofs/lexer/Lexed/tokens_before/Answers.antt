@@ -1,6 +1,6 @@
 use Rattle.std.proofs.Common.{sym, ◌∙◌, ap, arith, length, ◌≡◌, ◌≤◌, ◌∷◌, get_or, List, ℕ, take}
 use Rattle.std.specs.List.{flat_map}
-use Rattle.pp_tokens.specs.declared.lexer.Place.{Place}
+use Rattle.pp_tokens.specs.declared.place.Place.{Place}
 use Rattle.pp_tokens.specs.declared.token.Token.{Token}
 use Rattle.pp_tokens.specs.Lines.{LexedFile}
 use Rattle.pp_tokens.specs.parts.Seen.{seen_lines}
