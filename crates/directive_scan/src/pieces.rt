@@ -41,13 +41,16 @@ impl Model for Pieces {
     ghost use Rattle.std.specs.Prelude.{List, map};
     ghost use Rattle.std.specs.Arc.{arc_value};
     ghost use Rattle.directive_scan.specs.declared.directive.Piece.{Piece};
+    ghost use Rattle.std.specs.Prelude.{◌≡◌};
+    ghost use Rattle.directive_scan.specs.Directives.{pieces};
     ghost use Rattle.directive_scan.specs.Spots.{piece_at, EachKnowsRole};
 
     ghost Value = { List Piece };
 
     ghost view = { λ p. let parts = arc_value p.parts in map (piece_at parts.lexed) parts.spots.items };
 
-    ghost invariant = { λ p. EachKnowsRole (arc_value p.parts).lexed (arc_value p.parts).spots.items };
+    ghost invariant = { λ p. EachKnowsRole (arc_value p.parts).lexed (arc_value p.parts).spots.items
+        × (map (piece_at (arc_value p.parts).lexed) (arc_value p.parts).spots.items ≡ pieces (arc_value p.parts).lexed.lines) };
 }
 
 /// A directive that lies in its file.
@@ -69,24 +72,19 @@ impl Pieces {
     pub fn of(alloc: Global, lexed: Lexed) -> Result<Pieces, AllocError>
         ensures { IfOk result (λ ps. ps ≡ pieces lexed.lines) }
     {
-        let spots = spots(alloc, &lexed)?;
+        let mut spots = spots(alloc, &lexed)?;
+        spots.shrink_to_fit();
         Ok(Pieces {
             parts: Arc::new(alloc, Parts { lexed, spots })?,
         })
     }
 
     /// Those of a file without lines: none. The only error is want of memory.
-    #[tactic(auto, unfolding(crate::specs::Spots::EachKnowsRole))]
+    #[tactic(auto, unfolding(crate::specs::Directives::pieces))]
     pub fn empty(alloc: Global) -> Result<Pieces, AllocError>
         ensures { IfOk result (λ ps. ps ≡ []) }
     {
-        let parts = Parts {
-            lexed: Lexed::empty(alloc),
-            spots: Vec::new(alloc),
-        };
-        Ok(Pieces {
-            parts: Arc::new(alloc, parts)?,
-        })
+        Pieces::of(alloc, Lexed::empty(alloc))
     }
 
     /// A copy, which takes no memory and no time. It is refused only where there are 2^63 copies.
@@ -98,11 +96,29 @@ impl Pieces {
         })
     }
 
+    /// The file that was cut into them.
+    pub fn lexed(&self) -> &Lexed
+        ensures { self.now ≡ pieces result.now.lines }
+    {
+        &self.parts.lexed
+    }
+
     /// How many there are.
     pub fn len(&self) -> usize
         ensures { result ≡ length self.now }
     {
         self.parts.spots.len()
+    }
+
+    /// About how many bytes of the file its runs of text take, for room that is taken beforehand.
+    pub fn text_bytes(&self) -> usize {
+        let mut bytes = 0usize;
+        for spot in self.parts.spots.iter() {
+            if let Spot::Text { from, end } = spot {
+                bytes = bytes.saturating_add(self.parts.lexed.bytes_between(*from, *end));
+            }
+        }
+        bytes
     }
 
     /// The first malformed line of the file: an `#elif`, `#else` or `#endif` that has no place there, or at the end of
