@@ -41,7 +41,7 @@ fn has_tight_spelling(text: &[u8]) -> bool
 
 impl Last {
     #[inline(always)]
-    pub fn of_spelling(text: &[u8]) -> Last
+    pub(crate) fn of_spelling(text: &[u8]) -> Last
         ensures { result ≡ last_on_line text.now }
     {
         if has_tight_spelling(text) {
@@ -54,7 +54,7 @@ impl Last {
     // Whether a space stands between what is last on its line and a token that will be the last behind it.
     #[tactic(auto, unfolding(crate::specs::Layout::gap))]
     #[inline(always)]
-    pub fn wants_space(self, token: &TokenRef<'_>, next: Last) -> bool
+    pub(crate) fn wants_space(self, token: &TokenRef<'_>, next: Last) -> bool
         requires { next ≡ last_on_line token.now.text.now }
         ensures { gap self (token_seen token.now) ≡ (if result then ascii.space ∷ [] else []) }
     {

@@ -68,6 +68,14 @@ impl Layout {
         })
     }
 
+    /// Takes room at once for text that has so many bytes in its file: somewhat less, since white space goes. Nothing but time depends
+    /// on it.
+    pub fn make_room(&mut self, bytes: usize)
+        ensures { self.new ≡ self.old }
+    {
+        self.text.make_room(bytes - bytes / 64);
+    }
+
     /// A file is entered under a name (ISO C 6.10.2).
     #[tactic(auto, unfolding(crate::specs::Laid::after_event, crate::specs::Layout::written, crate::specs::Layout::line_after, crate::specs::Layout::last_after))]
     pub fn enter(&mut self, name: &[u8]) -> Result<(), LayError>

@@ -38,6 +38,13 @@ impl Text {
         }
     }
 
+    // Takes room for so many bytes more at once, where there is that much memory.
+    pub fn make_room(&mut self, more: usize)
+        ensures { self.new ≡ self.old }
+    {
+        let _ = self.bytes.reserve(more.min(TEXT_LIMIT));
+    }
+
     pub fn append(&mut self, more: &[u8]) -> Result<(), LayError>
         ensures ok { OnOk result (self.new ≡ self.old ++ more.now) }
         ensures within { length self.new ≤ text_limit }
