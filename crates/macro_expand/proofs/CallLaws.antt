@@ -1,170 +1,84 @@
 -- Calls, read token by token and cut at their commas.
-use Rattle.std.proofs.Common.{◌≡◌, ℕ, zero, suc, ◌+◌, ◌-◌, ◌<◌, Bool, true, false, ◌&&◌, ◌==◌, if◌then◌else◌, codes, bytes_eq, nat_lt, List, [], ◌∷◌, ◌++◌, length, map, Vec, Option, Some, None, refl, ap, sym, ◌∙◌, append_assoc, arith}
-use Rattle.std.proofs.lemmas.Bool.{and_parts, cond-true, cond-false, false≢true, eqb-true, ltb-true, lt-ltb, ne_eqb, eq-eqb}
-use Rattle.std.proofs.lemmas.List.{map-append, length-map}
-use Rattle.std.proofs.lemmas.Slice.Eq.{bytes_eq-Decides}
+use Rattle.std.proofs.Common.{◌≡◌, ℕ, zero, suc, ◌-◌, ◌<◌, ◌≤◌, Bool, true, false, ◌&&◌, ◌==◌, if◌then◌else◌, nat_lt, List, [], ◌∷◌, ◌++◌, length, map, Vec, Option, Some, None, Result, Ok, Err, inl, inr, refl, ap, sym, subst, ◌∙◌, append_assoc, arith}
+use Rattle.std.specs.Prelude.{◌⊎◌, IfOk, IfErr}
+use Rattle.std.proofs.lemmas.Bool.{and_parts, cond-false, false≢true, eqb-true, ltb-true, lt-ltb, ne_eqb}
+use Rattle.std.proofs.lemmas.List.{append-nil, map-append}
 use Rattle.std.specs.declared.alloc.Global.{Global}
-use Rattle.pp_tokens.specs.declared.Token.{Token}
-use Rattle.pp_tokens.specs.Marks.{is_punctuator, is_mark, is_open, is_close, is_comma, is_hash, is_pasting, Mark, Opening, Closing, Comma, Hash, Pasting, NoMark, mark_of}
+use Rattle.pp_tokens.specs.Marks.{Mark, Opening, Closing, Comma, Hash, Pasting, NoMark, mark_of}
 use Rattle.macro_expand.specs.declared.marked.Marked.{Marked as Kept}
-use Rattle.macro_expand.specs.Replacement.{Marked, Call, call_with, call_in, argument_with, cut_at_outer_commas, arguments_of}
-use Rattle.macro_expand.specs.Seen.{marked_of, lists_of}
-use Rattle.macro_expand.specs.parts.Reading.{nesting_after, ends_call, is_cut, call_with_all, arguments_with}
-
--- The marks of tokens.
-
-chain : Bool → Bool → Bool → Bool → Bool → Mark
-chain o c k h p = if o then Opening else (if c then Closing else (if k then Comma else (if h then Hash else (if p then Pasting else NoMark))))
-
-mark_chain : (t : Token) → mark_of t ≡ chain (is_open t) (is_close t) (is_comma t) (is_hash t) (is_pasting t)
-unfolding mark_of chain
-mark_chain t = refl
-
--- a token has one spelling
-other_mark : (a b : List ℕ) (t : Token) → bytes_eq a b ≡ false → is_mark a t ≡ true → is_mark b t ≡ false
-other_mark a b t differ is =
-    let same : t.text ≡ a = (bytes_eq-Decides t.text a).0 (and_parts _ _ is).1 in
-    ap (λ (x : List ℕ). is_punctuator t && bytes_eq x b) same ∙ ap (λ (e : Bool). is_punctuator t && e) differ ∙ nothing (is_punctuator t)
-  where
-    nothing : (b : Bool) → (b && false) ≡ false
-    nothing true = refl
-    nothing false = refl
-
-pub mark-open : (t : Token) → is_open t ≡ true → mark_of t ≡ Opening
-unfolding chain
-mark-open t is = mark_chain t ∙ ap (λ o. chain o (is_close t) (is_comma t) (is_hash t) (is_pasting t)) is
-
-pub mark-close : (t : Token) → is_close t ≡ true → mark_of t ≡ Closing
-unfolding chain
-mark-close t is =
-    mark_chain t ∙ ap (λ o. chain o (is_close t) (is_comma t) (is_hash t) (is_pasting t)) (other_mark (codes ")") (codes "(") t refl is)
-    ∙ ap (λ c. chain false c (is_comma t) (is_hash t) (is_pasting t)) is
-
-pub mark-comma : (t : Token) → is_comma t ≡ true → mark_of t ≡ Comma
-unfolding chain
-mark-comma t is =
-    mark_chain t ∙ ap (λ o. chain o (is_close t) (is_comma t) (is_hash t) (is_pasting t)) (other_mark (codes ",") (codes "(") t refl is)
-    ∙ ap (λ c. chain false c (is_comma t) (is_hash t) (is_pasting t)) (other_mark (codes ",") (codes ")") t refl is)
-    ∙ ap (λ k. chain false false k (is_hash t) (is_pasting t)) is
-
-opening_chain : (o c k h p : Bool) → chain o c k h p ≡ Opening → o ≡ true
-unfolding chain
-opening_chain true c k h p e = refl
-opening_chain false true k h p e = absurd (cc)
-opening_chain false false true h p e = absurd (cc)
-opening_chain false false false true p e = absurd (cc)
-opening_chain false false false false true e = absurd (cc)
-opening_chain false false false false false e = absurd (cc)
-
-closing_chain : (o c k h p : Bool) → chain o c k h p ≡ Closing → c ≡ true
-unfolding chain
-closing_chain true c k h p e = absurd (cc)
-closing_chain false true k h p e = refl
-closing_chain false false true h p e = absurd (cc)
-closing_chain false false false true p e = absurd (cc)
-closing_chain false false false false true e = absurd (cc)
-closing_chain false false false false false e = absurd (cc)
-
-comma_chain : (o c k h p : Bool) → chain o c k h p ≡ Comma → k ≡ true
-unfolding chain
-comma_chain true c k h p e = absurd (cc)
-comma_chain false true k h p e = absurd (cc)
-comma_chain false false true h p e = refl
-comma_chain false false false true p e = absurd (cc)
-comma_chain false false false false true e = absurd (cc)
-comma_chain false false false false false e = absurd (cc)
-
-opens : (t : Token) → mark_of t ≡ Opening → is_open t ≡ true
-opens t is = opening_chain (is_open t) (is_close t) (is_comma t) (is_hash t) (is_pasting t) (sym (mark_chain t) ∙ is)
-
-closes : (t : Token) → mark_of t ≡ Closing → is_close t ≡ true
-closes t is = closing_chain (is_open t) (is_close t) (is_comma t) (is_hash t) (is_pasting t) (sym (mark_chain t) ∙ is)
-
-cuts : (t : Token) → mark_of t ≡ Comma → is_comma t ≡ true
-cuts t is = comma_chain (is_open t) (is_close t) (is_comma t) (is_hash t) (is_pasting t) (sym (mark_chain t) ∙ is)
+use Rattle.macro_expand.specs.declared.outcome.RunError.{RunError}
+use Rattle.macro_expand.specs.declared.outcome.RunError.TheVariants.{Count, Memory}
+use Rattle.macro_expand.specs.declared.call.CallMark.{CallMark}
+use Rattle.macro_expand.specs.declared.call.CallMark.TheVariants.{Opens, Closes, Parts, Plain}
+use Rattle.macro_expand.specs.declared.call.Cutting.{Cutting}
+use Rattle.macro_expand.specs.declared.call.ReadCall.{ReadCall}
+use Rattle.macro_expand.specs.Replacement.{Marked, Call, call_with, call_in, argument_with, argument_at, cut_at_outer_commas, arguments_of}
+use Rattle.macro_expand.specs.Seen.{marked_of, lists_of, ReadsCall, RefusesCall}
+use Rattle.macro_expand.specs.parts.Reading.{mark_in_call, call_mark, nesting_after, ends_call, is_cut, arguments_with, cut_from, CutsCall, cuts_for, arguments_cut}
 
 not_zero : (n : ℕ) → suc n ≡ 0 → ⊥
 not_zero n e = omega arith
 
-not_both : (a b : Bool) → (a && b) ≡ false → b ≡ true → a ≡ false
-not_both true b e is = absurd (false≢true (sym e ∙ is))
-not_both false b e is = refl
+-- a test that fails for its last part
+no_and : (a : Bool) → (a && false) ≡ true → ⊥
+no_and a e = false≢true (and_parts a false e).1
 
--- How deep the tokens stand.
+and_both : (a b : Bool) → a ≡ true → b ≡ true → (a && b) ≡ true
+and_both true b p q = q
+and_both false b p q = absurd (false≢true p)
 
-pub nesting-open : (n : ℕ) (t : Token) → is_open t ≡ true → n + 1 ≡ nesting_after n t
-unfolding nesting_after
-nesting-open n t is =
-    let one : n + 1 ≡ suc n = omega arith in
-    one ∙ sym (ap (λ m. elim m as (λ m. ℕ) [ Opening ↦ suc n | Closing ↦ n - 1 | _ ↦ n ]) (mark-open t is))
-
-pub nesting-close : (n : ℕ) (t : Token) → is_close t ≡ true → n - 1 ≡ nesting_after n t
-unfolding nesting_after
-nesting-close n t is = sym (ap (λ m. elim m as (λ m. ℕ) [ Opening ↦ suc n | Closing ↦ n - 1 | _ ↦ n ]) (mark-close t is))
-
-pub nesting-else : (n : ℕ) (t : Token) → is_open t ≡ false → is_close t ≡ false → n ≡ nesting_after n t
-unfolding nesting_after
-nesting-else n t no_open no_close = go (mark_of t) refl
-  where
-    go : (m : Mark) → mark_of t ≡ m → n ≡ (elim m [ Opening ↦ suc n | Closing ↦ n - 1 | _ ↦ n ])
-    go Opening is = absurd (false≢true (sym no_open ∙ opens t is))
-    go Closing is = absurd (false≢true (sym no_close ∙ closes t is))
-    go Comma is = refl
-    go Hash is = refl
-    go Pasting is = refl
-    go NoMark is = refl
+and_first : (a : Bool) → (a && true) ≡ false → a ≡ false
+and_first true e = e
+and_first false e = refl
 
 -- A step through a call.
 
-pub call-ends : (n : ℕ) (m : Marked) (ts : List Marked) → ends_call n m.token ≡ true →
+call-ends : (n : ℕ) (m : Marked) (ts : List Marked) → ends_call n (call_mark m.token) ≡ true →
     call_in n (m ∷ ts) ≡ Some (record { within = []; close = m; after = ts })
 unfolding call_in
-call-ends n m ts ends =
-    let both = and_parts (n == 0) (is_close m.token) ends in
-    let none : n ≡ 0 = eqb-true n 0 both.0 in
-    ap (λ k. elim k as (λ k. Option Call) [
-      | Opening ↦ call_with m (call_in (suc n) ts)
-      | Closing ↦ elim n [
-        | zero ↦ Some (record { within = []; close = m; after = ts })
-        | suc less ↦ call_with m (call_in less ts)
-      ]
-      | _ ↦ call_with m (call_in n ts)
-    ]) (mark-close m.token both.1)
-    ∙ ap (λ n. elim n as (λ n. Option Call) [
-      | zero ↦ Some (record { within = []; close = m; after = ts })
-      | suc less ↦ call_with m (call_in less ts)
-    ]) none
-
-pub call-goes_on : (n : ℕ) (m : Marked) (ts : List Marked) → ends_call n m.token ≡ false →
-    call_in n (m ∷ ts) ≡ call_with m (call_in (nesting_after n m.token) ts)
-unfolding call_in nesting_after
-call-goes_on n m ts more = go (mark_of m.token) refl
+call-ends n m ts ends = go n (mark_of m.token) ends
   where
-    inside : (n : ℕ) → (n == 0) ≡ false → (elim n as (λ n. Option Call) [
-      | zero ↦ Some (record { within = []; close = m; after = ts })
-      | suc less ↦ call_with m (call_in less ts)
-    ]) ≡ call_with m (call_in (n - 1) ts)
-    inside zero e = absurd (false≢true (sym e))
-    inside (suc n) e = let one : suc n - 1 ≡ n = omega arith in rw one refl
-
-    deep : is_close m.token ≡ true → (n == 0) ≡ false
-    deep is = not_both (n == 0) (is_close m.token) more is
-
-    go : (k : Mark) → mark_of m.token ≡ k → (elim k as (λ k. Option Call) [
+    go : (n : ℕ) (k : Mark) → ends_call n (mark_in_call k) ≡ true → (elim k as (λ k. Option Call) [
       | Opening ↦ call_with m (call_in (suc n) ts)
       | Closing ↦ elim n [
         | zero ↦ Some (record { within = []; close = m; after = ts })
         | suc less ↦ call_with m (call_in less ts)
       ]
       | _ ↦ call_with m (call_in n ts)
-    ])
-        ≡ call_with m (call_in (elim k [ Opening ↦ suc n | Closing ↦ n - 1 | _ ↦ n ]) ts)
-    go Opening is = refl
-    go Closing is = inside n (deep (closes m.token is))
-    go Comma is = refl
-    go Hash is = refl
-    go Pasting is = refl
-    go NoMark is = refl
+    ]) ≡ Some (record { within = []; close = m; after = ts })
+    go zero Closing e = refl
+    go (suc n) Closing e = absurd (not_zero n (eqb-true (suc n) 0 (and_parts (suc n == 0) true e).0))
+    go n Opening e = absurd (no_and (n == 0) e)
+    go n Comma e = absurd (no_and (n == 0) e)
+    go n Hash e = absurd (no_and (n == 0) e)
+    go n Pasting e = absurd (no_and (n == 0) e)
+    go n NoMark e = absurd (no_and (n == 0) e)
+
+call-goes_on : (n : ℕ) (m : Marked) (ts : List Marked) → ends_call n (call_mark m.token) ≡ false →
+    call_in n (m ∷ ts) ≡ call_with m (call_in (nesting_after n (call_mark m.token)) ts)
+unfolding call_in
+call-goes_on n m ts more = go n (mark_of m.token) more
+  where
+    go : (n : ℕ) (k : Mark) → ends_call n (mark_in_call k) ≡ false → (elim k as (λ k. Option Call) [
+      | Opening ↦ call_with m (call_in (suc n) ts)
+      | Closing ↦ elim n [
+        | zero ↦ Some (record { within = []; close = m; after = ts })
+        | suc less ↦ call_with m (call_in less ts)
+      ]
+      | _ ↦ call_with m (call_in n ts)
+    ]) ≡ call_with m (call_in (nesting_after n (mark_in_call k)) ts)
+    go zero Closing e = absurd (false≢true (sym e))
+    go (suc n) Closing e = let one : suc n - 1 ≡ n = omega arith in rw one refl
+    go n Opening e = refl
+    go n Comma e = refl
+    go n Hash e = refl
+    go n Pasting e = refl
+    go n NoMark e = refl
+
+-- the call, with these tokens before those within it
+abbrev pub call_with_all : List Marked → Option Call → Option Call
+call_with_all [] call = call
+call_with_all (t ∷ ts) call = call_with t (call_with_all ts call)
 
 with_last : (ts : List Marked) (t : Marked) (call : Option Call) → call_with_all (ts ++ t ∷ []) call ≡ call_with_all ts (call_with t call)
 with_last [] t call = refl
@@ -179,65 +93,13 @@ all_unclosed : (ts : List Marked) → call_with_all ts None ≡ None
 all_unclosed [] = refl
 all_unclosed (t ∷ ts) = ap (call_with t) (all_unclosed ts)
 
--- a turn of the loop that reads a call: `tokens` were read, and `t` stands before `rest`
-module _ (whole : Option Call) (tokens : List Kept) (n : ℕ) (pending rest : List Kept) (t : Kept)
-    (keeps : whole ≡ call_with_all (map marked_of tokens) (call_in n (map marked_of pending))) where
-  pub call_turn : pending ≡ t ∷ rest → ends_call n t.token ≡ false → (tokens' : List Kept) → tokens' ≡ tokens ++ t ∷ [] → (n' : ℕ) → n' ≡ nesting_after n t.token →
-      whole ≡ call_with_all (map marked_of tokens') (call_in n' (map marked_of rest))
-  call_turn popped more tokens' pushed n' deep =
-      keeps
-      ∙ ap (λ (l : List Kept). call_with_all (map marked_of tokens) (call_in n (map marked_of l))) popped
-      ∙ ap (call_with_all (map marked_of tokens)) (call-goes_on n (marked_of t) (map marked_of rest) more)
-      ∙ sym (with_last (map marked_of tokens) (marked_of t) _)
-      ∙ ap (λ (l : List Marked). call_with_all l (call_in (nesting_after n t.token) (map marked_of rest))) (sym (map-append marked_of tokens (t ∷ [])))
-      ∙ ap (λ (l : List Kept). call_with_all (map marked_of l) (call_in (nesting_after n t.token) (map marked_of rest))) (sym pushed)
-      ∙ ap (λ k. call_with_all (map marked_of tokens') (call_in k (map marked_of rest))) (sym deep)
-
-  pub call_end : pending ≡ t ∷ rest → ends_call n t.token ≡ true →
-      whole ≡ Some (record { within = map marked_of tokens; close = marked_of t; after = map marked_of rest })
-  call_end popped ends =
-      keeps
-      ∙ ap (λ (l : List Kept). call_with_all (map marked_of tokens) (call_in n (map marked_of l))) popped
-      ∙ ap (call_with_all (map marked_of tokens)) (call-ends n (marked_of t) (map marked_of rest) ends)
-      ∙ all_within (map marked_of tokens) (marked_of t) (map marked_of rest)
-
-pub call_none : (whole : Option Call) (tokens : List Kept) (n : ℕ) (pending : List Kept) →
-    whole ≡ call_with_all (map marked_of tokens) (call_in n (map marked_of pending)) → pending ≡ [] → whole ≡ None
-unfolding call_in
-call_none whole tokens n pending keeps empty =
-    keeps
-    ∙ ap (λ (l : List Kept). call_with_all (map marked_of tokens) (call_in n (map marked_of l))) empty
-    ∙ all_unclosed (map marked_of tokens)
-
 -- A step through what is cut.
 
-pub cut-made : (c n : ℕ) (m : Marked) (ts : List Marked) → is_cut c n m.token ≡ true →
+cut-made : (c n : ℕ) (m : Marked) (ts : List Marked) → is_cut c n (call_mark m.token) ≡ true →
     cut_at_outer_commas c n (m ∷ ts) ≡ [] ∷ cut_at_outer_commas (c - 1) n ts
 unfolding cut_at_outer_commas
-cut-made c n m ts cut =
-    ap (λ k. elim k as (λ k. List (List Marked)) [
-      | Opening ↦ argument_with m (cut_at_outer_commas c (suc n) ts)
-      | Closing ↦ argument_with m (cut_at_outer_commas c (n - 1) ts)
-      | Comma ↦ elim (if n == 0 then c else 0) [
-        | zero ↦ argument_with m (cut_at_outer_commas c n ts)
-        | suc less ↦ [] ∷ cut_at_outer_commas less n ts
-      ]
-      | _ ↦ argument_with m (cut_at_outer_commas c n ts)
-    ]) (mark-comma m.token comma)
-    ∙ here n none c some
+cut-made c n m ts cut = go (mark_of m.token) cut
   where
-    parts : ((nat_lt 0 c && (n == 0)) ≡ true) × (is_comma m.token ≡ true)
-    parts = and_parts (nat_lt 0 c && (n == 0)) (is_comma m.token) cut
-
-    comma : is_comma m.token ≡ true
-    comma = parts.1
-
-    none : (n == 0) ≡ true
-    none = (and_parts (nat_lt 0 c) (n == 0) parts.0).1
-
-    some : 0 < c
-    some = ltb-true 0 c (and_parts (nat_lt 0 c) (n == 0) parts.0).0
-
     here : (n : ℕ) → (n == 0) ≡ true → (c : ℕ) → 0 < c → (elim (if n == 0 then c else 0) as (λ k. List (List Marked)) [
       | zero ↦ argument_with m (cut_at_outer_commas c n ts)
       | suc less ↦ [] ∷ cut_at_outer_commas less n ts
@@ -246,10 +108,28 @@ cut-made c n m ts cut =
     here zero e (suc c) below = let one : suc c - 1 ≡ c = omega arith in rw one refl
     here (suc n) e c below = absurd (not_zero n (eqb-true (suc n) 0 e))
 
-pub cut-goes_on : (c n : ℕ) (m : Marked) (ts : List Marked) → is_cut c n m.token ≡ false →
-    cut_at_outer_commas c n (m ∷ ts) ≡ argument_with m (cut_at_outer_commas c (nesting_after n m.token) ts)
-unfolding cut_at_outer_commas nesting_after
-cut-goes_on c n m ts more = go (mark_of m.token) refl
+    go : (k : Mark) → is_cut c n (mark_in_call k) ≡ true → (elim k as (λ k. List (List Marked)) [
+      | Opening ↦ argument_with m (cut_at_outer_commas c (suc n) ts)
+      | Closing ↦ argument_with m (cut_at_outer_commas c (n - 1) ts)
+      | Comma ↦ elim (if n == 0 then c else 0) [
+        | zero ↦ argument_with m (cut_at_outer_commas c n ts)
+        | suc less ↦ [] ∷ cut_at_outer_commas less n ts
+      ]
+      | _ ↦ argument_with m (cut_at_outer_commas c n ts)
+    ]) ≡ [] ∷ cut_at_outer_commas (c - 1) n ts
+    go Comma e =
+        let both = and_parts (nat_lt 0 c) (n == 0) (and_parts (nat_lt 0 c && (n == 0)) true e).0 in
+        here n both.1 c (ltb-true 0 c both.0)
+    go Opening e = absurd (no_and (nat_lt 0 c && (n == 0)) e)
+    go Closing e = absurd (no_and (nat_lt 0 c && (n == 0)) e)
+    go Hash e = absurd (no_and (nat_lt 0 c && (n == 0)) e)
+    go Pasting e = absurd (no_and (nat_lt 0 c && (n == 0)) e)
+    go NoMark e = absurd (no_and (nat_lt 0 c && (n == 0)) e)
+
+cut-goes_on : (c n : ℕ) (m : Marked) (ts : List Marked) → is_cut c n (call_mark m.token) ≡ false →
+    cut_at_outer_commas c n (m ∷ ts) ≡ argument_with m (cut_at_outer_commas c (nesting_after n (call_mark m.token)) ts)
+unfolding cut_at_outer_commas
+cut-goes_on c n m ts more = go (mark_of m.token) more
   where
     here : (n : ℕ) (c : ℕ) → (nat_lt 0 c && (n == 0)) ≡ false → (elim (if n == 0 then c else 0) as (λ k. List (List Marked)) [
       | zero ↦ argument_with m (cut_at_outer_commas c n ts)
@@ -262,7 +142,7 @@ cut-goes_on c n m ts more = go (mark_of m.token) refl
       | suc less ↦ [] ∷ cut_at_outer_commas less (suc n) ts
     ]) (ne_eqb (suc n) 0 (not_zero n))
 
-    go : (k : Mark) → mark_of m.token ≡ k → (elim k as (λ k. List (List Marked)) [
+    go : (k : Mark) → is_cut c n (mark_in_call k) ≡ false → (elim k as (λ k. List (List Marked)) [
       | Opening ↦ argument_with m (cut_at_outer_commas c (suc n) ts)
       | Closing ↦ argument_with m (cut_at_outer_commas c (n - 1) ts)
       | Comma ↦ elim (if n == 0 then c else 0) [
@@ -270,14 +150,23 @@ cut-goes_on c n m ts more = go (mark_of m.token) refl
         | suc less ↦ [] ∷ cut_at_outer_commas less n ts
       ]
       | _ ↦ argument_with m (cut_at_outer_commas c n ts)
-    ])
-        ≡ argument_with m (cut_at_outer_commas c (elim k [ Opening ↦ suc n | Closing ↦ n - 1 | _ ↦ n ]) ts)
-    go Opening is = refl
-    go Closing is = refl
-    go Comma is = here n c (not_both (nat_lt 0 c && (n == 0)) (is_comma m.token) more (cuts m.token is))
-    go Hash is = refl
-    go Pasting is = refl
-    go NoMark is = refl
+    ]) ≡ argument_with m (cut_at_outer_commas c (nesting_after n (mark_in_call k)) ts)
+    go Opening e = refl
+    go Closing e = refl
+    go Comma e = here n c (and_first (nat_lt 0 c && (n == 0)) e)
+    go Hash e = refl
+    go Pasting e = refl
+    go NoMark e = refl
+
+-- a cut is made outside parentheses
+pub cut-outside : (c n : ℕ) (k : CallMark) → is_cut c n k ≡ true → n ≡ 0
+cut-outside c n k e = eqb-true n 0 (and_parts (nat_lt 0 c) (n == 0) (and_parts (nat_lt 0 c && (n == 0)) _ e).0).1
+
+pub cut-level : (c n : ℕ) (k : CallMark) → is_cut c n k ≡ true → n ≡ nesting_after n k
+cut-level c n Opens e = absurd (no_and (nat_lt 0 c && (n == 0)) e)
+cut-level c n Closes e = absurd (no_and (nat_lt 0 c && (n == 0)) e)
+cut-level c n Parts e = refl
+cut-level c n Plain e = refl
 
 pieces_last : (ts : List Marked) (t : Marked) (args : List (List Marked)) → arguments_with (ts ++ t ∷ []) args ≡ arguments_with ts (argument_with t args)
 pieces_last [] t args = refl
@@ -292,7 +181,7 @@ lists_of-last [] v = refl
 lists_of-last (p ∷ pieces) v = ap (λ (l : List (List Marked)). map marked_of p.items ∷ l) (lists_of-last pieces v)
 
 module _ (pieces : List (Vec Kept Global)) (piece : List Kept) (c n : ℕ) (t : Kept) where
-  pub cut_turn : is_cut c n t.token ≡ true → (pieces' : List (Vec Kept Global)) (v : Vec Kept Global) → pieces' ≡ pieces ++ v ∷ [] → v.items ≡ piece →
+  pub cut_turn : is_cut c n (call_mark t.token) ≡ true → (pieces' : List (Vec Kept Global)) (v : Vec Kept Global) → pieces' ≡ pieces ++ v ∷ [] → v.items ≡ piece →
       (piece' : List Kept) → piece' ≡ [] → (c' n' : ℕ) → c' ≡ c - 1 → n' ≡ n → (ts : List Marked) →
       lists_of pieces ++ arguments_with (map marked_of piece) (cut_at_outer_commas c n (marked_of t ∷ ts))
       ≡ lists_of pieces' ++ arguments_with (map marked_of piece') (cut_at_outer_commas c' n' ts)
@@ -306,50 +195,175 @@ module _ (pieces : List (Vec Kept Global)) (piece : List Kept) (c n : ℕ) (t : 
       ∙ ap (λ k. lists_of pieces' ++ arguments_with (map marked_of piece') (cut_at_outer_commas k n ts)) (sym less)
       ∙ ap (λ k. lists_of pieces' ++ arguments_with (map marked_of piece') (cut_at_outer_commas c' k ts)) (sym level)
 
-  pub grow_turn : is_cut c n t.token ≡ false → (piece' : List Kept) → piece' ≡ piece ++ t ∷ [] → (n' : ℕ) → n' ≡ nesting_after n t.token → (ts : List Marked) →
+  pub grow_turn : is_cut c n (call_mark t.token) ≡ false → (piece' : List Kept) → piece' ≡ piece ++ t ∷ [] → (n' : ℕ) → n' ≡ nesting_after n (call_mark t.token) → (ts : List Marked) →
       lists_of pieces ++ arguments_with (map marked_of piece) (cut_at_outer_commas c n (marked_of t ∷ ts))
       ≡ lists_of pieces ++ arguments_with (map marked_of piece') (cut_at_outer_commas c n' ts)
   grow_turn more piece' pushed n' deep ts =
       ap (λ (l : List (List Marked)). lists_of pieces ++ l)
       (ap (arguments_with (map marked_of piece)) (cut-goes_on c n (marked_of t) ts more)
       ∙ sym (pieces_last (map marked_of piece) (marked_of t) _)
-      ∙ ap (λ (l : List Marked). arguments_with l (cut_at_outer_commas c (nesting_after n t.token) ts)) (sym (ap (map marked_of) pushed ∙ map-append marked_of piece (t ∷ [])))
+      ∙ ap (λ (l : List Marked). arguments_with l (cut_at_outer_commas c (nesting_after n (call_mark t.token)) ts)) (sym (ap (map marked_of) pushed ∙ map-append marked_of piece (t ∷ [])))
       ∙ ap (λ k. arguments_with (map marked_of piece') (cut_at_outer_commas c k ts)) (sym deep))
 
-pub cut_end : (pieces pieces' : List (Vec Kept Global)) (v : Vec Kept Global) (c n : ℕ) (ts : List Marked) → ts ≡ [] → pieces' ≡ pieces ++ v ∷ [] →
-    lists_of pieces' ≡ lists_of pieces ++ arguments_with (map marked_of v.items) (cut_at_outer_commas c n ts)
+pub cut_end : (pieces pieces' : List (Vec Kept Global)) (v : Vec Kept Global) (c n : ℕ) → pieces' ≡ pieces ++ v ∷ [] →
+    lists_of pieces' ≡ lists_of pieces ++ arguments_with (map marked_of v.items) (cut_at_outer_commas c n [])
 unfolding cut_at_outer_commas
-cut_end pieces pieces' v c n ts empty pushed =
+cut_end pieces pieces' v c n pushed =
     ap lists_of pushed ∙ lists_of-last pieces v
     ∙ ap (λ (l : List (List Marked)). lists_of pieces ++ l) (sym (whole_piece (map marked_of v.items) []))
-    ∙ ap (λ (l : List Marked). lists_of pieces ++ arguments_with (map marked_of v.items) (cut_at_outer_commas c n l)) (sym empty)
+
+-- A call that was read in part, and cut.
+
+-- a call that begins at these tokens and was read up to the rest, cut at the first `cuts` commas outside parentheses
+pub record ReadSoFar (cuts : ℕ) (ts : List Marked) (c : Cutting) (rest : List Marked) : Type 0 where
+  pub before : List Marked
+  pub reads : call_in 0 ts ≡ call_with_all before (call_in c.nesting rest)
+  pub cut : (more : List Marked) → cut_at_outer_commas cuts 0 (before ++ more) ≡ cut_from c more
+
+pub read-begun : (cuts : ℕ) (ts : List Marked) (c : Cutting) → c.pieces.items ≡ [] → c.piece.items ≡ [] → c.cuts ≡ cuts → c.nesting ≡ 0 → ReadSoFar cuts ts c ts
+read-begun cuts ts c no_pieces empty all level = record {
+  before = [];
+  reads = ap (λ n. call_in n ts) (sym level);
+  cut = λ more. sym (ap (λ (l : List (Vec Kept Global)). lists_of l ++ arguments_with (map marked_of c.piece.items) (cut_at_outer_commas c.cuts c.nesting more)) no_pieces
+      ∙ ap (λ (l : List Kept). arguments_with (map marked_of l) (cut_at_outer_commas c.cuts c.nesting more)) empty
+      ∙ ap (λ k. cut_at_outer_commas k c.nesting more) all
+      ∙ ap (λ n. cut_at_outer_commas cuts n more) level);
+}
+
+module _ (cuts : ℕ) (ts : List Marked) (c : Cutting) where
+  pub read-goes_on : (t : Kept) (rest : List Marked) → ReadSoFar cuts ts c (marked_of t ∷ rest) → ends_call c.nesting (call_mark t.token) ≡ false → (c' : Cutting) →
+      ((more : List Marked) → cut_from c (marked_of t ∷ more) ≡ cut_from c' more) → c'.nesting ≡ nesting_after c.nesting (call_mark t.token) → ReadSoFar cuts ts c' rest
+  read-goes_on t rest so more c' step deep = record {
+    before = so.before ++ marked_of t ∷ [];
+    reads = so.reads ∙ ap (call_with_all so.before) (call-goes_on c.nesting (marked_of t) rest more)
+        ∙ sym (with_last so.before (marked_of t) _)
+        ∙ ap (λ k. call_with_all (so.before ++ marked_of t ∷ []) (call_in k rest)) (sym deep);
+    cut = λ ms. ap (cut_at_outer_commas cuts 0) (append_assoc so.before (marked_of t ∷ []) ms) ∙ so.cut (marked_of t ∷ ms) ∙ step ms;
+  }
+
+  pub read-ended : (t : Kept) (rest : List Marked) → ReadSoFar cuts ts c (marked_of t ∷ rest) → ends_call c.nesting (call_mark t.token) ≡ true → (call : ReadCall) →
+      lists_of call.written.items ≡ cut_from c [] → call.close ≡ t → CutsCall cuts ts (Some call) rest
+  read-ended t rest so ends call pieces close = (
+    so.before,
+    so.reads ∙ ap (call_with_all so.before) (call-ends c.nesting (marked_of t) rest ends) ∙ all_within so.before (marked_of t) rest
+        ∙ ap (λ (m : Kept). Some (record { within = so.before; close = marked_of m; after = rest })) (sym close),
+    pieces ∙ sym (so.cut []) ∙ ap (cut_at_outer_commas cuts 0) (append-nil so.before),
+  )
+
+  pub read-unended : ReadSoFar cuts ts c [] → call_in 0 ts ≡ None
+  unfolding call_in
+  read-unended so = so.reads ∙ all_unclosed so.before
 
 -- How many arguments there are.
 
-pub counted_right : (n cuts k : ℕ) (within : List Kept) (pieces : List (Vec Kept Global)) → 0 < n → cuts ≡ length within →
-    lists_of pieces ≡ cut_at_outer_commas cuts 0 (map marked_of within) → k ≡ length pieces → k ≡ n →
-    Some (lists_of pieces) ≡ arguments_of n false (map marked_of within)
-unfolding arguments_of
-counted_right zero made k within pieces some all cut are same = absurd (omega arith)
-counted_right (suc n) made k within pieces some all cut are same =
-    sym (cond-true _ _ _ (ap (λ (l : List (List Marked)). length l == suc n) (sym right) ∙ eq-eqb (length (lists_of pieces)) (suc n) (length-map pieces (λ (v : Vec Kept Global). map marked_of v.items) ∙ sym are ∙ same))
-    ∙ ap Some (sym right))
-  where
-    right : lists_of pieces ≡ cut_at_outer_commas (length (map marked_of within)) 0 (map marked_of within)
-    right = cut ∙ ap (λ c. cut_at_outer_commas c 0 (map marked_of within)) (all ∙ sym (length-map within marked_of))
+uncut : (n : ℕ) (ts : List Marked) → cut_at_outer_commas 0 n ts ≡ ts ∷ []
+unfolding cut_at_outer_commas
+uncut n [] = refl
+uncut n (t ∷ ts) = cut-goes_on 0 n t ts refl ∙ ap (argument_with t) (uncut (nesting_after n (call_mark t.token)) ts)
 
-pub counted_wrong : (n cuts k : ℕ) (within : List Kept) (pieces : List (Vec Kept Global)) → 0 < n → cuts ≡ length within →
-    lists_of pieces ≡ cut_at_outer_commas cuts 0 (map marked_of within) → k ≡ length pieces → (k ≡ n → ⊥) →
-    None ≡ arguments_of n false (map marked_of within)
-unfolding arguments_of
-counted_wrong zero made k within pieces some all cut are other = absurd (omega arith)
-counted_wrong (suc n) made k within pieces some all cut are other =
-    sym (cond-false _ _ _ (ap (λ (l : List (List Marked)). length l == suc n) (sym right)
-    ∙ ne_eqb (length (lists_of pieces)) (suc n) (λ same. other (are ∙ sym (length-map pieces (λ (v : Vec Kept Global). map marked_of v.items)) ∙ same))))
-  where
-    right : lists_of pieces ≡ cut_at_outer_commas (length (map marked_of within)) 0 (map marked_of within)
-    right = cut ∙ ap (λ c. cut_at_outer_commas c 0 (map marked_of within)) (all ∙ sym (length-map within marked_of))
+-- where a cut is made, one is made for any number of cuts
+cut-again : (c d n : ℕ) (k : CallMark) → is_cut c n k ≡ true → 0 < d → is_cut d n k ≡ true
+cut-again c d n k e some =
+    let parts = and_parts (nat_lt 0 c && (n == 0)) _ e in
+    and_both (nat_lt 0 d && (n == 0)) _ (and_both (nat_lt 0 d) (n == 0) (lt-ltb 0 d some) (and_parts (nat_lt 0 c) (n == 0) parts.0).1) parts.1
 
-pub nothing_left : (xs : List Kept) (n : ℕ) → n ≡ length xs → n ≡ 0 → xs ≡ []
-nothing_left [] n same none = refl
-nothing_left (x ∷ xs) n same none = absurd (omega arith)
+length-with : (t : Marked) (args : List (List Marked)) (n : ℕ) → length args ≡ suc n → length (argument_with t args) ≡ suc n
+length-with t [] n e = absurd (omega arith)
+length-with t (a ∷ args) n e = e
+
+length-with-more : (t : Marked) (args : List (List Marked)) → length args ≤ length (argument_with t args)
+length-with-more t [] = omega arith
+length-with-more t (a ∷ args) = omega arith
+
+-- with `k` cuts there are the pieces of all cuts, or more than `k` both ways
+abbrev FewOrMany : (m k n : ℕ) → List Marked → Type 0
+FewOrMany m k n ts =
+    (cut_at_outer_commas k n ts ≡ cut_at_outer_commas m n ts)
+    ⊎ ((length (cut_at_outer_commas k n ts) ≡ suc k) × (suc k ≤ length (cut_at_outer_commas m n ts)))
+
+module _ (m k n : ℕ) (t : Marked) (ts : List Marked) where
+  few-cut : is_cut k n (call_mark t.token) ≡ true → is_cut m n (call_mark t.token) ≡ true → 0 < k → FewOrMany (m - 1) (k - 1) n ts → FewOrMany m k n (t ∷ ts)
+  few-cut here all some (inl same) = inl (cut-made k n t ts here ∙ ap (λ (l : List (List Marked)). [] ∷ l) same ∙ sym (cut-made m n t ts all))
+  few-cut here all some (inr (many, more)) =
+      let one : length (cut_at_outer_commas k n (t ∷ ts)) ≡ suc (length (cut_at_outer_commas (k - 1) n ts)) = ap (λ (l : List (List Marked)). length l) (cut-made k n t ts here) in
+      let other : length (cut_at_outer_commas m n (t ∷ ts)) ≡ suc (length (cut_at_outer_commas (m - 1) n ts)) = ap (λ (l : List (List Marked)). length l) (cut-made m n t ts all) in
+      inr (omega arith, omega arith)
+
+  few-on : is_cut k n (call_mark t.token) ≡ false → is_cut m n (call_mark t.token) ≡ false → FewOrMany m k (nesting_after n (call_mark t.token)) ts → FewOrMany m k n (t ∷ ts)
+  few-on here all (inl same) = inl (cut-goes_on k n t ts here ∙ ap (argument_with t) same ∙ sym (cut-goes_on m n t ts all))
+  few-on here all (inr (many, more)) =
+      let deep = nesting_after n (call_mark t.token) in
+      let one : length (cut_at_outer_commas k n (t ∷ ts)) ≡ suc k =
+      ap (λ (l : List (List Marked)). length l) (cut-goes_on k n t ts here) ∙ length-with t (cut_at_outer_commas k deep ts) k many in
+      let other : length (cut_at_outer_commas m n (t ∷ ts)) ≡ length (argument_with t (cut_at_outer_commas m deep ts)) =
+      ap (λ (l : List (List Marked)). length l) (cut-goes_on m n t ts all) in
+      let longer : length (cut_at_outer_commas m deep ts) ≤ length (argument_with t (cut_at_outer_commas m deep ts)) = length-with-more t (cut_at_outer_commas m deep ts) in
+      inr (one, omega arith)
+
+  few-none : k ≡ 0 → is_cut m n (call_mark t.token) ≡ true → FewOrMany m k n (t ∷ ts)
+  few-none none all =
+      let one : length (cut_at_outer_commas k n (t ∷ ts)) ≡ 1 = ap (λ c. length (cut_at_outer_commas c n (t ∷ ts))) none ∙ ap (λ (l : List (List Marked)). length l) (uncut n (t ∷ ts)) in
+      let other : length (cut_at_outer_commas m n (t ∷ ts)) ≡ suc (length (cut_at_outer_commas (m - 1) n ts)) = ap (λ (l : List (List Marked)). length l) (cut-made m n t ts all) in
+      inr (omega arith, omega arith)
+
+  few-step : 0 < m → FewOrMany (m - 1) (k - 1) n ts → FewOrMany m k (nesting_after n (call_mark t.token)) ts →
+      (here all : Bool) → is_cut k n (call_mark t.token) ≡ here → is_cut m n (call_mark t.token) ≡ all → FewOrMany m k n (t ∷ ts)
+  few-step some less on true true here all = few-cut here all (ltb-true 0 k (and_parts (nat_lt 0 k) (n == 0) (and_parts (nat_lt 0 k && (n == 0)) _ here).0).0) less
+  few-step some less on false false here all = few-on here all on
+  few-step some less on true false here all = absurd (false≢true (sym all ∙ cut-again k m n (call_mark t.token) here some))
+  few-step some less on false true here all = few-none (none k here) all
+    where
+      none : (j : ℕ) → is_cut j n (call_mark t.token) ≡ false → j ≡ 0
+      none zero e = refl
+      none (suc j) e = absurd (false≢true (sym e ∙ cut-again m (suc j) n (call_mark t.token) all (omega arith)))
+
+few_or_many : (ts : List Marked) (m k n : ℕ) → length ts ≤ m → FewOrMany m k n ts
+unfolding cut_at_outer_commas
+few_or_many [] m k n below = inl refl
+few_or_many (t ∷ ts) m k n below =
+    let shorter : length ts ≤ m - 1 = omega arith in
+    let some : 0 < m = omega arith in
+    let within : length ts ≤ m = omega arith in
+    few-step m k n t ts some (few_or_many ts (m - 1) (k - 1) n shorter) (few_or_many ts m k (nesting_after n (call_mark t.token)) within)
+    (is_cut k n (call_mark t.token)) (is_cut m n (call_mark t.token)) refl refl
+
+counted : (count : ℕ) (few all : List (List Marked)) → (few ≡ all) ⊎ ((length few ≡ suc (suc count)) × (suc (suc count) ≤ length all)) →
+    ◌≡◌ {A = Option (List (List Marked))} (if length all == suc count then Some all else None) (if length few == suc count then Some few else None)
+counted count few all (inl same) = ap (λ (l : List (List Marked)). if length l == suc count then Some l else None) (sym same)
+counted count few all (inr (many, more)) =
+    cond-false _ _ _ (ne_eqb (length all) (suc count) (λ same. omega arith))
+    ∙ sym (cond-false _ _ _ (ne_eqb (length few) (suc count) (λ same. omega arith)))
+
+arguments-cut : (count : ℕ) (variadic : Bool) (within : List Marked) →
+    arguments_of count variadic within ≡ arguments_cut count variadic (cut_at_outer_commas (cuts_for count variadic) 0 within)
+unfolding arguments_of
+arguments-cut count true within = refl
+arguments-cut zero false within =
+    sym (ap (λ (l : List (List Marked)). elim (argument_at 0 l) as (λ x. Option (List (List Marked))) [ [] ↦ Some [] | t ∷ ts ↦ None ]) (uncut 0 within))
+arguments-cut (suc count) false within =
+    counted count (cut_at_outer_commas (suc count) 0 within) (cut_at_outer_commas (length within) 0 within)
+    (few_or_many within (length within) (suc count) 0 (omega arith))
+
+-- A call whose pieces are taken for its arguments.
+
+module _ (count : ℕ) (variadic : Bool) (ts after : List Marked) (call : ReadCall) (cuts : CutsCall (cuts_for count variadic) ts (Some call) after) where
+  given : (result : Option (List (List Marked))) → arguments_cut count variadic (lists_of call.written.items) ≡ result → arguments_of count variadic cuts.0 ≡ result
+  given result is = arguments-cut count variadic cuts.0 ∙ ap (arguments_cut count variadic) (sym cuts.2) ∙ is
+
+  pub call_read : (r : Result ReadCall RunError) → IfOk r (λ r. arguments_cut count variadic (lists_of call.written.items) ≡ Some (lists_of r.written.items)) →
+      IfOk r (λ r. r.close ≡ call.close) → IfOk r (λ r. ReadsCall count variadic ts (lists_of r.written.items) (marked_of r.close) after)
+  call_read (Ok r) counts close = record {
+    within = cuts.0;
+    read = cuts.1 ∙ ap (λ (m : Kept). Some (record { within = cuts.0; close = marked_of m; after = after })) (sym close);
+    counted = given (Some (lists_of r.written.items)) counts;
+  }
+  call_read (Err e) counts close = counts
+
+  pub call_refused : (t : Kept) (r : Result ReadCall RunError) →
+      IfErr r (λ e. (e ≡ Memory) ⊎ ((e ≡ Count t.token.text t.token.line) × (arguments_cut count variadic (lists_of call.written.items) ≡ None))) →
+      IfErr r (λ e. RefusesCall e t count variadic ts)
+  call_refused t (Ok r) why = why
+  call_refused t (Err e) (inl memory) = subst (λ e. RefusesCall e t count variadic ts) (sym memory) tt
+  call_refused t (Err e) (inr (is, none)) =
+      subst (λ e. RefusesCall e t count variadic ts) (sym is)
+      (refl, refl, (record { within = cuts.0; close = marked_of call.close; after = after }, cuts.1, given None none))

@@ -1,7 +1,8 @@
 -- How the tokens of a replacement are put in.
-use Rattle.std.proofs.Common.{◌≡◌, ℕ, ◌+◌, ◌<◌, ◌||◌, List, [], ◌∷◌, ◌++◌, map, length, get_or, take, drop, suc, add-one, drop-cons, arith, ap, sym, ◌∙◌, subst}
+use Rattle.std.proofs.Common.{◌≡◌, ℕ, ◌+◌, ◌<◌, ◌≤◌, ◌||◌, List, [], ◌∷◌, ◌++◌, map, length, get_or, take, drop, suc, add-one, drop-cons, arith, ap, sym, ◌∙◌, subst}
 use Rattle.std.proofs.Math.ListN.{set, length-set}
-use Rattle.std.proofs.lemmas.List.{map-append, take_more, take_more_set, drop-set-lt}
+use Rattle.std.proofs.Math.Seq.{take-append_seam}
+use Rattle.std.proofs.lemmas.List.{map-append, take_all, take_more, take_more_set, drop-set-lt}
 use mathlib.Core.Path.{fun_ext}
 use Rattle.macro_expand.specs.Replacement.{Marked, Names}
 use Rattle.macro_expand.specs.Sets.{names_in}
@@ -42,6 +43,16 @@ module _ {A B : Type 0} (see : A → B) (place : B → B) (xs ys : List A) (i : 
           let a : drop i xs ≡ get_or xs i x' ∷ drop (i + 1) xs = rw add-one (drop-cons xs i x' below) in
           let b : drop i ys ≡ get_or ys i x' ∷ drop (i + 1) ys = rw add-one (drop-cons ys i x' (subst (λ n. i < n) same below)) in
           cc
+
+  -- where the loop has come to the end
+  pub place-all : (made : List A) (n : ℕ) → length xs ≡ length ys → length ys ≤ i → ys ≡ made → length ys ≡ n →
+      map see (take i xs) ≡ map place (map see (take i ys)) → map see (take n (xs ++ drop (length xs) made)) ≡ map place (map see made)
+  place-all made n same ends is all done =
+      ap (λ k. map see (take k (xs ++ drop (length xs) made))) (sym (same ∙ all))
+      ∙ ap (map see) (take-append_seam xs (drop (length xs) made))
+      ∙ ap (map see) (sym (take_all i xs (subst (λ k. k ≤ i) (sym same) ends)))
+      ∙ done
+      ∙ ap (λ l. map place (map see l)) (take_all i ys ends ∙ is)
 
 pub place-same : {A : Type 0} (xs ys : List A) (i : ℕ) (x : A) → length xs ≡ length ys → length (set xs i x) ≡ length ys
 place-same xs ys i x same = length-set xs i x ∙ same

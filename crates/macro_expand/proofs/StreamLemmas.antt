@@ -13,7 +13,7 @@ use Rattle.macro_expand.specs.Replacement.{Marked}
 use Rattle.macro_expand.specs.Expansion.{Expanded, Table, Place, expanded_by}
 use Rattle.macro_expand.specs.Answered.{after_result, answered_and_then, before, expanded_for, table_answerer}
 use Rattle.macro_defs.specs.Table.{TableEntries, lookup}
-use Rattle.macro_expand.specs.Seen.{marked_of, kept_plain, kept_token, place_of, GivesTokens, StepKeepsResult, Stops, ReportsResult}
+use Rattle.macro_expand.specs.Seen.{marked_of, kept_token, place_of, GivesTokens, StepKeepsResult, Stops, ReportsResult}
 use Rattle.macro_expand.specs.Stream.{Given, Stream, given, given_before, to_come, GivesNext}
 use Rattle.macro_expand.specs.parts.Steps.{StaysAsItIs, TakesUntouched, Becomes}
 use Rattle.macro_expand.proofs.AnsweredLaws.{lifted, before-nothing, expanded_for-nil, expanded_for-ordinary, expanded_for-undefined}

@@ -4,7 +4,7 @@ use Rattle.std.proofs.lemmas.Bool.{and_parts, and_from, or_cases, both_ways, fal
 use Rattle.std.proofs.lemmas.List.Folds.{list_any-append}
 use Rattle.std.proofs.lemmas.Slice.Eq.{bytes_eq-Decides}
 use Rattle.macro_expand.specs.Sets.{names_in}
-use Rattle.macro_expand.specs.parts.Tries.{name_hash, Tree, Tip, Branch, trie_names, have_bit, next_key, stand_by_keys, hashed, IsOrdered, is_same_name, found, with_leaf, with_new, with_all, with_common, with_all_common, has_all, is_same, stands_in}
+use Rattle.macro_expand.specs.parts.Tries.{name_hash, Tree, Tip, Linked, Branch, trie_names, have_bit, next_key, stand_by_keys, hashed, IsOrdered, is_same_name, found, with_leaf, gathered, has_more_in_front, with_room, with_front, with_new, with_all, with_common, with_all_common, has_all, is_same, stands_at, stands_behind, stands_in}
 
 names_in-append : (a b : List (List ℕ)) (n : List ℕ) → names_in (a ++ b) n ≡ (names_in a n || names_in b n)
 names_in-append a b n = list_any-append (bytes_eq n) a b
@@ -46,6 +46,9 @@ head_is name n h is = go (bytes_eq name n) refl
 found-at : (t : Tree) (key : List ℕ → ℕ) (name : List ℕ) → hashed t ≡ true → stand_by_keys key t ≡ true →
     found name (name_hash name) (key name) t ≡ names_in (trie_names t) name
 found-at Tip key name whole ok = refl
+found-at (Linked n h t) key name whole ok =
+    ap (λ b. b || found name (name_hash name) (key name) t) (head_is name n h (and_parts (h == name_hash n) (hashed t) whole).0)
+    ∙ ap (λ b. bytes_eq name n || b) (found-at t key name (and_parts (h == name_hash n) (hashed t) whole).1 ok)
 found-at (Branch n h z o) key name whole ok =
     ap (λ b. b || (if key name % 2 == 0 then found name (name_hash name) (key name / 2) z else found name (name_hash name) (key name / 2) o)) (head_is name n h own.0)
     ∙ ap (λ b. bytes_eq name n || b)
@@ -93,9 +96,16 @@ in_one false true true o = refl
 in_one false true false o = refl
 in_one false false z o = refl
 
+behind_one : (m x r : Bool) → (m || (x || r)) ≡ (x || (m || r))
+behind_one true true r = refl
+behind_one true false r = refl
+behind_one false x r = refl
+
 pub with_leaf-names : (t : Tree) (name : List ℕ) (hash key : ℕ) (n : List ℕ) →
     names_in (trie_names (with_leaf name hash key t)) n ≡ (bytes_eq n name || names_in (trie_names t) n)
 with_leaf-names Tip name hash key n = refl
+with_leaf-names (Linked m h t) name hash key n =
+    ap (λ b. bytes_eq n m || b) (with_leaf-names t name hash key n) ∙ behind_one (bytes_eq n m) (bytes_eq n name) (names_in (trie_names t) n)
 with_leaf-names (Branch m h z o) name hash key n = go (is_same_name name hash m h) refl (key % 2 == 0)
     (with_leaf-names z name hash (key / 2) n) (with_leaf-names o name hash (key / 2) n)
   where
@@ -130,6 +140,9 @@ have_bit-append key bit (x ∷ a) b =
 with_leaf-have_bit : (t : Tree) (key : List ℕ → ℕ) (bit : ℕ) (name : List ℕ) (hash k : ℕ) → (key name % 2 == bit) ≡ true → have_bit key bit (trie_names t) ≡ true →
     have_bit key bit (trie_names (with_leaf name hash k t)) ≡ true
 with_leaf-have_bit Tip key bit name hash k is all = and_from (key name % 2 == bit) true is refl
+with_leaf-have_bit (Linked m h t) key bit name hash k is all =
+    and_from (key m % 2 == bit) (have_bit key bit (trie_names (with_leaf name hash k t))) (and_parts (key m % 2 == bit) (have_bit key bit (trie_names t)) all).0
+    (with_leaf-have_bit t key bit name hash k is (and_parts (key m % 2 == bit) (have_bit key bit (trie_names t)) all).1)
 with_leaf-have_bit (Branch m h z o) key bit name hash k is all = go (is_same_name name hash m h) (k % 2 == 0)
     (with_leaf-have_bit z key bit name hash (k / 2) is sides.0) (with_leaf-have_bit o key bit name hash (k / 2) is sides.1)
   where
@@ -155,6 +168,7 @@ the_other_bit n is = let no : n % 2 ≡ 0 → ⊥ = eqb-false (n % 2) 0 is in eq
 
 pub with_leaf-placed : (t : Tree) (key : List ℕ → ℕ) (name : List ℕ) (hash : ℕ) → stand_by_keys key t ≡ true → stand_by_keys key (with_leaf name hash (key name) t) ≡ true
 with_leaf-placed Tip key name hash ok = refl
+with_leaf-placed (Linked m h t) key name hash ok = with_leaf-placed t key name hash ok
 with_leaf-placed (Branch m h z o) key name hash ok = go (is_same_name name hash m h) (key name % 2 == 0) refl
     (with_leaf-placed z (next_key key) name hash left.1) (with_leaf-placed o (next_key key) name hash right.1)
   where
@@ -181,6 +195,9 @@ with_leaf-placed (Branch m h z o) key name hash ok = go (is_same_name name hash 
 
 pub with_leaf-hashed : (t : Tree) (name : List ℕ) (hash k : ℕ) → hash ≡ name_hash name → hashed t ≡ true → hashed (with_leaf name hash k t) ≡ true
 with_leaf-hashed Tip name hash k is whole = and_from (hash == name_hash name) true (eq-eqb hash (name_hash name) is) refl
+with_leaf-hashed (Linked m h t) name hash k is whole =
+    and_from (h == name_hash m) (hashed (with_leaf name hash k t)) (and_parts (h == name_hash m) (hashed t) whole).0
+    (with_leaf-hashed t name hash k is (and_parts (h == name_hash m) (hashed t) whole).1)
 with_leaf-hashed (Branch m h z o) name hash k is whole = go (is_same_name name hash m h) (k % 2 == 0)
     (with_leaf-hashed z name hash (k / 2) is below.0) (with_leaf-hashed o name hash (k / 2) is below.1)
   where
@@ -206,6 +223,61 @@ with_leaf-ordered t name hash is ok = record {
   with_hash = with_leaf-hashed t name hash hash is ok.with_hash;
 }
 
+-- The hash of the first name, and what the others have.
+
+hash_first : (m : List ℕ) (h : ℕ) (z o : Tree) → hashed (Branch m h z o) ≡ true → h ≡ name_hash m
+hash_first m h z o whole = eqb-true h (name_hash m) (and_parts (h == name_hash m) (hashed z && hashed o) whole).0
+
+hash_rest : (m : List ℕ) (h : ℕ) (z o : Tree) → hashed (Branch m h z o) ≡ true → (hashed z ≡ true) × (hashed o ≡ true)
+hash_rest m h z o whole = and_parts (hashed z) (hashed o) (and_parts (h == name_hash m) (hashed z && hashed o) whole).1
+
+hash_front : (m : List ℕ) (h : ℕ) (t : Tree) → hashed (Linked m h t) ≡ true → h ≡ name_hash m
+hash_front m h t whole = eqb-true h (name_hash m) (and_parts (h == name_hash m) (hashed t) whole).0
+
+hash_older : (m : List ℕ) (h : ℕ) (t : Tree) → hashed (Linked m h t) ≡ true → hashed t ≡ true
+hash_older m h t whole = (and_parts (h == name_hash m) (hashed t) whole).1
+
+older_ordered : (m : List ℕ) (h : ℕ) (t : Tree) → IsOrdered (Linked m h t) → IsOrdered t
+older_ordered m h t ok = record { at_bits = ok.at_bits; with_hash = hash_older m h t ok.with_hash }
+
+-- One more name in front.
+
+gathered-names : (t : Tree) (n : List ℕ) → names_in (trie_names (gathered t)) n ≡ names_in (trie_names t) n
+gathered-names Tip n = refl
+gathered-names (Linked m h t) n = with_leaf-names (gathered t) m h h n ∙ ap (λ b. bytes_eq n m || b) (gathered-names t n)
+gathered-names (Branch m h z o) n = refl
+
+gathered-ordered : (t : Tree) → IsOrdered t → IsOrdered (gathered t)
+gathered-ordered Tip ok = ok
+gathered-ordered (Linked m h t) ok =
+    with_leaf-ordered (gathered t) m h (hash_front m h t ok.with_hash)
+    (gathered-ordered t (older_ordered m h t ok))
+gathered-ordered (Branch m h z o) ok = ok
+
+with_room-names : (t : Tree) (n : List ℕ) → names_in (trie_names (with_room t)) n ≡ names_in (trie_names t) n
+with_room-names t n = go (has_more_in_front 15 t)
+  where
+    go : (full : Bool) → names_in (trie_names (if full then gathered t else t)) n ≡ names_in (trie_names t) n
+    go true = gathered-names t n
+    go false = refl
+
+with_room-ordered : (t : Tree) → IsOrdered t → IsOrdered (with_room t)
+with_room-ordered t ok = go (has_more_in_front 15 t)
+  where
+    go : (full : Bool) → IsOrdered (if full then gathered t else t)
+    go true = gathered-ordered t ok
+    go false = ok
+
+with_front-names : (t : Tree) (name : List ℕ) (hash : ℕ) (n : List ℕ) →
+    names_in (trie_names (with_front name hash t)) n ≡ (bytes_eq n name || names_in (trie_names t) n)
+with_front-names t name hash n = ap (λ b. bytes_eq n name || b) (with_room-names t n)
+
+with_front-ordered : (t : Tree) (name : List ℕ) (hash : ℕ) → hash ≡ name_hash name → IsOrdered t → IsOrdered (with_front name hash t)
+with_front-ordered t name hash is ok = record {
+  at_bits = (with_room-ordered t ok).at_bits;
+  with_hash = and_from (hash == name_hash name) (hashed (with_room t)) (eq-eqb hash (name_hash name) is) (with_room-ordered t ok).with_hash;
+}
+
 -- A name that may be there.
 
 found-with : (t : Tree) (name : List ℕ) (hash : ℕ) → hash ≡ name_hash name → IsOrdered t → found name hash hash t ≡ names_in (trie_names t) name
@@ -223,26 +295,20 @@ with_new-names : (t : Tree) (name : List ℕ) (hash : ℕ) (n : List ℕ) → ha
 with_new-names t name hash n own ok = go (found name hash hash t) refl
   where
     go : (is : Bool) → found name hash hash t ≡ is →
-        names_in (trie_names (if is then t else with_leaf name hash hash t)) n ≡ (bytes_eq n name || names_in (trie_names t) n)
+        names_in (trie_names (if is then t else with_front name hash t)) n ≡ (bytes_eq n name || names_in (trie_names t) n)
     go true is = there t name n (sym (found-with t name hash own ok) ∙ is)
-    go false is = with_leaf-names t name hash hash n
+    go false is = with_front-names t name hash n
 
 with_new-ordered : (t : Tree) (name : List ℕ) (hash : ℕ) → hash ≡ name_hash name → IsOrdered t → IsOrdered (with_new name hash t)
 with_new-ordered t name hash own ok = go (found name hash hash t)
   where
-    go : (is : Bool) → IsOrdered (if is then t else with_leaf name hash hash t)
+    go : (is : Bool) → IsOrdered (if is then t else with_front name hash t)
     go true = ok
-    go false = with_leaf-ordered t name hash own ok
-
--- the hash of the first name, and what the others have
-hash_first : (m : List ℕ) (h : ℕ) (z o : Tree) → hashed (Branch m h z o) ≡ true → h ≡ name_hash m
-hash_first m h z o whole = eqb-true h (name_hash m) (and_parts (h == name_hash m) (hashed z && hashed o) whole).0
-
-hash_rest : (m : List ℕ) (h : ℕ) (z o : Tree) → hashed (Branch m h z o) ≡ true → (hashed z ≡ true) × (hashed o ≡ true)
-hash_rest m h z o whole = and_parts (hashed z) (hashed o) (and_parts (h == name_hash m) (hashed z && hashed o) whole).1
+    go false = with_front-ordered t name hash own ok
 
 pub with_all-ordered : (s t : Tree) → hashed s ≡ true → IsOrdered t → IsOrdered (with_all s t)
 with_all-ordered Tip t whole ok = ok
+with_all-ordered (Linked m h s) t whole ok = with_new-ordered (with_all s t) m h (hash_front m h s whole) (with_all-ordered s t (hash_older m h s whole) ok)
 with_all-ordered (Branch m h z o) t whole ok =
     with_all-ordered o (with_all z (with_new m h t)) (hash_rest m h z o whole).1
     (with_all-ordered z (with_new m h t) (hash_rest m h z o whole).0 (with_new-ordered t m h (hash_first m h z o whole) ok))
@@ -250,6 +316,14 @@ with_all-ordered (Branch m h z o) t whole ok =
 pub with_all-names : (s t : Tree) → hashed s ≡ true → IsOrdered t → (n : List ℕ) →
     names_in (trie_names (with_all s t)) n ≡ (names_in (trie_names s) n || names_in (trie_names t) n)
 with_all-names Tip t whole ok n = refl
+with_all-names (Linked m h s) t whole ok n =
+    with_new-names (with_all s t) m h n (hash_front m h s whole) (with_all-ordered s t (hash_older m h s whole) ok)
+    ∙ ap (λ b. bytes_eq n m || b) (with_all-names s t (hash_older m h s whole) ok n)
+    ∙ join (bytes_eq n m) (names_in (trie_names s) n) (names_in (trie_names t) n)
+  where
+    join : (m s t : Bool) → (m || (s || t)) ≡ ((m || s) || t)
+    join true s t = refl
+    join false s t = refl
 with_all-names (Branch m h z o) t whole ok n =
     with_all-names o (with_all z (with_new m h t)) rest.1 (with_all-ordered z (with_new m h t) rest.0 next) n
     ∙ ap (λ b. names_in (trie_names o) n || b)
@@ -291,8 +365,8 @@ with_common-names other t name hash n own ok = go (found name hash hash other) (
     not_there false here r h = refl
 
     go : (is : Bool) → is ≡ names_in (trie_names other) name →
-        names_in (trie_names (if is then with_leaf name hash hash t else t)) n ≡ ((bytes_eq n name && names_in (trie_names other) n) || names_in (trie_names t) n)
-    go true is = with_leaf-names t name hash hash n
+        names_in (trie_names (if is then with_front name hash t else t)) n ≡ ((bytes_eq n name && names_in (trie_names other) n) || names_in (trie_names t) n)
+    go true is = with_front-names t name hash n
         ∙ yes_there (bytes_eq n name) (names_in (trie_names other) n) (names_in (trie_names t) n)
         (λ same. ap (names_in (trie_names other)) (same_name n name same) ∙ sym is)
     go false is = not_there (bytes_eq n name) (names_in (trie_names other) n) (names_in (trie_names t) n)
@@ -301,12 +375,14 @@ with_common-names other t name hash n own ok = go (found name hash hash other) (
 with_common-ordered : (other t : Tree) (name : List ℕ) (hash : ℕ) → hash ≡ name_hash name → IsOrdered t → IsOrdered (with_common name hash other t)
 with_common-ordered other t name hash own ok = go (found name hash hash other)
   where
-    go : (is : Bool) → IsOrdered (if is then with_leaf name hash hash t else t)
-    go true = with_leaf-ordered t name hash own ok
+    go : (is : Bool) → IsOrdered (if is then with_front name hash t else t)
+    go true = with_front-ordered t name hash own ok
     go false = ok
 
 pub with_all_common-ordered : (s other t : Tree) → hashed s ≡ true → IsOrdered t → IsOrdered (with_all_common s other t)
 with_all_common-ordered Tip other t whole ok = ok
+with_all_common-ordered (Linked m h s) other t whole ok =
+    with_common-ordered other (with_all_common s other t) m h (hash_front m h s whole) (with_all_common-ordered s other t (hash_older m h s whole) ok)
 with_all_common-ordered (Branch m h z o) other t whole ok =
     with_all_common-ordered o other (with_all_common z other (with_common m h other t)) (hash_rest m h z o whole).1
     (with_all_common-ordered z other (with_common m h other t) (hash_rest m h z o whole).0 (with_common-ordered other t m h (hash_first m h z o whole) ok))
@@ -314,6 +390,17 @@ with_all_common-ordered (Branch m h z o) other t whole ok =
 pub with_all_common-names : (s other t : Tree) → hashed s ≡ true → IsOrdered other → (n : List ℕ) →
     names_in (trie_names (with_all_common s other t)) n ≡ ((names_in (trie_names s) n && names_in (trie_names other) n) || names_in (trie_names t) n)
 with_all_common-names Tip other t whole ok n = refl
+with_all_common-names (Linked m h s) other t whole ok n =
+    with_common-names other (with_all_common s other t) m h n (hash_front m h s whole) ok
+    ∙ ap (λ b. (bytes_eq n m && names_in (trie_names other) n) || b) (with_all_common-names s other t (hash_older m h s whole) ok n)
+    ∙ join (bytes_eq n m) (names_in (trie_names s) n) (names_in (trie_names other) n) (names_in (trie_names t) n)
+  where
+    join : (m s h t : Bool) → ((m && h) || ((s && h) || t)) ≡ (((m || s) && h) || t)
+    join true true true t = refl
+    join true true false t = refl
+    join true false true t = refl
+    join true false false t = refl
+    join false s h t = refl
 with_all_common-names (Branch m h z o) other t whole ok n =
     with_all_common-names o other (with_all_common z other (with_common m h other t)) (hash_rest m h z o whole).1 ok n
     ∙ ap (λ b. (names_in (trie_names o) n && names_in (trie_names other) n) || b)
@@ -350,6 +437,12 @@ has_all-names s other whole ok all n = go (names_in (trie_names s) n) (names_in 
 
     inside : (s : Tree) → hashed s ≡ true → has_all s other ≡ true → names_in (trie_names s) n ≡ true → names_in (trie_names other) n ≡ true
     inside Tip whole all is = absurd (both_ways false refl is)
+    inside (Linked m h s) whole all is =
+        elim (or_cases (bytes_eq n m) (names_in (trie_names s) n) is) [
+          | inl same ↦ ap (names_in (trie_names other)) (same_name n m same) ∙ sym (found-with other m h (hash_front m h s whole) ok)
+              ∙ (and_parts (found m h h other) (has_all s other) all).0
+          | inr rest ↦ inside s (hash_older m h s whole) (and_parts (found m h h other) (has_all s other) all).1 rest
+        ]
     inside (Branch m h z o) whole all is =
         elim (or_cases (bytes_eq n m) (names_in (trie_names z ++ trie_names o) n) is) [
           | inl same ↦ ap (names_in (trie_names other)) (same_name n m same) ∙ sym (found-with other m h (hash_first m h z o whole) ok)
@@ -362,8 +455,15 @@ has_all-names s other whole ok all n = go (names_in (trie_names s) n) (names_in 
 
 pub is_same-names : (s t : Tree) → is_same s t ≡ true → trie_names s ≡ trie_names t
 is_same-names Tip Tip is = refl
+is_same-names Tip (Linked n h t) is = absurd (both_ways false refl is)
 is_same-names Tip (Branch n h z o) is = absurd (both_ways false refl is)
+is_same-names (Linked n h s) Tip is = absurd (both_ways false refl is)
+is_same-names (Linked n h s) (Linked m k t) is =
+    ap (λ (x : List ℕ). x ∷ trie_names s) (same_name n m (and_parts (h == k) (bytes_eq n m) (and_parts (is_same_name n h m k) (is_same s t) is).0).1)
+    ∙ ap (λ (l : List (List ℕ)). m ∷ l) (is_same-names s t (and_parts (is_same_name n h m k) (is_same s t) is).1)
+is_same-names (Linked n h s) (Branch m k y p) is = absurd (both_ways false refl is)
 is_same-names (Branch n h z o) Tip is = absurd (both_ways false refl is)
+is_same-names (Branch n h z o) (Linked m k t) is = absurd (both_ways false refl is)
 is_same-names (Branch n h z o) (Branch m k y p) is =
     ap (λ (x : List ℕ). x ∷ trie_names z ++ trie_names o) (same_name n m (and_parts (h == k) (bytes_eq n m) (and_parts (is_same_name n h m k) (is_same z y) first.0).0).1)
     ∙ ap (λ (l : List (List ℕ)). m ∷ l ++ trie_names o) (is_same-names z y (and_parts (is_same_name n h m k) (is_same z y) first.0).1)
@@ -372,21 +472,27 @@ is_same-names (Branch n h z o) (Branch m k y p) is =
     first : ((is_same_name n h m k && is_same z y) ≡ true) × (is_same o p ≡ true)
     first = and_parts (is_same_name n h m k && is_same z y) (is_same o p) is
 
-stands_in-names : (s t : Tree) (n : List ℕ) → stands_in s t ≡ true → names_in (trie_names s) n ≡ true → names_in (trie_names t) n ≡ true
-stands_in-names Tip t n all is = absurd (both_ways false refl is)
-stands_in-names (Branch m h z o) Tip n all is = absurd (both_ways false refl all)
-stands_in-names (Branch m h z o) (Branch k j y p) n all is =
+or_right : (a b : Bool) → b ≡ true → (a || b) ≡ true
+or_right true b is = refl
+or_right false b is = is
+
+stands_at-names : (s t : Tree) (n : List ℕ) → stands_at s t ≡ true → names_in (trie_names s) n ≡ true → names_in (trie_names t) n ≡ true
+stands_at-names Tip t n all is = absurd (both_ways false refl is)
+stands_at-names (Linked m h s) t n all is = absurd (both_ways false refl all)
+stands_at-names (Branch m h z o) Tip n all is = absurd (both_ways false refl all)
+stands_at-names (Branch m h z o) (Linked k j t) n all is = absurd (both_ways false refl all)
+stands_at-names (Branch m h z o) (Branch k j y p) n all is =
     ap (λ b. b || names_in (trie_names y ++ trie_names p) n) (sym (ap (bytes_eq n) same))
     ∙ ap (λ b. bytes_eq n m || b) (names_in-append (trie_names y) (trie_names p) n)
     ∙ go (bytes_eq n m) (names_in (trie_names z) n) (names_in (trie_names o) n) (names_in (trie_names y) n) (names_in (trie_names p) n)
-    (stands_in-names z y n (and_parts (is_same_name m h k j) (stands_in z y) first.0).1) (stands_in-names o p n first.1)
+    (stands_at-names z y n (and_parts (is_same_name m h k j) (stands_at z y) first.0).1) (stands_at-names o p n first.1)
     (ap (λ b. bytes_eq n m || b) (sym (names_in-append (trie_names z) (trie_names o) n)) ∙ is)
   where
-    first : ((is_same_name m h k j && stands_in z y) ≡ true) × (stands_in o p ≡ true)
-    first = and_parts (is_same_name m h k j && stands_in z y) (stands_in o p) all
+    first : ((is_same_name m h k j && stands_at z y) ≡ true) × (stands_at o p ≡ true)
+    first = and_parts (is_same_name m h k j && stands_at z y) (stands_at o p) all
 
     same : m ≡ k
-    same = same_name m k (and_parts (h == j) (bytes_eq m k) (and_parts (is_same_name m h k j) (stands_in z y) first.0).0).1
+    same = same_name m k (and_parts (h == j) (bytes_eq m k) (and_parts (is_same_name m h k j) (stands_at z y) first.0).0).1
 
     go : (b z o y p : Bool) → (z ≡ true → y ≡ true) → (o ≡ true → p ≡ true) → (b || (z || o)) ≡ true → (b || (y || p)) ≡ true
     go true z o y p l r is = refl
@@ -395,6 +501,38 @@ stands_in-names (Branch m h z o) (Branch k j y p) n all is =
     go false false true false p l r is = r refl
     go false false false y p l r is = absurd (both_ways false refl is)
 
+stands_behind-names : (s t : Tree) (n : List ℕ) → hashed s ≡ true → IsOrdered t → stands_behind s t ≡ true →
+    names_in (trie_names s) n ≡ true → names_in (trie_names t) n ≡ true
+stands_behind-names Tip t n whole ok all is = absurd (both_ways false refl is)
+stands_behind-names (Linked m h s) t n whole ok all is =
+    elim (or_cases (bytes_eq n m) (names_in (trie_names s) n) is) [
+      | inl same ↦ ap (names_in (trie_names t)) (same_name n m same) ∙ sym (found-with t m h (hash_front m h s whole) ok)
+          ∙ (and_parts (found m h h t) (stands_behind s t) all).0
+      | inr rest ↦ stands_behind-names s t n (hash_older m h s whole) ok (and_parts (found m h h t) (stands_behind s t) all).1 rest
+    ]
+stands_behind-names (Branch m h z o) t n whole ok all is = stands_at-names (Branch m h z o) t n all is
+
+stands_in-names : (s t : Tree) (n : List ℕ) → hashed s ≡ true → IsOrdered t → stands_in s t ≡ true →
+    names_in (trie_names s) n ≡ true → names_in (trie_names t) n ≡ true
+stands_in-names s Tip n whole ok all is = stands_behind-names s Tip n whole ok all is
+stands_in-names Tip (Linked k j t) n whole ok all is = absurd (both_ways false refl is)
+stands_in-names (Linked m h s) (Linked k j t) n whole ok all is =
+    go (is_same_name m h k j) refl all (λ a b. stands_in-names s t n (hash_older m h s whole) (older_ordered k j t ok) a b)
+    (λ a. stands_in-names (Linked m h s) t n whole (older_ordered k j t ok) a is)
+  where
+    go : (same : Bool) → is_same_name m h k j ≡ same → (if same then stands_in s t else stands_in (Linked m h s) t) ≡ true →
+        (stands_in s t ≡ true → names_in (trie_names s) n ≡ true → names_in (trie_names t) n ≡ true) →
+        (stands_in (Linked m h s) t ≡ true → names_in (trie_names t) n ≡ true) → (bytes_eq n k || names_in (trie_names t) n) ≡ true
+    go true one inside older newer =
+        elim (or_cases (bytes_eq n m) (names_in (trie_names s) n) is) [
+          | inl first ↦ ap (λ b. b || names_in (trie_names t) n) (ap (bytes_eq n) (sym (same_name m k (and_parts (h == j) (bytes_eq m k) one).1)) ∙ first)
+          | inr rest ↦ or_right (bytes_eq n k) (names_in (trie_names t) n) (older inside rest)
+        ]
+    go false one inside older newer = or_right (bytes_eq n k) (names_in (trie_names t) n) (newer inside)
+stands_in-names (Branch m h z o) (Linked k j t) n whole ok all is =
+    or_right (bytes_eq n k) (names_in (trie_names t) n) (stands_in-names (Branch m h z o) t n whole (older_ordered k j t ok) all is)
+stands_in-names s (Branch k j y p) n whole ok all is = stands_behind-names s (Branch k j y p) n whole ok all is
+
 -- What the operations of hide sets make.
 
 pub hides-is : (t : Tree) (names : List (List ℕ)) (name : List ℕ) (h : ℕ) (r : Bool) → IsOrdered t → trie_names t ≡ names →
@@ -402,16 +540,16 @@ pub hides-is : (t : Tree) (names : List (List ℕ)) (name : List ℕ) (h : ℕ) 
 hides-is t names name h r ok seen own is = is ∙ found-with t name h own ok ∙ ap (λ (l : List (List ℕ)). names_in l name) seen
 
 module _ (t made : Tree) (names : List (List ℕ)) (kept name : List ℕ) (h : ℕ)
-    (same : kept ≡ name) (own : h ≡ name_hash name) (is : made ≡ with_leaf kept h h t) where
-  made_is : made ≡ with_leaf name h h t
-  made_is = is ∙ ap (λ n. with_leaf n h h t) same
+    (same : kept ≡ name) (own : h ≡ name_hash name) (is : made ≡ with_front kept h t) where
+  made_is : made ≡ with_front name h t
+  made_is = is ∙ ap (λ n. with_front n h t) same
 
   pub with-ordered : IsOrdered t → IsOrdered made
-  with-ordered ok = subst IsOrdered (sym made_is) (with_leaf-ordered t name h own ok)
+  with-ordered ok = subst IsOrdered (sym made_is) (with_front-ordered t name h own ok)
 
   pub with-names : trie_names t ≡ names → (n : List ℕ) → names_in (trie_names made) n ≡ (bytes_eq n name || names_in names n)
   with-names seen n =
-      ap (λ (m : Tree). names_in (trie_names m) n) made_is ∙ with_leaf-names t name h h n
+      ap (λ (m : Tree). names_in (trie_names m) n) made_is ∙ with_front-names t name h n
       ∙ ap (λ (l : List (List ℕ)). bytes_eq n name || names_in l n) seen
 
 module _ (t copy s made : Tree) (same : copy ≡ t) (is : made ≡ with_all s copy) (ok : IsOrdered t) (more_ok : IsOrdered s) where
@@ -463,11 +601,11 @@ module _ (s other : Tree) (own : IsOrdered s) (ok : IsOrdered other) (xs ys : Li
   whole-names all = whole (has_all-names s other own.with_hash ok all n)
 
 -- where every name of the first stands at its place in the second
-module _ (s other : Tree) (xs ys : List (List ℕ)) (seen : trie_names s ≡ xs) (more : trie_names other ≡ ys) (all : stands_in s other ≡ true) (n : List ℕ) where
+module _ (s other : Tree) (own : IsOrdered s) (ok : IsOrdered other) (xs ys : List (List ℕ)) (seen : trie_names s ≡ xs) (more : trie_names other ≡ ys) (all : stands_in s other ≡ true) (n : List ℕ) where
   there_too : names_in xs n ≡ true → names_in ys n ≡ true
   there_too is =
       ap (λ (l : List (List ℕ)). names_in l n) (sym more)
-      ∙ stands_in-names s other n all (ap (λ (l : List (List ℕ)). names_in l n) seen ∙ is)
+      ∙ stands_in-names s other n own.with_hash ok all (ap (λ (l : List (List ℕ)). names_in l n) seen ∙ is)
 
   pub standing-common : (kept : List (List ℕ)) → kept ≡ xs → names_in kept n ≡ (names_in xs n && names_in ys n)
   standing-common kept same = ap (λ (l : List (List ℕ)). names_in l n) same ∙ go (names_in xs n) (names_in ys n) there_too

@@ -1,10 +1,8 @@
 // Calls of function-like macros (ISO C 6.10.3 paragraphs 10 and 11).
 ghost use Rattle.std.specs.Prelude.{◌≡◌, ◌⊎◌, ◌+◌, ◌-◌, ◌^◌, ◌<◌, ◌≤◌, ◌++◌, ◌∷◌, [], List, true, false, Some, None, map, length, IfOk, IfErr, OnOk, IsTrue, IsFalse};
-ghost use Rattle.std.specs.VecDeque.{deque_len};
-ghost use Rattle.macro_expand.specs.Replacement as spec;
-ghost use Rattle.macro_expand.specs.Replacement.{Marked as MarkedToken, after_open, arguments_of, call_in};
+ghost use Rattle.macro_expand.specs.Replacement.{Marked as MarkedToken};
 ghost use Rattle.macro_expand.specs.parts.Reading as reading;
-ghost use Rattle.macro_expand.specs.parts.Reading.{call_read, read_arguments, cut_from};
+ghost use Rattle.macro_expand.specs.parts.Reading.{CutsCall, arguments_cut, call_mark, cut_from, cuts_for, ends_call, is_cut, nesting_after, read_arguments};
 ghost use Rattle.std.specs.List.{list_any};
 ghost use Rattle.macro_expand.specs.parts.Parts.{takes_written};
 ghost use Rattle.macro_expand.specs.Seen.{marked_of, lists_of, part_seen, parts_seen, ReadsCall, RefusesCall, KeepsWritten};
@@ -14,12 +12,11 @@ use crate::outcome::RunError;
 use crate::pending::Pending;
 use crate::replace::Part;
 use base_types::Bytes;
-use pp_tokens::TokenCow;
+use pp_tokens::{Kind, TokenCow};
 use std::alloc::{AllocError, Global};
-use std::collections::VecDeque;
 use std::mem::replace;
 
-// The arguments of a call, as written, and its `)`.
+// The pieces that its commas cut a call into, as written, and its `)`. Where their number is right, they are its arguments.
 #[derive(Drop)]
 pub(crate) struct ReadCall<'a> {
     pub(crate) written: Vec<Vec<Marked<'a>>>,
@@ -39,27 +36,28 @@ pub(crate) fn read_call<'a>(
     ensures shorter { length pending.new ≤ length pending.old }
     ensures err { IfErr result (λ e. RefusesCall e t.now (length params.now) variadic (map marked_of pending.old)) }
 {
-    match read_within(alloc, pending)? {
-        Some(within) => with_arguments(alloc, t, params.len(), variadic, within),
+    let count = params.len();
+    match cut_call(alloc, cuts_for(count, variadic), pending)? {
+        Some(call) => with_arguments(alloc, t, count, variadic, call),
         None => Err(unclosed(alloc, t)),
     }
 }
 
-// A call of a macro with `count` parameters, cut into its arguments.
+// A call of a macro with `count` parameters, its pieces taken for its arguments.
 fn with_arguments<'a>(
     alloc: Global,
     t: &Marked,
     count: usize,
     variadic: bool,
-    within: Within<'a>,
+    call: ReadCall<'a>,
 ) -> Result<ReadCall<'a>, RunError>
-    ensures ok { IfOk result (λ r. arguments_of count variadic (map marked_of within.entry.tokens.items) ≡ Some (lists_of r.written.items)) }
-    ensures close { IfOk result (λ r. r.close ≡ within.entry.close) }
+    ensures ok { IfOk result (λ r. arguments_cut count variadic (lists_of call.entry.written.items) ≡ Some (lists_of r.written.items)) }
+    ensures close { IfOk result (λ r. r.close ≡ call.entry.close) }
     ensures err { IfErr result (λ e. (e ≡ RunError.Memory) ⊎ ((e ≡ RunError.Count t.now.token.text t.now.token.line)
-        × (arguments_of count variadic (map marked_of within.entry.tokens.items) ≡ None))) }
+        × (arguments_cut count variadic (lists_of call.entry.written.items) ≡ None))) }
 {
-    let Within { tokens, close } = within;
-    match arguments(alloc, count, variadic, tokens)? {
+    let ReadCall { written, close } = call;
+    match arguments(alloc, count, variadic, written)? {
         Some(written) => Ok(ReadCall { written, close }),
         None => Err(miscounted(alloc, t)),
     }
@@ -100,7 +98,7 @@ fn each_copied<'a>(
 ) -> Result<Vec<Vec<Marked<'a>>>, AllocError>
     ensures { IfOk result (λ copies. lists_of copies.items ≡ lists_of lists.now) }
 {
-    let mut copies = Vec::new(alloc);
+    let mut copies = Vec::with_capacity(alloc, lists.len())?;
     for list in lists {
         copies.push(copied(alloc, list.as_slice())?)?;
     }
@@ -157,124 +155,48 @@ fn miscounted(alloc: Global, t: &Marked) -> RunError
     }
 }
 
-// What stands between the parentheses of a call, and its `)`.
-#[derive(Drop)]
-struct Within<'a> {
-    tokens: VecDeque<Marked<'a>>,
-    close: Marked<'a>,
+// What a token does in a call: it opens or closes a parenthesis, parts arguments, or none of these.
+#[derive(Clone, Copy, Drop)]
+enum CallMark {
+    Opens,
+    Closes,
+    Parts,
+    Plain,
 }
 
-// What stands before the `)` that matches the `(` before the pending tokens; none where it is missing.
-fn read_within<'a>(
-    alloc: Global,
-    pending: &mut Pending<'a>,
-) -> Result<Option<Within<'a>>, AllocError>
-    ensures ok { IfOk result (λ w. call_in 0 (map marked_of pending.old) ≡ call_read w (map marked_of pending.new)) }
-    ensures shorter { length pending.new ≤ length pending.old }
+// What a token does in a call. One look at it tells.
+#[tactic(auto, unfolding(pp_tokens::specs::Marks::mark_of))]
+#[inline(always)]
+fn mark_of(t: &TokenCow) -> CallMark
+    ensures { result ≡ call_mark t.now }
 {
-    let mut tokens = VecDeque::new(alloc);
-    let mut nesting = 0;
-    while let Some(t) = pending.pop() {
-        if ends_call(nesting, &t.token) {
-            return Ok(Some(Within { tokens, close: t }));
-        }
-        nesting = nesting_after(nesting, &t.token);
-        tokens.push_back(t)?;
+    if t.kind() != Kind::Punct {
+        return CallMark::Plain;
     }
-    Ok(None)
+    match t.text() {
+        b"(" => CallMark::Opens,
+        b")" => CallMark::Closes,
+        b"," => CallMark::Parts,
+        _ => CallMark::Plain,
+    }
 }
 
-// Whether a token is the `)` that ends the call.
-fn ends_call(nesting: usize, t: &TokenCow) -> bool
-    ensures { result ≡ reading.ends_call nesting t.now }
-{
-    nesting == 0 && t.is_mark(b")".as_slice())
-}
-
-// How many parentheses deep the tokens stand that follow this one.
-fn nesting_after(nesting: usize, t: &TokenCow) -> usize
+// How many parentheses deep the tokens stand that follow such a token.
+#[inline(always)]
+fn nesting_after(nesting: usize, mark: CallMark) -> usize
     requires { nesting < 2 ^ 63 }
-    ensures value { result ≡ reading.nesting_after nesting t.now }
+    ensures value { result ≡ reading.nesting_after nesting mark }
     ensures deep { result ≤ nesting + 1 }
 {
-    if t.is_mark(b"(".as_slice()) {
-        return nesting + 1;
+    match mark {
+        CallMark::Opens => nesting + 1,
+        CallMark::Closes => nesting.saturating_sub(1),
+        CallMark::Parts | CallMark::Plain => nesting,
     }
-    if t.is_mark(b")".as_slice()) {
-        return nesting.saturating_sub(1);
-    }
-    nesting
 }
 
-// The arguments of a macro with `count` parameters, the variable one last; none where their number is wrong.
-fn arguments<'a>(
-    alloc: Global,
-    count: usize,
-    variadic: bool,
-    within: VecDeque<Marked<'a>>,
-) -> Result<Option<Vec<Vec<Marked<'a>>>>, AllocError>
-    ensures { IfOk result (λ o. read_arguments o ≡ arguments_of count variadic (map marked_of within.entry.items)) }
-{
-    if variadic {
-        return variable_arguments(alloc, count, within);
-    }
-    if count == 0 {
-        return no_arguments(alloc, within);
-    }
-    counted_arguments(alloc, count, within)
-}
-
-// The arguments where the last is all that follows the others, or is left out.
-#[tactic(auto, unfolding(crate::specs::Replacement::arguments_of))]
-fn variable_arguments<'a>(
-    alloc: Global,
-    count: usize,
-    within: VecDeque<Marked<'a>>,
-) -> Result<Option<Vec<Vec<Marked<'a>>>>, AllocError>
-    ensures { IfOk result (λ o. read_arguments o ≡ arguments_of count true (map marked_of within.entry.items)) }
-{
-    let mut pieces = cut_at_commas(alloc, count.saturating_sub(1), within)?;
-    if pieces.len() == count {
-        return Ok(Some(pieces));
-    }
-    if pieces.len() + 1 == count {
-        pieces.push(Vec::new(alloc))?;
-        return Ok(Some(pieces));
-    }
-    Ok(None)
-}
-
-// No arguments, where nothing stands within.
-#[tactic(auto, unfolding(crate::specs::Replacement::arguments_of))]
-fn no_arguments<'a>(
-    alloc: Global,
-    within: VecDeque<Marked<'a>>,
-) -> Result<Option<Vec<Vec<Marked<'a>>>>, AllocError>
-    ensures { IfOk result (λ o. read_arguments o ≡ arguments_of 0 false (map marked_of within.entry.items)) }
-{
-    if within.is_empty() {
-        return Ok(Some(Vec::new(alloc)));
-    }
-    Ok(None)
-}
-
-// The arguments between all commas.
-fn counted_arguments<'a>(
-    alloc: Global,
-    count: usize,
-    within: VecDeque<Marked<'a>>,
-) -> Result<Option<Vec<Vec<Marked<'a>>>>, AllocError>
-    requires { 0 < count }
-    ensures { IfOk result (λ o. read_arguments o ≡ arguments_of count false (map marked_of within.entry.items)) }
-{
-    let pieces = cut_at_commas(alloc, within.len(), within)?;
-    if pieces.len() == count {
-        return Ok(Some(pieces));
-    }
-    Ok(None)
-}
-
-// Tokens that are being cut: the pieces that are whole, the piece that grows, and how many cuts are still to be made.
+// A call that is being cut at its commas: the pieces that are whole, the piece that grows, how many cuts may still be made, and how
+// many parentheses deep the next token stands.
 #[derive(Drop)]
 struct Cutting<'a> {
     pieces: Vec<Vec<Marked<'a>>>,
@@ -284,16 +206,35 @@ struct Cutting<'a> {
 }
 
 impl<'a> Cutting<'a> {
-    // Ends the piece at a comma, or puts the token into it.
-    fn take(&mut self, alloc: Global, t: Marked<'a>) -> Result<(), AllocError>
-        requires { self.old.nesting < 2 ^ 63 }
-        ensures ok { OnOk result ((ts : List MarkedToken) → cut_from self.old (marked_of t.entry ∷ ts) ≡ cut_from self.new ts) }
-        ensures deep { self.new.nesting ≤ self.old.nesting + 1 }
+    // Whether a token with this mark is the `)` that ends the call.
+    #[inline(always)]
+    fn is_end(&self, mark: CallMark) -> bool
+        ensures { result ≡ ends_call self.now.nesting mark }
     {
-        if is_cut(self.cuts, self.nesting, &t.token) {
+        self.nesting == 0 && matches!(mark, CallMark::Closes)
+    }
+
+    // Whether a token with this mark is a comma to cut at.
+    #[inline(always)]
+    fn is_cut(&self, mark: CallMark) -> bool
+        ensures { result ≡ is_cut self.now.cuts self.now.nesting mark }
+    {
+        self.cuts > 0 && self.nesting == 0 && matches!(mark, CallMark::Parts)
+    }
+
+    // Ends the piece at a comma, or puts the token into it.
+    #[inline(always)]
+    fn take(&mut self, alloc: Global, mark: CallMark, t: Marked<'a>) -> Result<(), AllocError>
+        requires deep { self.old.nesting ≤ length self.old.piece.items }
+        requires mark { mark ≡ call_mark t.token }
+        ensures ok { OnOk result ((ts : List MarkedToken) → cut_from self.old (marked_of t.entry ∷ ts) ≡ cut_from self.new ts) }
+        ensures nesting { OnOk result (self.new.nesting ≡ nesting_after self.old.nesting mark) }
+        ensures deep { OnOk result (self.new.nesting ≤ length self.new.piece.items) }
+    {
+        if self.is_cut(mark) {
             return self.cut(alloc);
         }
-        self.nesting = nesting_after(self.nesting, &t.token);
+        self.nesting = nesting_after(self.nesting, mark);
         self.piece.push(t)?;
         Ok(())
     }
@@ -311,37 +252,117 @@ impl<'a> Cutting<'a> {
         self.cuts -= 1;
         Ok(())
     }
+
+    // The call that ends with this `)`, its last piece the one that grew.
+    fn ended(self, close: Marked<'a>) -> Result<ReadCall<'a>, AllocError>
+        ensures pieces { IfOk result (λ call. lists_of call.written.items ≡ cut_from self.entry []) }
+        ensures close { IfOk result (λ call. call.close ≡ close.entry) }
+    {
+        let Cutting {
+            mut pieces,
+            piece,
+            ..
+        } = self;
+        pieces.push(piece)?;
+        Ok(ReadCall {
+            written: pieces,
+            close,
+        })
+    }
 }
 
-// Whether a token is a comma to cut at.
-fn is_cut(cuts: usize, nesting: usize, t: &TokenCow) -> bool
-    ensures { result ≡ reading.is_cut cuts nesting t.now }
-{
-    cuts > 0 && nesting == 0 && t.is_mark(b",".as_slice())
-}
-
-// The tokens cut at the first `cuts` commas that stand outside parentheses.
-fn cut_at_commas<'a>(
+// What stands before the `)` that matches the `(` before the pending tokens, cut at the first `cuts` commas that stand outside
+// parentheses; none where the `)` is missing.
+fn cut_call<'a>(
     alloc: Global,
     cuts: usize,
-    mut within: VecDeque<Marked<'a>>,
-) -> Result<Vec<Vec<Marked<'a>>>, AllocError>
-    ensures { IfOk result (λ pieces. lists_of pieces.items ≡ spec.cut_at_outer_commas cuts 0 (map marked_of within.entry.items)) }
+    pending: &mut Pending<'a>,
+) -> Result<Option<ReadCall<'a>>, AllocError>
+    ensures ok { IfOk result (λ call. CutsCall cuts (map marked_of pending.old) call (map marked_of pending.new)) }
+    ensures shorter { length pending.new ≤ length pending.old }
 {
     let mut cutting = Cutting {
-        pieces: Vec::new(alloc),
+        pieces: Vec::with_capacity(alloc, cuts.saturating_add(1))?,
         piece: Vec::new(alloc),
         cuts,
         nesting: 0,
     };
-    while let Some(t) = within.pop_front() {
-        cutting.take(alloc, t)?;
+    while let Some(t) = pending.pop() {
+        let mark = mark_of(&t.token);
+        if cutting.is_end(mark) {
+            return Ok(Some(cutting.ended(t)?));
+        }
+        cutting.take(alloc, mark, t)?;
     }
-    let Cutting {
-        mut pieces,
-        piece,
-        ..
-    } = cutting;
-    pieces.push(piece)?;
-    Ok(pieces)
+    Ok(None)
+}
+
+// At how many commas a call of a macro with `count` parameters is cut, at most. Where no argument takes the commas behind the
+// others, it is one more than a right call has, so that too many show.
+fn cuts_for(count: usize, variadic: bool) -> usize
+    ensures { result ≡ cuts_for count variadic }
+{
+    if variadic {
+        count.saturating_sub(1)
+    } else {
+        count
+    }
+}
+
+// The arguments of a macro with `count` parameters, the variable one last, by the pieces of its call; none where their number is
+// wrong.
+fn arguments<'a>(
+    alloc: Global,
+    count: usize,
+    variadic: bool,
+    pieces: Vec<Vec<Marked<'a>>>,
+) -> Result<Option<Vec<Vec<Marked<'a>>>>, AllocError>
+    ensures { IfOk result (λ o. read_arguments o ≡ arguments_cut count variadic (lists_of pieces.entry.items)) }
+{
+    if variadic {
+        return variable_arguments(alloc, count, pieces);
+    }
+    if count == 0 {
+        return Ok(no_arguments(alloc, pieces));
+    }
+    Ok(counted_arguments(count, pieces))
+}
+
+// The arguments where the last is all that follows the others, or is left out.
+fn variable_arguments<'a>(
+    alloc: Global,
+    count: usize,
+    mut pieces: Vec<Vec<Marked<'a>>>,
+) -> Result<Option<Vec<Vec<Marked<'a>>>>, AllocError>
+    ensures { IfOk result (λ o. read_arguments o ≡ arguments_cut count true (lists_of pieces.entry.items)) }
+{
+    if pieces.len() == count {
+        return Ok(Some(pieces));
+    }
+    if pieces.len() + 1 == count {
+        pieces.push(Vec::new(alloc))?;
+        return Ok(Some(pieces));
+    }
+    Ok(None)
+}
+
+// No arguments, where nothing stands within.
+fn no_arguments<'a>(alloc: Global, pieces: Vec<Vec<Marked<'a>>>) -> Option<Vec<Vec<Marked<'a>>>>
+    ensures { read_arguments result ≡ arguments_cut 0 false (lists_of pieces.entry.items) }
+{
+    if pieces.is_empty() || pieces[0].is_empty() {
+        return Some(Vec::new(alloc));
+    }
+    None
+}
+
+// The arguments between all commas.
+fn counted_arguments<'a>(count: usize, pieces: Vec<Vec<Marked<'a>>>) -> Option<Vec<Vec<Marked<'a>>>>
+    requires { 0 < count }
+    ensures { read_arguments result ≡ arguments_cut count false (lists_of pieces.entry.items) }
+{
+    if pieces.len() == count {
+        return Some(pieces);
+    }
+    None
 }

@@ -150,8 +150,8 @@ fn expand_arguments<'s, S, A: Answers<S>>(
     ensures err { IfErr result (λ e. Stops e answers.new (arguments_for (A.answerer source.now) answers.old mode depth t.now.token
         (parts_seen call.now.parts.items) 0 work.old.left (lists_of written.entry.items))) }
 {
+    let mut out = Vec::with_capacity(alloc, written.len())?;
     let mut left = VecDeque::from_vec(written);
-    let mut out = Vec::new(alloc);
     while let Some(argument) = left.pop_front() {
         let alone = call.alone[out.len()];
         let expanded = expand_argument(
@@ -162,6 +162,7 @@ fn expand_arguments<'s, S, A: Answers<S>>(
     Ok(out)
 }
 
+#[inline(always)]
 fn put_list<'s>(out: &mut Vec<Vec<Marked<'s>>>, ts: Vec<Marked<'s>>) -> Result<(), RunError>
     ensures ok { OnOk result (out.new.items ≡ out.old.items ++ ts.entry ∷ []) }
     ensures err { IfErr result (λ e. e ≡ RunError.Memory) }

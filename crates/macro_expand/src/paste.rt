@@ -40,7 +40,7 @@ fn spelling_kind(text: &Bytes) -> Option<Kind>
 fn joined_text(alloc: Global, left: &[u8], right: &[u8]) -> Result<Bytes, AllocError>
     ensures { IfOk result (λ t. t ≡ left.now ++ right.now) }
 {
-    let mut text = Vec::new(alloc);
+    let mut text = Vec::with_capacity(alloc, left.len().saturating_add(right.len()))?;
     text.extend_from_slice(left)?;
     text.extend_from_slice(right)?;
     Ok(Bytes::of(text))
@@ -195,7 +195,7 @@ pub(crate) fn join_pieces<'t>(
     ensures err { IfErr result (λ e. ReportsPaste e t.now.token.line (joins_made None false (map piece_of pieces.entry.items))) }
 {
     let mut joining = Joining {
-        out: Vec::new(alloc),
+        out: Vec::with_capacity(alloc, pieces.len())?,
         left: None,
         joining: false,
     };

@@ -1,5 +1,5 @@
 // The pieces that a replacement list gives with a call's arguments put in (ISO C 6.10.3.1 to 6.10.3.3).
-ghost use Rattle.std.specs.Prelude.{◌≡◌, ◌++◌, ◌∷◌, [], ◌&&◌, ◌||◌, map, ℕ, None, Some, IfOk, OnOk, if◌then◌else◌};
+ghost use Rattle.std.specs.Prelude.{◌≡◌, ◌++◌, ◌∷◌, [], ◌&&◌, ◌||◌, map, length, ℕ, None, Some, IfOk, OnOk, if◌then◌else◌};
 ghost use Rattle.std.specs.Option.{option_map, option_copied};
 ghost use Rattle.macro_defs.specs.MacroDefinition.{without_line};
 ghost use Rattle.pp_tokens.specs.Marks.{is_comma};
@@ -106,6 +106,7 @@ fn copy_at<'t>(first: bool, space: bool, t: &Marked<'t>) -> Result<Marked<'t>, A
     Ok(m)
 }
 
+#[inline(always)]
 fn put<'t>(out: &mut Vec<Piece<'t>>, p: Piece<'t>) -> Result<(), AllocError>
     ensures { OnOk result (map piece_of out.new.items ≡ map piece_of out.old.items ++ piece_of p.entry ∷ []) }
 {
@@ -114,6 +115,7 @@ fn put<'t>(out: &mut Vec<Piece<'t>>, p: Piece<'t>) -> Result<(), AllocError>
 }
 
 // Puts in a token, as it is.
+#[inline(always)]
 fn put_marked<'t>(out: &mut Vec<Marked<'t>>, m: Marked<'t>) -> Result<(), AllocError>
     ensures { OnOk result (map marked_of out.new.items ≡ map marked_of out.old.items ++ marked_of m.entry ∷ []) }
 {
@@ -138,20 +140,8 @@ fn put_copies<'t>(
     Ok(())
 }
 
-// Puts in tokens, each as a piece.
-fn put_each<'t>(out: &mut Vec<Piece<'t>>, tokens: Vec<Marked<'t>>) -> Result<(), AllocError>
-    ensures { OnOk result (map piece_of out.new.items
-        ≡ map piece_of out.old.items ++ map Real (map marked_of tokens.entry.items)) }
-{
-    for m in tokens {
-        put(out, Piece::Real(m))?;
-    }
-    Ok(())
-}
-
-// Puts in the tokens of an argument as pieces, the first with the parameter's space.
+// Puts in copies of the tokens of an argument as pieces, the first with the parameter's space.
 fn put_tokens<'t>(
-    alloc: Global,
     out: &mut Vec<Piece<'t>>,
     space: bool,
     tokens: &[Marked<'t>],
@@ -159,14 +149,16 @@ fn put_tokens<'t>(
     ensures { OnOk result (map piece_of out.new.items
         ≡ map piece_of out.old.items ++ map Real (with_space space (map marked_of tokens.now))) }
 {
-    let mut copies = Vec::with_capacity(alloc, tokens.len())?;
-    put_copies(&mut copies, space, tokens)?;
-    put_each(out, copies)
+    let mut first = true;
+    for t in tokens {
+        put(out, Piece::Real(copy_at(first, space, t)?))?;
+        first = false;
+    }
+    Ok(())
 }
 
 // Puts in an argument that stands beside `##`: where it has no tokens, a placemarker.
 fn put_operand<'t>(
-    alloc: Global,
     out: &mut Vec<Piece<'t>>,
     space: bool,
     tokens: &[Marked<'t>],
@@ -177,7 +169,7 @@ fn put_operand<'t>(
     if tokens.is_empty() {
         return put(out, Piece::Placemarker);
     }
-    put_tokens(alloc, out, space, tokens)
+    put_tokens(out, space, tokens)
 }
 
 // Puts in a token of the list. A comma is dropped before `##` and an empty variable argument.
@@ -215,7 +207,6 @@ fn is_behind_comma(before: Option<&Part>) -> bool
 
 // Puts in the argument that a parameter stands for.
 fn put_argument<'t>(
-    alloc: Global,
     out: &mut Vec<Piece<'t>>,
     arguments: &Arguments<'_, 't>,
     before: Option<&Part>,
@@ -227,9 +218,9 @@ fn put_argument<'t>(
         ++ pieces_of_part (arguments_seen arguments.now) (option_map part_seen (option_copied before.entry)) (spec.Argument i space) (parts_seen rest.now)) }
 {
     if is_behind_join(before) || begins_with_join(rest) {
-        return put_operand(alloc, out, space, argument_at(arguments.written, i));
+        return put_operand(out, space, argument_at(arguments.written, i));
     }
-    put_tokens(alloc, out, space, argument_at(arguments.expanded, i))
+    put_tokens(out, space, argument_at(arguments.expanded, i))
 }
 
 // Puts in a `##`, which joins nothing between a comma and the variable argument (GNU).
@@ -262,7 +253,7 @@ fn put_part<'t>(
 {
     match p {
         Part::Plain(t) => put_plain(out, arguments, t, rest),
-        Part::Argument(i, space) => put_argument(alloc, out, arguments, before, *i, *space, rest),
+        Part::Argument(i, space) => put_argument(out, arguments, before, *i, *space, rest),
         Part::Spelling(i, space) => put_spelling(alloc, out, arguments, *i, *space),
         Part::Join => put_join(out, arguments, before, rest),
     }
@@ -326,6 +317,26 @@ fn put_tokens_of<'t>(
     }
 }
 
+// How many tokens a part of a list without `##` gives.
+fn token_count(arguments: &Arguments, p: &Part) -> usize
+    ensures { result ≡ length (tokens_of_part (arguments_seen arguments.now) (part_seen p.now)) }
+{
+    match p {
+        Part::Argument(i, _) => argument_at(arguments.expanded, *i).len(),
+        Part::Plain(_) | Part::Spelling(_, _) => 1,
+        Part::Join => 0,
+    }
+}
+
+// For how many tokens a list without `##` takes room: all that it gives.
+fn room_for(arguments: &Arguments, parts: &[Part]) -> usize {
+    let mut room: usize = 0;
+    for p in parts {
+        room = room.saturating_add(token_count(arguments, p));
+    }
+    room
+}
+
 // The tokens of a replacement list without `##`, as nearly all are: no list of pieces is made.
 pub(crate) fn read_tokens<'t>(
     alloc: Global,
@@ -334,7 +345,7 @@ pub(crate) fn read_tokens<'t>(
 ) -> Result<Vec<Marked<'t>>, AllocError>
     ensures { IfOk result (λ out. map marked_of out.items ≡ tokens_of_parts (arguments_seen arguments.now) (parts_seen parts.now)) }
 {
-    let mut out = Vec::with_capacity(alloc, parts.len())?;
+    let mut out = Vec::with_capacity(alloc, room_for(arguments, parts))?;
     for p in parts {
         put_tokens_of(alloc, &mut out, arguments, p)?;
     }

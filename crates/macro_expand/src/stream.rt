@@ -1,18 +1,19 @@
 // Expansion that gives its tokens one after another.
-ghost use Rattle.std.specs.Prelude.{◌≡◌, ◌+◌, ◌<◌, ◌≤◌, ◌++◌, ◌∷◌, [], map, length, reverse, IfOk, IfErr, IfSome, IsNone, IsTrue, MatchOption, OnOk};
+ghost use Rattle.std.specs.Prelude.{◌≡◌, ◌+◌, ◌<◌, ◌≤◌, ◌++◌, ◌∷◌, [], List, map, length, reverse, IfOk, IfErr, IfSome, IsNone, IsTrue, MatchOption, OnOk};
 ghost use Rattle.pp_tokens.specs.Tokens.{token_seen};
 ghost use Rattle.macro_defs.specs.Table.{lookup};
 ghost use Rattle.macro_expand.specs.Replacement.{unmarked};
-ghost use Rattle.macro_expand.specs.Expansion.{expanded_by};
+ghost use Rattle.macro_expand.specs.Expansion.{Table, expanded_by};
 ghost use Rattle.macro_expand.specs.Answered.{expanded_for, table_answerer};
+ghost use Rattle.macro_expand.specs.declared.marked.Marked.{Marked as Kept};
 ghost use Rattle.macro_expand.specs.Seen.{marked_of, kept_plain, place_of, GivesTokens, Stops, ReportsResult};
 ghost use Rattle.macro_expand.specs.parts.Pending.{run_tokens};
 ghost use Rattle.macro_expand.specs.Stream.{to_come, at_hand, FirstReady, GivesNext, StandsAfter, StandsAfterAnswer};
 ghost use Rattle.macro_expand.specs.parts.Steps.{StaysAsItIs, Becomes};
 
 use crate::answers::{Presumed, TablePlace};
-use crate::expansion::{expand_head, public_error, role};
-use crate::marked::{Marked, Role};
+use crate::expansion::{expand_head, public_error};
+use crate::marked::Marked;
 use crate::outcome::{ExpandError, Mode, RunError, Work};
 use crate::pending::Pending;
 use crate::run::Run;
@@ -104,6 +105,20 @@ impl<'a> Expander<'a> {
         ensures spends { work.new.left ≤ work.old.left }
         ensures few { IfOk result (λ o. IfSome o (λ t. at_hand self.new + work.new.left < at_hand self.old + work.old.left)) }
     {
+        match self.lend() {
+            Some(t) => Ok(Some(TokenCow::lent(t))),
+            None => self.expand_next(work),
+        }
+    }
+
+    /// The same, but a token that no macro touches isn't lent by a shorter way: for where [`lend`](Self::lend) just gave none.
+    pub fn expand_next(&mut self, work: &mut Work) -> Result<Option<TokenCow<'a>>, ExpandError>
+        ensures gives { self.old.standing ≡ Standing.Going → IfOk result (λ o. GivesNext o self.old work.old.left self.new work.new.left) }
+        ensures err { self.old.standing ≡ Standing.Going → IfErr result (λ e. ReportsResult e (to_come self.old work.old.left)) }
+        ensures stands { StandsAfterAnswer self.old.standing result self.new.standing }
+        ensures spends { work.new.left ≤ work.old.left }
+        ensures few { IfOk result (λ o. IfSome o (λ t. at_hand self.new + work.new.left < at_hand self.old + work.old.left)) }
+    {
         match &self.standing {
             Standing::Going => self.go_on(work),
             Standing::Ended => Ok(None),
@@ -150,24 +165,9 @@ impl<'a> Expander<'a> {
         ensures spends { work.new.left ≤ work.old.left }
         ensures few { IfOk result (λ o. IfSome o (λ t. at_hand self.new + work.new.left < at_hand self.old + work.old.left)) }
     {
-        match self.first() {
-            Some(t) => Ok(Some(t)),
-            None => self.step(work),
-        }
-    }
-
-    // The first token that is ready, or that no macro touches.
-    fn first(&mut self) -> Option<TokenCow<'a>>
-        ensures first { IfSome result (λ t. FirstReady t self.old self.new) }
-        ensures none { IsNone result → (self.old.ready ≡ []) × (self.new ≡ self.old) }
-        ensures same { self.new.standing ≡ self.old.standing }
-    {
-        if let Some(t) = self.lend() {
-            return Some(TokenCow::lent(t));
-        }
         match self.ready.pop() {
-            None => None,
-            Some(m) => Some(m.bare()),
+            Some(m) => Ok(Some(m.bare())),
+            None => self.step(work),
         }
     }
 
@@ -205,19 +205,13 @@ impl<'a> Expander<'a> {
     }
 }
 
-// Whether a token is put out as it is under a table: it is no identifier, or is hidden from itself, or has no definition. Of a
-// `defined` in a condition it isn't asked here: it is put out together with its operand.
-fn stays(table: &MacroTable, mode: Mode, t: &Marked, rest: &Pending) -> bool
-    ensures { IsTrue result → StaysAsItIs (lookup table.now) mode t.now rest.now }
+// Whether a token is put out as it is, whatever its table: it is no identifier.
+#[tactic(auto, unfolding(crate::specs::Expansion::head_role))]
+#[inline(always)]
+fn stays(t: &Marked) -> bool
+    ensures { IsTrue result → (table : Table) (mode : Mode) (rest : List Kept) → StaysAsItIs table mode t.now rest }
 {
-    if matches!(mode, Mode::Condition) && t.token.text() == b"defined".as_slice() {
-        return false;
-    }
-    match role(mode, t, rest) {
-        Role::Ordinary => true,
-        Role::Name => table.get(t.token.text()).is_none(),
-        _ => false,
-    }
+    !t.token.is_identifier()
 }
 
 // Takes the first of the tokens that a step put out, and turns the others round.
@@ -249,7 +243,7 @@ fn advance<'s>(
         (expanded_for (table_answerer (λ s. lookup table.now) (λ s. place_of s.here.now)) answers.old mode 0 work.old.left (map marked_of pending.old))) }
 {
     while let Some(t) = pending.pop() {
-        if stays(table, mode, &t, pending) {
+        if stays(&t) {
             return Ok(Some(t));
         }
         expand_head(alloc, table, answers, mode, 0, t, out, pending, work)?;

@@ -40,19 +40,19 @@ expand_argument-returns-clause-err g t c =
 
 pub expand_arguments-loop-argument-init : goal.expand_arguments-loop-argument-init
 expand_arguments-loop-argument-init g t c =
-    rw (c.new-out.ensures.items, c.from_vec-left.ensures.items)
+    rw (c.in_ok-out.ensures.items, c.from_vec-left.ensures.items)
     (sym (before_all-nothing _), (omega (arith, c.requires.alone.0), omega arith))
 
 pub expand_arguments-returns-in_err-expanded-clause-err : goal.expand_arguments-returns-in_err-expanded-clause-err
 expand_arguments-returns-in_err-expanded-clause-err g t c =
-    let p = err_from_is_err_and c.from_residual.result c.from_residual.ensures.1 in
+    let p = err_from_is_err_and c.from_residual-in_err-expanded.result c.from_residual-in_err-expanded.ensures.1 in
     rw (p.1, p.2) (turn_stops (g.A.Answers.answerer c.args.source.now) c.loop-argument.answers c.args.mode c.args.depth c.args.t.now.token (parts_seen c.args.call.now.parts.items)
     (arguments_for (g.A.Answers.answerer c.args.source.now) c.args.answers.now c.args.mode c.args.depth c.args.t.now.token (parts_seen c.args.call.now.parts.items) 0
     c.args.work.now.left (lists_of c.args.written.items)) c.loop-argument.out.items
     c.loop-argument.left.items c.pop_front.new.self.items c.loop-argument.work.left c.in-Some.argument c.in-Some.ensures.items c.loop-argument.invariant.0 c.index-alone.result.now
-    (stands_next c.args.call.now.alone.items _ c.len.result c.loop-argument.out.items c.loop-argument.left.items c.pop_front.new.self.items c.in-Some.argument
+    (stands_next c.args.call.now.alone.items _ c.len-in-Some.result c.loop-argument.out.items c.loop-argument.left.items c.pop_front.new.self.items c.in-Some.argument
     (parts_seen c.args.call.now.parts.items) c.index-alone.result.now c.requires.alone.0 c.requires.alone.1 c.loop-argument.invariant.1.0 c.in-Some.ensures.items
-    (omega (arith, c.len.ensures, c.loop-argument.out.ok.0)) c.index-alone.ensures)
+    (omega (arith, c.len-in-Some.ensures, c.loop-argument.out.ok.0)) c.index-alone.ensures)
     c.expand_argument.new.answers _ c.in_err-expanded.ensures.err)
 
 pub expand_arguments-loop-argument-preserved : goal.expand_arguments-loop-argument-preserved
@@ -61,9 +61,9 @@ expand_arguments-loop-argument-preserved g t c = (
       (arguments_for (g.A.Answers.answerer c.args.source.now) c.args.answers.now c.args.mode c.args.depth c.args.t.now.token (parts_seen c.args.call.now.parts.items) 0
       c.args.work.now.left (lists_of c.args.written.items)) c.loop-argument.out.items
       c.loop-argument.left.items c.pop_front.new.self.items c.loop-argument.work.left c.in-Some.argument c.in-Some.ensures.items c.loop-argument.invariant.0 c.index-alone.result.now
-      (stands_next c.args.call.now.alone.items _ c.len.result c.loop-argument.out.items c.loop-argument.left.items c.pop_front.new.self.items c.in-Some.argument
+      (stands_next c.args.call.now.alone.items _ c.len-in-Some.result c.loop-argument.out.items c.loop-argument.left.items c.pop_front.new.self.items c.in-Some.argument
       (parts_seen c.args.call.now.parts.items) c.index-alone.result.now c.requires.alone.0 c.requires.alone.1 c.loop-argument.invariant.1.0 c.in-Some.ensures.items
-      (omega (arith, c.len.ensures, c.loop-argument.out.ok.0)) c.index-alone.ensures)
+      (omega (arith, c.len-in-Some.ensures, c.loop-argument.out.ok.0)) c.index-alone.ensures)
       c.put_list.new.out.items c.in_ok-expanded.expanded c.expand_argument.new.answers c.expand_argument.new.work.left c.in_ok-put_list.ensures.ok c.in_ok-expanded.ensures.ok,
   (
     one_moved c.loop-argument.out.items c.put_list.new.out.items c.loop-argument.left.items c.pop_front.new.self.items c.in_ok-expanded.expanded c.in-Some.argument _

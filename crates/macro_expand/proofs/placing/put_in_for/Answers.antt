@@ -1,8 +1,9 @@
-use Rattle.std.proofs.Common.{◌<◌, ◌∙◌, length, arith, ap, sym}
+use Rattle.std.proofs.Common.{◌<◌, ◌∙◌, map, length, arith, ap, sym}
+use Rattle.macro_expand.specs.Replacement.{with_space}
 use Rattle.macro_expand.specs.Sets.{names_in}
 use Rattle.macro_expand.specs.parts.Placing.{placed}
 use Rattle.macro_expand.specs.Seen.{marked_of}
-use Rattle.macro_expand.proofs.PlacingLemmas.{place-turn, place-left, place-same}
+use Rattle.macro_expand.proofs.PlacingLemmas.{place-turn, place-left, place-all, place-same}
 use Rattle.macro_expand.proofs.placing.put_in_for.Goals as goal
 
 pub loop-m-preserved : goal.loop-m-preserved
@@ -17,3 +18,12 @@ loop-m-preserved c =
           c.place.new.m c.loop-m.invariant.left below c.loop-m.invariant.same;
       known = c.in_ok-place.ensures.known;
     }
+
+pub returns : goal.returns
+returns c =
+    c.spaced.ensures
+    ∙ ap (with_space c.space.result) (place-all marked_of (placed c.line-line.result (names_in c.args.hidden.now)) c.loop-m.m-items c.deref_mut-m-items.result.now
+    c.loop-m.m-index c.args.made.items c.args.made.len c.loop-m.invariant.same c.loop-m-test.false c.deref_mut-m-items.ensures.value c.deref_mut-m-items.ensures.len
+    c.loop-m.invariant.done)
+    ∙ ap (λ space. with_space space (map (placed c.line-line.result (names_in c.args.hidden.now)) (map marked_of c.args.made.items))) c.space.ensures
+    ∙ ap (λ line. with_space c.args.t.now.space (map (placed line (names_in c.args.hidden.now)) (map marked_of c.args.made.items))) c.line-line.ensures

@@ -16,7 +16,7 @@ loop-t-init c = record {
 pub returns-then-stays-clause-some : goal.returns-then-stays-clause-some
 returns-then-stays-clause-some c =
     stays_turn (lookup c.args.table.now) c.args.mode c.args.answers.now c.loop-t.answers c.args.work.now.left c.loop-t.work.left c.args.pending.now c.loop-t.pending c.pop.new.self
-    c.loop-t.out.items c.in-Some.t c.loop-t.invariant.kept c.in-Some.ensures.first c.loop-t.invariant.empty (c.stays.ensures c.if-stays.true)
+    c.loop-t.out.items c.in-Some.t c.loop-t.invariant.kept c.in-Some.ensures.first c.loop-t.invariant.empty (c.stays.ensures c.if-stays.true (lookup c.args.table.now) c.args.mode c.pop.new.self)
 
 pub returns-in_err-expand_head-clause-err : goal.returns-in_err-expand_head-clause-err
 returns-in_err-expand_head-clause-err c =

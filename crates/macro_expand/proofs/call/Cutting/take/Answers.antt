@@ -1,6 +1,7 @@
-use Rattle.std.proofs.Common.{◌∙◌, sym, refl}
-use Rattle.macro_expand.proofs.CallLaws.{cut_turn, grow_turn}
-use Rattle.macro_expand.proofs.LoopLaws.{on_ok-three}
+use Rattle.std.proofs.Common.{◌≡◌, ◌∙◌, sym, refl, ap, arith}
+use Rattle.macro_expand.specs.parts.Reading.{is_cut, nesting_after}
+use Rattle.macro_expand.proofs.CallLaws.{cut_turn, grow_turn, cut-level, cut-outside}
+use Rattle.macro_expand.proofs.LoopLaws.{on_ok-map, on_ok-three}
 use Rattle.macro_expand.proofs.call.Cutting.take.Goals as goal
 
 pub returns-then-is_cut-clause-ok : goal.returns-then-is_cut-clause-ok
@@ -8,12 +9,26 @@ returns-then-is_cut-clause-ok c =
     let self = c.args.self.now in
     let made = c.cut.new.self in
     on_ok-three c.cut.result
-    (λ pushed piece less. cut_turn self.pieces.items self.piece.items self.cuts self.nesting c.args.t (sym c.is_cut.ensures ∙ c.if-is_cut.true)
+    (λ pushed piece less. cut_turn self.pieces.items self.piece.items self.cuts self.nesting c.args.t
+    (ap (is_cut self.cuts self.nesting) (sym c.requires.mark) ∙ sym c.is_cut.ensures ∙ c.if-is_cut.true)
     made.pieces.items self.piece pushed refl made.piece.items piece made.cuts made.nesting less c.cut.ensures.same)
     c.cut.ensures.pieces c.cut.ensures.piece c.cut.ensures.cuts
+
+pub returns-then-is_cut-clause-nesting : goal.returns-then-is_cut-clause-nesting
+returns-then-is_cut-clause-nesting c =
+    let self = c.args.self.now in
+    on_ok-map c.cut.result (λ _. c.cut.ensures.same ∙ cut-level self.cuts self.nesting c.args.mark (sym c.is_cut.ensures ∙ c.if-is_cut.true)) c.cut.ensures.piece
+
+pub returns-then-is_cut-clause-deep : goal.returns-then-is_cut-clause-deep
+returns-then-is_cut-clause-deep c =
+    let self = c.args.self.now in
+    let none : self.nesting ≡ 0 = cut-outside self.cuts self.nesting c.args.mark (sym c.is_cut.ensures ∙ c.if-is_cut.true) in
+    on_ok-map c.cut.result (λ piece. let same = c.cut.ensures.same in omega arith) c.cut.ensures.piece
 
 pub returns-clause-ok : goal.returns-clause-ok
 returns-clause-ok c =
     let self = c.args.self.now in
-    grow_turn self.pieces.items self.piece.items self.cuts self.nesting c.args.t (sym c.is_cut.ensures ∙ c.if-is_cut.false)
-    c.push.new.self.items c.in_ok-push.ensures.items c.nesting_after-self.result c.nesting_after-self.ensures.value
+    grow_turn self.pieces.items self.piece.items self.cuts self.nesting c.args.t
+    (ap (is_cut self.cuts self.nesting) (sym c.requires.mark) ∙ sym c.is_cut.ensures ∙ c.if-is_cut.false)
+    c.push.new.self.items c.in_ok-push.ensures.items c.nesting_after-self.result
+    (c.nesting_after-self.ensures.value ∙ ap (nesting_after self.nesting) c.requires.mark)

@@ -6,8 +6,8 @@ use Rattle.macro_expand.proofs.hide_set.HideSet.kept_by.Goals as goal
 pub returns-then-stands_in : goal.returns-then-stands_in
 returns-then-stands_in c =
     if_ok-map c.copy.result
-    (λ kept same n. standing-common (trie_of c.self.inside.names) (trie_of c.larger.inside.names) c.args.self.now c.args.larger.now
-    c.self.view_is c.larger.view_is (sym c.stands_in.ensures ∙ c.if-stands_in.true) n kept same) c.copy.ensures
+    (λ kept same n. standing-common (trie_of c.self.inside.names) (trie_of c.larger.inside.names) c.self.invariant c.larger.invariant
+    c.args.self.now c.args.larger.now c.self.view_is c.larger.view_is (sym c.stands_in.ensures ∙ c.if-stands_in.true) n kept same) c.copy.ensures
 
 pub returns-then-has_all : goal.returns-then-has_all
 returns-then-has_all c =

@@ -16,5 +16,5 @@ returns c =
 pub returns-then-stands_in : goal.returns-then-stands_in
 returns-then-stands_in c =
     if_ok-map c.copy.result
-    (λ kept same n. standing-all (trie_of c.smaller.inside.names) (trie_of c.self.inside.names) c.args.smaller.now c.args.self.now
-    c.smaller.view_is c.self.view_is (sym c.stands_in.ensures ∙ c.if-stands_in.true) n kept same) c.copy.ensures
+    (λ kept same n. standing-all (trie_of c.smaller.inside.names) (trie_of c.self.inside.names) c.smaller.invariant c.self.invariant
+    c.args.smaller.now c.args.self.now c.smaller.view_is c.self.view_is (sym c.stands_in.ensures ∙ c.if-stands_in.true) n kept same) c.copy.ensures

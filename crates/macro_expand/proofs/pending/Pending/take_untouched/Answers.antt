@@ -1,4 +1,4 @@
-use Rattle.std.proofs.Common.{◌≡◌, ◌++◌, ◌∷◌, List, map, reverse, refl, ap, sym, ◌∙◌}
+use Rattle.std.proofs.Common.{◌++◌, ◌∷◌, List, map, reverse, refl, ap, sym, ◌∙◌}
 use Rattle.std.proofs.lemmas.Option.{IfSome_then}
 use Rattle.pp_tokens.specs.declared.token.Token.{Token}
 use Rattle.pp_tokens.specs.Tokens.{token_seen}
