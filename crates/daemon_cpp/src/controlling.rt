@@ -109,7 +109,7 @@ fn read_replaced(
     ensures err { IfErr result (λ e. ReportsResult e (to_come stream.old work.old.left)) }
     ensures spends { work.new.left ≤ work.old.left }
 {
-    match stream.next(work) {
+    match stream.expand_next(work) {
         Ok(Some(token)) => match line.put(macros, &token.as_ref()) {
             Ok(()) => Ok(true),
             Err(_) => Err(ExpandError::Memory),

@@ -6,7 +6,6 @@ ghost use Rattle.pp_tokens.specs.Lines.{lexed};
 ghost use Rattle.daemon_cpp.specs.parts.Reading.{token_count};
 ghost use Rattle.daemon_cpp.specs.parts.FileTexts.{IsTextOf, HasFewPieces};
 
-use base_types::Bytes;
 use directive_scan::Pieces;
 use pp_tokens::{Lexed, lex};
 use std::alloc::{AllocError, Global};
@@ -15,7 +14,7 @@ use std::marker::Model;
 use tree_model::CanonPath;
 
 // How many bytes the bodies may have whose lexed lines are kept, all together: their text and the places of their tokens
-// take some four times as much.
+// take some three times as much.
 const ROOM: usize = 8_388_608;
 
 /// A file as it is read: its pieces, how many tokens stand on its lines, and the line of a comment that never ends.
@@ -41,17 +40,6 @@ impl FileText {
             open_comment,
         })
     }
-
-    // A copy, which shares the pieces.
-    fn copy(&self) -> Result<FileText, AllocError>
-        ensures { IfOk result (λ copy. copy ≡ self.now) }
-    {
-        Ok(FileText {
-            pieces: self.pieces.copy()?,
-            tokens: self.tokens,
-            open_comment: self.open_comment,
-        })
-    }
 }
 
 // How many tokens stand on the lines of a file.
@@ -61,42 +49,27 @@ fn count_tokens(file: &Lexed) -> u64
     file.tokens_before(file.line_count()) as u64
 }
 
-// A body that was lexed, and what it is read as.
-#[derive(Drop)]
-struct LexedBody {
-    body: Bytes,
-    trigraphs: bool,
-    text: FileText,
-}
-
-impl Model for LexedBody {
-    ghost use Rattle.pp_tokens.specs.Lines.{lexed};
-    ghost use Rattle.daemon_cpp.specs.parts.FileTexts.{IsTextOf};
-
-    ghost Value = { Unit {0} };
-
-    ghost view = { λ l. tt };
-
-    ghost invariant = { λ l. IsTextOf (lexed l.trigraphs l.body) l.text };
-}
-
-impl LexedBody {
-    // What these bytes are read as, where they are this body.
-    fn text_of(&self, body: &[u8], trigraphs: bool) -> Result<Option<FileText>, AllocError>
-        ensures { IfOk result (λ found. IfSome found (IsTextOf (lexed trigraphs body.now))) }
-    {
-        if self.trigraphs != trigraphs || self.body.as_slice() != body {
-            return Ok(None);
-        }
-        Ok(Some(self.text.copy()?))
+// What a body is read as, where these are its pieces.
+fn known_text(known: &Pieces, body: &[u8], trigraphs: bool) -> Result<Option<FileText>, AllocError>
+    requires { length body.now ≤ body_limit }
+    ensures { IfOk result (λ found. IfSome found (IsTextOf (lexed trigraphs body.now))) }
+{
+    let file = known.lexed();
+    if !file.is_of(body, trigraphs) {
+        return Ok(None);
     }
+    Ok(Some(FileText {
+        tokens: count_tokens(file),
+        open_comment: file.open_comment(),
+        pieces: known.copy()?,
+    }))
 }
 
-/// The files that a job lexed so far, by their paths behind all links. A look-up compares the bytes, and so takes a small
-/// part of the time of lexing them.
+/// The pieces of the files that a job lexed so far, by their paths behind all links. A look-up compares the body with the text that was lexed,
+/// and so takes a small part of the time of lexing it.
 #[derive(Drop)]
 pub struct LexedFiles {
-    known: HashMap<CanonPath, LexedBody>,
+    known: HashMap<CanonPath, Pieces>,
     room: usize,
 }
 
@@ -121,43 +94,35 @@ impl LexedFiles {
         &mut self,
         alloc: Global,
         path: &CanonPath,
-        body: Bytes,
+        body: &[u8],
         trigraphs: bool,
     ) -> Result<FileText, AllocError>
-        requires { length body ≤ body_limit }
-        ensures text { IfOk result (IsTextOf (lexed trigraphs body)) }
+        requires { length body.now ≤ body_limit }
+        ensures text { IfOk result (IsTextOf (lexed trigraphs body.now)) }
         ensures few { IfOk result HasFewPieces }
     {
         if let Some(known) = self.known.get(path) {
-            if let Some(text) = known.text_of(body.as_slice(), trigraphs)? {
+            if let Some(text) = known_text(known, body, trigraphs)? {
                 return Ok(text);
             }
         }
-        let text = FileText::of_body(alloc, body.as_slice(), trigraphs)?;
+        let text = FileText::of_body(alloc, body, trigraphs)?;
         if body.len() <= self.room {
-            self.keep(alloc, path, body, trigraphs, &text)?;
+            self.keep(alloc, path, body.len(), &text.pieces)?;
         }
         Ok(text)
     }
 
-    // Keeps what a body is read as.
+    // Keeps the pieces of a body of so many bytes.
     fn keep(
         &mut self,
         alloc: Global,
         path: &CanonPath,
-        body: Bytes,
-        trigraphs: bool,
-        text: &FileText,
-    ) -> Result<(), AllocError>
-        requires { IsTextOf (lexed trigraphs body) text.now }
-    {
-        self.room = self.room.saturating_sub(body.len());
-        let known = LexedBody {
-            body,
-            trigraphs,
-            text: text.copy()?,
-        };
-        self.known.insert(path.copy(alloc)?, known)?;
+        size: usize,
+        pieces: &Pieces,
+    ) -> Result<(), AllocError> {
+        self.room = self.room.saturating_sub(size);
+        self.known.insert(path.copy(alloc)?, pieces.copy()?)?;
         Ok(())
     }
 }

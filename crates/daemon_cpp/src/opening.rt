@@ -74,7 +74,7 @@ fn open_body(
     let (visit, located) = found;
     let text = kept
         .lexed
-        .text_of(alloc, &located.real, body, setup.trigraphs())?;
+        .text_of(alloc, &located.real, body.as_slice(), setup.trigraphs())?;
     match pay(text.tokens, kept.work.left) {
         Some(left) => {
             kept.work.left = left;
@@ -162,7 +162,10 @@ fn announced(
     ensures no_fault { IsErrOf result Stop.Fault → ⊥ }
 {
     match mark_front(alloc, kept, source, place, included) {
-        Ok(()) => Ok(pieces),
+        Ok(()) => {
+            kept.layout.make_room(pieces.text_bytes());
+            Ok(pieces)
+        }
         Err(stop) => Err(stop),
     }
 }

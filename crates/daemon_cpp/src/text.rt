@@ -191,7 +191,7 @@ fn lay_expanded(
     ensures err { IfErr result (λ e. ReportsText e (laid_from layout.old (to_come stream.old work.old.left))) }
     ensures spends { work.new.left ≤ work.old.left }
 {
-    match stream.next(work) {
+    match stream.expand_next(work) {
         Ok(Some(token)) => match put_or_end(stream, layout, work, &token.as_ref()) {
             Ok(()) => Ok(true),
             Err(error) => Err(error),
