@@ -153,6 +153,7 @@ fn laid_out(
     unit: &mut Unit,
 ) -> Result<Bytes, TextError> {
     let mut layout = Layout::begin(alloc, file.as_bytes())?;
+    layout.make_room(pieces.text_bytes());
     for number in 0..pieces.len() {
         match pieces.piece(number) {
             PieceRef::Run(run) => lay_out(alloc, &mut layout, unit, run)?,
@@ -176,6 +177,7 @@ fn lay_out(
 }
 
 // Lays out the next token; whether there was one. Most tokens of a text are lent.
+#[inline(always)]
 fn lay_next(
     stream: &mut Expander<'_>,
     layout: &mut Layout,
@@ -183,11 +185,25 @@ fn lay_next(
 ) -> Result<bool, TextError>
     ensures few { IfOk result (λ more. IsTrue more → at_hand stream.new + work.new.left < at_hand stream.old + work.old.left) }
 {
-    if let Some(token) = stream.lend() {
-        layout.put(&token)?;
-        return Ok(true);
+    match stream.lend() {
+        Some(token) => {
+            layout.put(&token)?;
+            Ok(true)
+        }
+        None => lay_expanded(stream, layout, work),
     }
-    match stream.next(work)? {
+}
+
+// Lays out the next token of an expansion that lends none.
+#[inline(never)]
+fn lay_expanded(
+    stream: &mut Expander<'_>,
+    layout: &mut Layout,
+    work: &mut Work,
+) -> Result<bool, TextError>
+    ensures few { IfOk result (λ more. IsTrue more → at_hand stream.new + work.new.left < at_hand stream.old + work.old.left) }
+{
+    match stream.expand_next(work)? {
         Some(token) => {
             layout.put(&token.as_ref())?;
             Ok(true)

@@ -15,7 +15,7 @@ mod tokens;
 mod unit;
 mod walking;
 
-use command_line::{ended, refuse, show, words_of};
+use command_line::{ended, keep_blocks, refuse, show, words_of};
 use files::{FileTask, each};
 use outcome::{PROGRAM, status_of};
 use std::process::ExitCode;
@@ -72,6 +72,7 @@ fn main(rt: HostRuntime) -> ExitCode {
 }
 
 fn answer<H: Threads + Wait + Sync>(handles: &H, rt: &HostRuntime) -> io::Result<ExitCode> {
+    keep_blocks(rt.alloc());
     let arguments = env::args(rt)?.collect(rt.alloc())?;
     let words = words_of(rt.alloc(), &arguments)?;
     obey(handles, rt, words.as_slice())

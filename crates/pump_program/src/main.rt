@@ -3,7 +3,6 @@
 
 mod kept;
 mod progress;
-mod room;
 mod told;
 mod wrong_list;
 
@@ -24,7 +23,6 @@ use io_edges::{FolderOuts, MemSpawner, Outs, Sink, Source, StdSink, StdSource, W
 use kept::Kept;
 use progress::ProgressLine;
 use pump_run::{End, Progress, pump_watched};
-use room::keep_blocks;
 use std::alloc::{AllocError, Global};
 use std::io::ErrorKind;
 use std::process::ExitCode;

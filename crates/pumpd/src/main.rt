@@ -1,7 +1,7 @@
 //! The daemon's program: one request on standard input, one reply on standard output.
 #![tactic(auto)]
 
-use command_line::{ended, show, words_of, wrong_words};
+use command_line::{ended, keep_blocks, show, words_of, wrong_words};
 use daemon_serve::{Serve, daemon_words, inetd};
 use io_edges::{StdSink, StdSource};
 use std::process::ExitCode;
@@ -45,6 +45,7 @@ fn obey(rt: &HostRuntime, words: &[&str]) -> io::Result<ExitCode> {
 
 // Serves one request from the host's input into its output.
 fn serve_one(rt: &HostRuntime) -> io::Result<ExitCode> {
+    keep_blocks(rt.alloc());
     let mut source = StdSource::new(rt);
     let mut sink = StdSink::new(rt.clone()?);
     Ok(ExitCode::from(inetd(rt.alloc(), &mut source, &mut sink)))
