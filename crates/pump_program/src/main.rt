@@ -16,7 +16,7 @@ ghost use Rattle.job_ends.specs.Outside.{seen_end};
 ghost use Rattle.job_ends.specs.Works.{IsFresh};
 
 use base_types::limits::CLIENT_LIMIT;
-use command_line::{ended, show, words_of};
+use command_line::{ended, keep_blocks, show, words_of};
 use daemon_serve::{MemWire, ServePeer};
 use host_tree::Folder;
 use io_edges::{FolderOuts, MemSpawner, Outs, Sink, Source, StdSink, StdSource, Wire};

@@ -8,8 +8,9 @@ use Rattle.daemon_cpp.proofs.opening.announced.Goals as goal
 
 pub returns-in-Ok-clause-begins : goal.returns-in-Ok-clause-begins
 returns-in-Ok-clause-begins c = λ world file.
-    begins-announced c.args.kept.now c.mark_front.new.kept c.args.source.now file world (front_events c.args.included c.args.place.now) c.args.pieces c.in-Ok.field-0
-    (subst (λ (r : Result (Unit {0}) Stop). Goes c.args.kept.now c.mark_front.new.kept c.args.source.now file (λ state. say (front_events c.args.included c.args.place.now) state) r) c.in-Ok.is (c.mark_front.ensures.goes file))
+    rw c.make_room.ensures
+    (begins-announced c.args.kept.now c.mark_front.new.kept c.args.source.now file world (front_events c.args.included c.args.place.now) c.args.pieces c.in-Ok.field-0
+    (subst (λ (r : Result (Unit {0}) Stop). Goes c.args.kept.now c.mark_front.new.kept c.args.source.now file (λ state. say (front_events c.args.included c.args.place.now) state) r) c.in-Ok.is (c.mark_front.ensures.goes file)))
 
 pub returns-in-Err-clause-begins : goal.returns-in-Err-clause-begins
 returns-in-Err-clause-begins c = λ world file.
