@@ -1,5 +1,5 @@
 -- The steps of the lexer that keeps the tokens of directives alone.
-use Rattle.std.specs.Prelude.{◌≡◌, ℕ, zero, ◌+◌, ◌<◌, Bool, true, false, cond, not, List, [], ◌∷◌, ◌++◌, ◌||◌, map, length, take, drop, Option, None, Some, codes, bytes_eq, refl}
+use Rattle.std.specs.Prelude.{◌≡◌, ℕ, zero, ◌+◌, ◌<◌, Bool, true, false, cond, not, List, [], ◌∷◌, ◌++◌, ◌||◌, map, length, take, drop, Option, None, Some, codes, bytes_eq, refl, ◌&&◌}
 use Rattle.std.proofs.Common.{sym, ◌∙◌, ap, arith, append_assoc, length-drop, drop-drop}
 use Rattle.std.proofs.lemmas.Bool.{not-true, and_parts}
 use Rattle.std.proofs.lemmas.List.{map-append}
@@ -266,6 +266,14 @@ text_step text splices old new at base n k end state g o below is begins ended e
     }
 
 -- only a token begins a line of text
+-- a newline is no token
+pub newline_no_text : (before : Before) (w : List ℕ) → begins_text before newline w ≡ false
+newline_no_text before w = and_none (begins_line before)
+  where
+    and_none : (b : Bool) → (b && false) ≡ false
+    and_none true = refl
+    and_none false = refl
+
 pub is_a_token : (before : Before) (p : Part) (w : List ℕ) → begins_text before p w ≡ true → (k : Kind) × (p ≡ token k)
 is_a_token before newline w h = absurd (let e : false ≡ true = (and_parts (begins_line before) false h).1 in cc)
 is_a_token before white w h = absurd (let e : false ≡ true = (and_parts (begins_line before) false h).1 in cc)

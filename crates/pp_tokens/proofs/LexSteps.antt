@@ -18,7 +18,7 @@ use Rattle.pp_tokens.specs.parts.Text.{after_word, is_due, opens_header}
 use Rattle.pp_tokens.specs.parts.Gathered.{newlines, lines_left, present_tokens, file_with, lines_with, present_with, before_with, IsGathered, IsPart, GathersNothing, EndsLine, EndsLastLine, AddsToken, AddsGap, Gathers}
 use Rattle.pp_tokens.proofs.Reading.{cut_off, next_element, drop_one_more, first_stands, some_length}
 use Rattle.pp_tokens.proofs.LinedRests.{lined_bytes, lined_past, cut_bytes, cut_line}
-use Rattle.pp_tokens.proofs.TextLemmas.{white_byte, white_first, no_delimiter}
+use Rattle.pp_tokens.proofs.TextLemmas.{white_byte, white_first, newline_first, no_delimiter}
 use Rattle.pp_tokens.proofs.OneLine.{short_newlines}
 use Rattle.pp_tokens.proofs.Joining.{lines_joined}
 use Rattle.pp_tokens.proofs.Places.{ascends_last, ascends_more, ascends_line, last_of_more, within_more, all_dropped, same_lines, line_more, token_more}
@@ -371,6 +371,32 @@ white_run view text splices old new at base (suc n) g state e some blank =
   where
     again : AddsGap new new None
     again = record { places = refl; ends = refl; first = sym (or_none new.unended); before = refl; begun = e.begun; space = e.space }
+
+newline_is : (text : List ℕ) (at : ℕ) (due : Bool) → at < length text → get_or text at 0 ≡ 10 → first_part due (drop at text) ≡ (newline, 1)
+newline_is text at due below is =
+    let here : get_or (drop at text) 0 0 ≡ get_or text at 0 = get_or-drop at text 0 0 ∙ ap (λ i. get_or text i 0) (omega arith) in
+    by_due due (newline_first (drop at text) (here ∙ is))
+  where
+    by_due : (d : Bool) → first_part false (drop at text) ≡ (newline, 1) → first_part d (drop at text) ≡ (newline, 1)
+    by_due false alone = alone
+    by_due true alone = no_delimiter text at below (rw is refl) ∙ alone
+
+one_newline : (xs : List ℕ) → 0 < length xs → get_or xs 0 0 ≡ 10 → newlines (take 1 xs) ≡ 1
+one_newline [] some is = absurd (omega (arith, some))
+one_newline (b ∷ bs) some is = rw is refl
+
+-- a newline at a place
+pub newline_at : (view : LexedFile → LexedFile) (text splices : List ℕ) (old new : Gathering) (at base : ℕ) → IsGathered text old → LexState view text splices old at base → EndsLine old new
+    → at < length text → get_or text at 0 ≡ 10
+    → LexState view text splices new (at + 1) (base + 1) × Gathers text old new newline (take 1 (drop at text)) (base + spliced_up_to splices at)
+newline_at view text splices old new at base g state e below is =
+    let xs = drop at text in
+    let some : 0 < length xs = omega (arith, length-drop at text) in
+    let here : get_or xs 0 0 ≡ get_or text at 0 = get_or-drop at text 0 0 ∙ ap (λ i. get_or text i 0) (omega arith) in
+    let one : newlines (take 1 xs) ≡ 1 = one_newline xs some (here ∙ is) in
+    let first : ◌≡◌ {A = Part × ℕ} (newline, 1) (first_part (is_due old.before) xs) = sym (newline_is text at (is_due old.before) below is) in
+    let step = line_gathered text (take 1 xs) (base + spliced_up_to splices at) old new g e in
+    (subst (λ m. LexState view text splices new (at + 1) (base + m)) one (lex_step view text splices old new at base 1 newline state below first step), step)
 
 -- the same, up to a place behind
 pub white_up_to : (view : LexedFile → LexedFile) (text splices : List ℕ) (old new : Gathering) (at base end : ℕ) → IsGathered text old → LexState view text splices old at base → AddsGap old new None

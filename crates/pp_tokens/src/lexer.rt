@@ -272,6 +272,7 @@ fn gather(alloc: Global, text: &[u8], splices: &[u32]) -> Result<Gathering, Allo
     let mut gathering = Gathering::with_room(alloc, text.len())?;
     let mut unpaired = Unpaired::new();
     // The line of a place is `base`, one more than the newlines before it, and the splices up to it.
+    // Newlines and white space, a third of what stands in a text, go before all else.
     let mut base = 1usize;
     let mut passed = 0usize;
     let mut at = 0usize;
@@ -279,6 +280,10 @@ fn gather(alloc: Global, text: &[u8], splices: &[u32]) -> Result<Gathering, Allo
         if is_white(text[at]) {
             gathering.add_white();
             at = white_end(text, at);
+        } else if text[at] == b'\n' {
+            gathering.end_line()?;
+            base += 1;
+            at += 1;
         } else {
             passed = splices_passed(splices, passed, at);
             let (what, size) = next_part(text, at, is_due(gathering.before), &mut unpaired);
@@ -345,6 +350,10 @@ fn gather_directives(alloc: Global, text: &[u8], splices: &[u32]) -> Result<Gath
         if is_white(text[at]) {
             gathering.add_white();
             at = white_end(text, at);
+        } else if text[at] == b'\n' {
+            gathering.end_line()?;
+            base += 1;
+            at += 1;
         } else {
             passed = splices_passed(splices, passed, at);
             let (what, size) = next_part(text, at, is_due(gathering.before), &mut unpaired);

@@ -9,9 +9,9 @@ use Rattle.pp_tokens.specs.parts.Unpaired.{KnowsUnpaired}
 use Rattle.pp_tokens.proofs.LaterPlaces.{known_later}
 use Rattle.pp_tokens.proofs.Splices.{up_to_all, up_to_later}
 use Rattle.pp_tokens.proofs.ShortParts.{short_stretch}
-use Rattle.pp_tokens.proofs.LexSteps.{first_within, first_is_part, nothing_gathered, lex_start, lex_step, lex_end, white_up_to}
+use Rattle.pp_tokens.proofs.LexSteps.{first_within, first_is_part, nothing_gathered, lex_start, lex_step, lex_end, white_up_to, newline_at}
 use Rattle.pp_tokens.proofs.lexer.gather.Goals as goal
-use Rattle.pp_tokens.proofs.lexer.gather.Goals.{After-gathering-else-is_white-1}
+use Rattle.pp_tokens.proofs.lexer.gather.Goals.{After-gathering-else-text-at-eq10-1}
 
 pub loop-at-init : goal.loop-at-init
 loop-at-init c = record {
@@ -25,19 +25,19 @@ loop-at-init c = record {
 }
 
 -- what stands first isn't empty, and lies within the text
-size_is : (c : After-gathering-else-is_white-1) → (0 < c.next_part-what.result.1) × (c.loop-at.at + c.next_part-what.result.1 ≤ length c.args.text.now)
+size_is : (c : After-gathering-else-text-at-eq10-1) → (0 < c.next_part-what.result.1) × (c.loop-at.at + c.next_part-what.result.1 ≤ length c.args.text.now)
 size_is c =
     let rest = drop c.loop-at.at c.args.text.now in
     let some : 0 < length rest = omega (arith, length-drop c.loop-at.at c.args.text.now, c.loop-at-test.true) in
     let is = first_within c.is_due.result rest (part_told c.next_part-what.result.0) c.next_part-what.result.1 some c.next_part-what.ensures.part in
     (is.0, omega (arith, is.1, length-drop c.loop-at.at c.args.text.now, c.loop-at-test.true))
 
-line_small : (c : After-gathering-else-is_white-1) → c.loop-at.base + c.splices_passed-passed.result ≤ 16777218
+line_small : (c : After-gathering-else-text-at-eq10-1) → c.loop-at.base + c.splices_passed-passed.result ≤ 16777218
 line_small c =
     omega (arith, c.loop-at.invariant.counted, c.loop-at-test.true, c.splices_passed-passed.ensures, up_to_all c.args.splices.now c.loop-at.at, c.requires.small)
 
-pub overflow_add-base : goal.overflow_add-base
-overflow_add-base c = omega (arith, line_small c)
+pub overflow_add-base-else-text-at-eq10 : goal.overflow_add-base-else-text-at-eq10
+overflow_add-base-else-text-at-eq10 c = omega (arith, line_small c)
 
 pub overflow_cast-base : goal.overflow_cast-base
 overflow_cast-base c = omega (arith, line_small c)
@@ -58,7 +58,7 @@ pub add-requires-clause-short : goal.add-requires-clause-short
 add-requires-clause-short c = short_stretch c.args.text.now c.loop-at.at c.next_part-what.result.1 16777216 (size_is c).1 c.requires.short
 
 pub stretch-requires : goal.stretch-requires
-stretch-requires c = (size_is (goal.at.stretch-requires c).After-gathering-else-is_white-1).1
+stretch-requires c = (size_is (goal.at.stretch-requires c).After-gathering-else-text-at-eq10-1).1
 
 pub newlines-base-requires : goal.newlines-base-requires
 newlines-base-requires c =
@@ -69,11 +69,11 @@ newlines-base-requires c =
           (first_is_part c.is_due.result rest (part_told c.next_part-what.result.0) c.next_part-what.result.1 some c.next_part-what.ensures.part);
     }
 
-pub overflow_add-at : goal.overflow_add-at
-overflow_add-at c = omega (arith, (size_is (goal.at.overflow_add-at c).After-gathering-else-is_white-1).1, c.requires.small)
+pub overflow_add-at-else-text-at-eq10 : goal.overflow_add-at-else-text-at-eq10
+overflow_add-at-else-text-at-eq10 c = omega (arith, (size_is (goal.at.overflow_add-at-else-text-at-eq10 c).After-gathering-else-text-at-eq10-1).1, c.requires.small)
 
 pub loop-at-smaller : goal.loop-at-smaller
-loop-at-smaller c = let size = size_is (goal.at.loop-at-smaller c).After-gathering-else-is_white-1 in omega (arith, size.0, size.1)
+loop-at-smaller c = let size = size_is (goal.at.loop-at-smaller c).After-gathering-else-text-at-eq10-1 in omega (arith, size.0, size.1)
 
 pub loop-at-preserved-then-is_white : goal.loop-at-preserved-then-is_white
 loop-at-preserved-then-is_white c =
@@ -96,9 +96,27 @@ loop-at-preserved-then-is_white c =
       state = run.0;
     }
 
+pub loop-at-preserved-then-text-at-eq10 : goal.loop-at-preserved-then-text-at-eq10
+loop-at-preserved-then-text-at-eq10 c =
+    let text = c.args.text.now in
+    let splices = c.args.splices.now in
+    let at = c.loop-at.at in
+    let next =
+    newline_at (λ f. f) text splices c.loop-at.gathering c.end_line.new.self at c.loop-at.base c.loop-at.invariant.gathered c.loop-at.invariant.state c.in_ok-end_line.ensures
+    c.loop-at-test.true c.if-text-at-eq10.true in
+    record {
+      within = omega (arith, c.loop-at-test.true);
+      counted = omega (arith, c.loop-at.invariant.counted);
+      passes = omega (arith, c.loop-at.invariant.passes, up_to_later splices at 1);
+      known = known_later c.loop-at.unpaired text at 1 c.loop-at.invariant.known;
+      few = omega (arith, c.loop-at.invariant.few, next.1.few);
+      gathered = next.1.gathered;
+      state = next.0;
+    }
+
 pub loop-at-preserved : goal.loop-at-preserved
 loop-at-preserved c =
-    let size = size_is (goal.at.loop-at-preserved c).After-gathering-else-is_white-1 in
+    let size = size_is (goal.at.loop-at-preserved c).After-gathering-else-text-at-eq10-1 in
     let text = c.args.text.now in
     let splices = c.args.splices.now in
     let at = c.loop-at.at in

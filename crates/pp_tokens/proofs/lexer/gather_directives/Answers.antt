@@ -3,7 +3,7 @@ use Rattle.std.proofs.lemmas.List.Sums.{count_by-le-length}
 use Rattle.std.proofs.lemmas.List.{length-take-le}
 use Rattle.std.proofs.lemmas.Bool.{and_parts}
 use Rattle.pp_tokens.specs.Lined.{spliced_up_to}
-use Rattle.pp_tokens.specs.Lines.{Part, first_part}
+use Rattle.pp_tokens.specs.Lines.{Part, newline, first_part}
 use Rattle.pp_tokens.specs.DirectiveLines.{directives_alone}
 use Rattle.pp_tokens.specs.parts.Gathered.{newlines, IsPart, Gathers}
 use Rattle.pp_tokens.specs.parts.Text.{is_due, part_told}
@@ -12,8 +12,8 @@ use Rattle.pp_tokens.specs.parts.Unpaired.{KnowsUnpaired}
 use Rattle.pp_tokens.proofs.LaterPlaces.{known_later}
 use Rattle.pp_tokens.proofs.Splices.{up_to_all, up_to_later}
 use Rattle.pp_tokens.proofs.ShortParts.{short_stretch}
-use Rattle.pp_tokens.proofs.LexSteps.{first_within, first_is_part, nothing_gathered, lex_start, lex_step, lex_end, white_up_to}
-use Rattle.pp_tokens.proofs.DirectiveSteps.{nothing_outlined, gap_outlined, part_outlined, text_outlined, text_step, end_outlined, is_a_token}
+use Rattle.pp_tokens.proofs.LexSteps.{first_within, first_is_part, nothing_gathered, lex_start, lex_step, lex_end, white_up_to, newline_at}
+use Rattle.pp_tokens.proofs.DirectiveSteps.{nothing_outlined, gap_outlined, part_outlined, text_outlined, text_step, end_outlined, is_a_token, newline_no_text}
 use Rattle.pp_tokens.proofs.lexer.gather_directives.Goals as goal
 use Rattle.pp_tokens.proofs.lexer.gather_directives.Goals.{After-next_part-what}
 
@@ -58,8 +58,8 @@ line_small c =
 pub stretch-word-requires : goal.stretch-word-requires
 stretch-word-requires c = (size_is c).1
 
-pub overflow_add-at : goal.overflow_add-at
-overflow_add-at c = omega (arith, (size_is (goal.at.overflow_add-at c).After-next_part-what).1, c.requires.small)
+pub overflow_add-at-then-begins_text : goal.overflow_add-at-then-begins_text
+overflow_add-at-then-begins_text c = omega (arith, (size_is (goal.at.overflow_add-at-then-begins_text c).After-next_part-what).1, c.requires.small)
 
 pub line_end-end-requires-clause-within : goal.line_end-end-requires-clause-within
 line_end-end-requires-clause-within c = (size_is (goal.at.line_end-end-requires-clause-within c).After-next_part-what).1
@@ -104,8 +104,8 @@ loop-at-preserved-then-begins_text c =
           c.line_end-end.ensures.end c.in_ok-end_text.ensures;
     }
 
-pub overflow_add-base : goal.overflow_add-base
-overflow_add-base c = omega (arith, line_small (goal.at.overflow_add-base c).After-next_part-what)
+pub overflow_add-base-else-begins_text : goal.overflow_add-base-else-begins_text
+overflow_add-base-else-begins_text c = omega (arith, line_small (goal.at.overflow_add-base-else-begins_text c).After-next_part-what)
 
 pub overflow_cast-base : goal.overflow_cast-base
 overflow_cast-base c = omega (arith, line_small (goal.at.overflow_cast-base c).After-next_part-what)
@@ -155,6 +155,28 @@ loop-at-preserved-then-is_white c =
       gathered = run.1;
       outlined = gap_outlined text old new _ c.loop-at.invariant.outlined c.add_white.ensures;
       state = run.0;
+    }
+
+pub loop-at-preserved-then-text-at-eq10 : goal.loop-at-preserved-then-text-at-eq10
+loop-at-preserved-then-text-at-eq10 c =
+    let text = c.args.text.now in
+    let splices = c.args.splices.now in
+    let at = c.loop-at.at in
+    let old = c.loop-at.gathering in
+    let new = c.end_line.new.self in
+    let next =
+    newline_at directives_alone text splices old new at c.loop-at.base c.loop-at.invariant.gathered c.loop-at.invariant.state c.in_ok-end_line.ensures
+    c.loop-at-test.true c.if-text-at-eq10.true in
+    record {
+      within = omega (arith, c.loop-at-test.true);
+      counted = omega (arith, c.loop-at.invariant.counted);
+      passes = omega (arith, c.loop-at.invariant.passes, up_to_later splices at 1);
+      known = known_later c.loop-at.unpaired text at 1 c.loop-at.invariant.known;
+      few = omega (arith, c.loop-at.invariant.few, next.1.few);
+      gathered = next.1.gathered;
+      outlined = part_outlined text (take 1 (drop at text)) old new newline (c.loop-at.base + spliced_up_to splices at) c.loop-at.invariant.outlined next.1
+          (newline_no_text old.before (take 1 (drop at text)));
+      state = next.0;
     }
 
 pub loop-at-preserved : goal.loop-at-preserved
