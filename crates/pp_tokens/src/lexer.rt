@@ -427,9 +427,9 @@ impl Lexed {
         }
     }
 
-    /// Whether these are the tokens of a body of at most 16 MiB, read with trigraphs or without: what `lex` gives of it, which it may deny
-    /// where it was lexed for its directives alone. It takes no memory, and the first difference between the body and the one that was
-    /// lexed ends it.
+    /// Whether these are sure to be the tokens of a body of at most 16 MiB, read with trigraphs or without: what `lex` gives of it. `false` tells
+    /// nothing: it is the answer where the file was lexed for its directives alone, and where a body of other bytes has these tokens
+    /// too. It takes no memory, and the first difference between the body and the one that was lexed ends it.
     pub fn is_of(&self, body: &[u8], trigraphs: bool) -> bool
         requires { length body.now ≤ body_limit }
         ensures { result ≡ true → self.now ≡ lexed trigraphs body.now }
