@@ -31,7 +31,7 @@ use directive_scan::{
 use macro_expand::{Expander, Mode, Run};
 use pp_tokens::{Token, TokenRef, Tokens};
 use search_path::header_ask;
-use std::alloc::{AllocError, Global};
+use std::alloc::Global;
 use tree_model::Tree;
 
 /// Whether the group behind a line of a conditional is read, where none before it was.
@@ -97,7 +97,7 @@ fn condition<T: Tree>(
     if !has_probe_word(tokens) {
         return answered_condition(alloc, kept, places, at, Run::Lexed(tokens));
     }
-    match copied(alloc, tokens) {
+    match tokens.to_list(alloc) {
         Ok(line) => probing_condition(alloc, tree, kept, places, at, line.as_slice()),
         Err(_) => Err(Stop::Memory),
     }
@@ -119,17 +119,6 @@ fn is_probe(token: &TokenRef<'_>) -> bool
     ensures { result ≡ is_word (codes "__has_include") (token_seen token.now) }
 {
     token.is_identifier() && token.text == b"__has_include".as_slice()
-}
-
-// A copy of a line's tokens.
-fn copied(alloc: Global, lent: Tokens<'_>) -> Result<List<Token>, AllocError>
-    ensures { IfOk result (λ ts. ts ≡ rest_of lent.entry) }
-{
-    let mut tokens = List::new(alloc);
-    for token in lent {
-        tokens.push(token.to_token(alloc)?)?;
-    }
-    Ok(tokens)
 }
 
 // The condition of a line that may have `__has_include`s.

@@ -1,7 +1,6 @@
 // The pieces of a lexed file.
 ghost use Rattle.std.specs.Prelude as seen;
 ghost use Rattle.std.specs.Prelude.{◌≡◌, ◌++◌, ◌∷◌, [], map, drop, unwrap_or, slice_get, IfOk, OnOk};
-ghost use Rattle.pp_tokens.specs.Tokens.{rest_of};
 ghost use Rattle.directive_scan.specs.Directives.{header_name, target_of, pragma_of, directive_of, pieces};
 ghost use Rattle.directive_scan.specs.Gathered.{tokens_at_line};
 ghost use Rattle.directive_scan.specs.Spots.{piece_at};
@@ -11,7 +10,7 @@ use crate::header::between;
 use crate::name::{DirectiveName, name_at};
 use crate::spots::{Spot, spots};
 use base_types::{Bytes, List};
-use pp_tokens::{Kind, Lexed, Token, Tokens};
+use pp_tokens::{Kind, Lexed, Token};
 use std::alloc::{AllocError, Global};
 
 /// The pieces of a lexed file: its directives, and the runs of text lines between them (ISO C 6.10), with a copy of their
@@ -40,24 +39,13 @@ fn piece_of(alloc: Global, lexed: &Lexed, spot: Spot) -> Result<Piece, AllocErro
 {
     match spot {
         Spot::Text { from, end } => Ok(Piece::Run {
-            tokens: copied(alloc, lexed.tokens(from, end))?,
+            tokens: lexed.tokens(from, end).to_list(alloc)?,
         }),
         Spot::Line { line, at, .. } => Ok(Piece::Line {
             at,
             what: directive_at(alloc, lexed, line)?,
         }),
     }
-}
-
-// A copy of the tokens of a stretch.
-fn copied(alloc: Global, lent: Tokens<'_>) -> Result<List<Token>, AllocError>
-    ensures { IfOk result (λ ts. ts ≡ rest_of lent.entry) }
-{
-    let mut tokens = List::new(alloc);
-    for token in lent {
-        tokens.push(token.to_token(alloc)?)?;
-    }
-    Ok(tokens)
 }
 
 // The directive on a line, by its tokens behind the `#`. Tokens are made where the directive has them.

@@ -1,10 +1,12 @@
 // The tokens of a stretch of a lexed file, one after another.
-ghost use Rattle.std.specs.Prelude.{◌≡◌, ◌-◌, take, drop};
+ghost use Rattle.std.specs.Prelude.{◌≡◌, ◌-◌, take, drop, IfOk};
 ghost use Rattle.pp_tokens.specs.Lines.{all_tokens};
 ghost use Rattle.pp_tokens.specs.Tokens.{rest_of};
 
 use crate::lexer::Lexed;
-use crate::token::TokenRef;
+use crate::token::{Token, TokenRef};
+use base_types::List;
+use std::alloc::{AllocError, Global};
 
 /// The tokens of a stretch of a lexed file that are still to come. A copy goes on by itself; each token costs the same,
 /// wherever it stands.
@@ -25,6 +27,19 @@ impl Lexed {
             at: from,
             end,
         }
+    }
+}
+
+impl Tokens<'_> {
+    /// A copy of the tokens that are still to come, each with its own spelling. The only error is want of memory.
+    pub fn to_list(self, alloc: Global) -> Result<List<Token>, AllocError>
+        ensures { IfOk result (λ ts. ts ≡ rest_of self.entry) }
+    {
+        let mut tokens = List::new(alloc);
+        for token in self {
+            tokens.push(token.to_token(alloc)?)?;
+        }
+        Ok(tokens)
     }
 }
 

@@ -1,6 +1,6 @@
 use Rattle.std.proofs.Common.{◌≡◌, ◌++◌}
 use Rattle.pp_tokens.specs.Tokens.{rest_of}
-use Rattle.directive_scan.proofs.scanner.copied.Given as goal
+use Rattle.pp_tokens.proofs.tokens.Tokens.to_list.Given as goal
 
 abbrev pub invariant-loop-token : goal.invariant-loop-token
-invariant-loop-token l = l.tokens ++ rest_of l.token-iterator ≡ rest_of l.lent
+invariant-loop-token l = l.tokens ++ rest_of l.token-iterator ≡ rest_of l.self

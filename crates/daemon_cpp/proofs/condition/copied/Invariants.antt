@@ -1,6 +1,0 @@
-use Rattle.std.proofs.Common.{◌≡◌, ◌++◌}
-use Rattle.pp_tokens.specs.Tokens.{rest_of}
-use Rattle.daemon_cpp.proofs.condition.copied.Given as goal
-
-abbrev pub invariant-loop-token : goal.invariant-loop-token
-invariant-loop-token l = l.tokens ++ rest_of l.token-iterator ≡ rest_of l.lent
