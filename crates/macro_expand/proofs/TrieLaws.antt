@@ -280,7 +280,7 @@ with_front-ordered t name hash is ok = record {
 
 -- A name that may be there.
 
-found-with : (t : Tree) (name : List ℕ) (hash : ℕ) → hash ≡ name_hash name → IsOrdered t → found name hash hash t ≡ names_in (trie_names t) name
+pub found-with : (t : Tree) (name : List ℕ) (hash : ℕ) → hash ≡ name_hash name → IsOrdered t → found name hash hash t ≡ names_in (trie_names t) name
 found-with t name hash is ok = ap (λ h. found name h h t) is ∙ found-is t name ok
 
 there : (t : Tree) (name n : List ℕ) → names_in (trie_names t) name ≡ true → names_in (trie_names t) n ≡ (bytes_eq n name || names_in (trie_names t) n)
@@ -534,10 +534,6 @@ stands_in-names (Branch m h z o) (Linked k j t) n whole ok all is =
 stands_in-names s (Branch k j y p) n whole ok all is = stands_behind-names s (Branch k j y p) n whole ok all is
 
 -- What the operations of hide sets make.
-
-pub hides-is : (t : Tree) (names : List (List ℕ)) (name : List ℕ) (h : ℕ) (r : Bool) → IsOrdered t → trie_names t ≡ names →
-    h ≡ name_hash name → r ≡ found name h h t → r ≡ names_in names name
-hides-is t names name h r ok seen own is = is ∙ found-with t name h own ok ∙ ap (λ (l : List (List ℕ)). names_in l name) seen
 
 module _ (t made : Tree) (names : List (List ℕ)) (kept name : List ℕ) (h : ℕ)
     (same : kept ≡ name) (own : h ≡ name_hash name) (is : made ≡ with_front kept h t) where

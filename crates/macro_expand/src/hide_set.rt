@@ -9,7 +9,8 @@
 // name; else it looks for each name of the smaller. What the model keeps is `IsOrdered`: every name is met on its way.
 ghost use Rattle.std.specs.Prelude.{◌≡◌, IfOk};
 ghost use Rattle.macro_expand.specs.parts.Tries as tries;
-ghost use Rattle.macro_expand.specs.parts.Tries.{name_hash, Linked, Branch, trie_of, found, with_leaf, with_front, with_common, with_all_common};
+ghost use Rattle.macro_expand.specs.Sets.{names_in};
+ghost use Rattle.macro_expand.specs.parts.Tries.{IsOrdered, name_hash, Linked, Branch, trie_names, trie_of, found, with_leaf, with_front, with_common, with_all_common};
 
 use base_types::Bytes;
 use std::alloc::{AllocError, Global};
@@ -97,11 +98,7 @@ impl HideSet {
     pub(crate) fn hides(&self, name: &[u8]) -> bool
         ensures { result ≡ names_in self.now name.now }
     {
-        if self.is_none() {
-            return false;
-        }
-        let hash = hash_of(name);
-        finds(&self.names, name, hash, hash)
+        has_name(&self.names, name)
     }
 
     #[inline(always)]
@@ -206,6 +203,26 @@ fn hash_of(name: &[u8]) -> u64
         hash = hash.wrapping_mul(0x100000001b3);
     }
     hash
+}
+
+// Whether a name is one of a trie's. Those in front are compared at once, since few names are as long as another: a hash costs more.
+fn has_name(trie: &Trie, name: &[u8]) -> bool
+    requires { IsOrdered (trie_of trie.now) }
+    ensures { result ≡ names_in (trie_names (trie_of trie.now)) name.now }
+{
+    match trie {
+        Trie::Empty => false,
+        Trie::Recent(link) => {
+            if name == link.name.as_slice() {
+                return true;
+            }
+            has_name(&link.older, name)
+        }
+        Trie::Fork(_) => {
+            let hash = hash_of(name);
+            finds(trie, name, hash, hash)
+        }
+    }
 }
 
 // Whether a name is met on the way that its key says, which is what is left of its hash.
