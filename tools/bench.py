@@ -104,6 +104,8 @@ def plain_text(bench):
         commands = [GCC, TCC, COUNT, [*EXPAND, "text"]]
         rows += bench.rows(label, commands, [[path]], size=len(body), count=count)
         bench.goal(f"{label}, expanded and laid out, to gcc -E", rows[-1], Row.ratio, 0.45, "")
+        bench.goal(f"{label}, allocations for 1,000 tokens", rows[-1], Row.allocations_per_thousand, 1, "")
+        bench.goal(f"{label}, peak memory", rows[-1], Row.peak_per_byte, 12, "bytes/byte")
         rows.append(bench.job(label, os.path.dirname(path), size=len(body), count=count, beside=rows[-4]))
         bench.goal(f"{label}, a whole job, to gcc -E", rows[-1], Row.ratio, 0.45, "")
     return Table("Text without macros and directives, in one file. The ratio is to gcc -E.", "token", rows)
@@ -222,13 +224,30 @@ def real_code(bench):
     return Table("Real code without conditionals and includes. The ratio is to gcc -E.", "token", rows)
 
 
+# Made texts that are to take less than a second.
+IN_A_SECOND = [
+    "a chain of 20,000 names",
+    "300 nested calls, 100 times",
+    "500 words in 20 calls, in a chain of 3,000 names",
+    "a chain of 9,600 calls",
+    "a call with 40,000 parameters",
+    "20,000 spellings pasted",
+]
+
+
 def expansion(bench):
     """Made texts whose expansion takes long, and nearly the most work that a run of text has."""
-    rows = []
+    rows, expanded = [], {}
     for label, text in made_texts():
         path = bench.write(f"expansion{len(rows)}.c", text.encode())
         _, _, units = bench.numbers(EXPAND, [path])
         rows += bench.rows(label, [GCC, TCC, EXPAND], [[path]], count=units)
+        expanded[label] = rows[-1]
+    bench.goal("a token of a body that is put in", expanded["a body of 50 tokens, 100,000 times"], per_one, 40, "ns")
+    for label in IN_A_SECOND:
+        bench.goal(label, expanded[label], Row.least, 1, "s")
+    shorter, longer = expanded["a chain of 4,800 calls"], expanded["a chain of 9,600 calls"]
+    bench.goal("a chain of calls twice as long, of the time", longer, lambda row: row.least() / shorter.least(), 2.5, "")
     path = bench.write("doubling.c", bodies.doubling("A21 A20").encode())
     _, _, units = bench.numbers(EXPAND, [path])
     rows.append(bench.row("doubling, nearly the most", EXPAND, [[path]], count=units))

@@ -130,8 +130,9 @@ def expansions():
     words = " ".join(f"w{n}" for n in range(500))
     nested = f"#define F(x) x\n#define A0 {'F(' * 20}{words}{')' * 20}\n"
     yield "500 words in 20 calls, in a chain of 3,000 names", f"{nested}{chain}A3000\n"
-    calls = lines_of(4_800, lambda n: f"#define F{n + 1}(x) F{n}(x)\n")
-    yield "a chain of 4,800 calls", f"#define F0(x) x\n{calls}F4800(1)\n"
+    for count in [4_800, 9_600]:
+        calls = lines_of(count, lambda n: f"#define F{n + 1}(x) F{n}(x)\n")
+        yield f"a chain of {count:,} calls", f"#define F0(x) x\n{calls}F{count}(1)\n"
     parameters = ",".join(f"p{n}" for n in range(40_000))
     yield "a call with 40,000 parameters", f"#define F({parameters}) {'p39999 ' * 100_000}\nF({',' * 39_999})\n"
     yield "20,000 spellings pasted", f"#define F(x) {' ## '.join(['x'] * 20_000)}\nF(a)\n"

@@ -107,6 +107,14 @@ class Row:
     def nanoseconds(self, number):
         return self.least() / number * 1e9
 
+    def allocations_per_thousand(self):
+        """Allocations for each thousand of what is counted; None where they aren't counted."""
+        return sum(line[0] for line in self.taken) / self.count * 1e3 if self.taken and self.count else None
+
+    def peak_per_byte(self):
+        """Bytes of memory at the peak for each byte that is read; None where they aren't counted."""
+        return max(line[2] for line in self.taken) * 1024 / self.size if self.taken and self.size else None
+
     def cells(self):
         if not self.jobs:
             return [self.input, self.program, *[""] * 9, self.said]
