@@ -20,3 +20,4 @@ pub mod PlacingLemmas
 pub mod PieceLemmas
 pub mod PendingLemmas
 pub mod StreamLemmas
+pub mod StampLaws

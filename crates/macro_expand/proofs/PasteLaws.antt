@@ -43,7 +43,7 @@ made_none a b text o is kind none = paste_is a b text o is kind ∙ ap (Paste_of
 pub made_some : (a b : Kept) (text : List ℕ) (o : Option Kind) (k : Kind) (hidden : List (List ℕ)) → text ≡ a.token.text ++ b.token.text →
     o ≡ kind_of text → o ≡ Some k → ((n : List ℕ) → names_in hidden n ≡ (names_in a.hidden n && names_in b.hidden n)) →
     pasted (Some (marked_of a)) (Some (marked_of b))
-    ≡ pasted_as a b (Some (record { token = record { kind = k; text = text; line = a.token.line; space = a.token.space }; hidden = hidden }))
+    ≡ pasted_as a b (Some (record { token = record { kind = k; text = text; line = a.token.line; space = a.token.space }; hidden = hidden; stamp = 0 }))
 made_some a b text o k hidden is kind some both =
     paste_is a b text o is kind ∙ ap (Paste_of a b text) some
     ∙ ap (λ h. Ok (Some (record { token = record { kind = k; text = text; line = a.token.line; space = a.token.space }; hidden = h })))

@@ -1,5 +1,5 @@
 -- How the tokens of a replacement are put in.
-use Rattle.std.proofs.Common.{◌≡◌, ℕ, ◌+◌, ◌<◌, ◌≤◌, ◌||◌, List, [], ◌∷◌, ◌++◌, map, length, get_or, take, drop, suc, add-one, drop-cons, arith, ap, sym, ◌∙◌, subst}
+use Rattle.std.proofs.Common.{◌≡◌, ℕ, Bool, true, false, refl, ◌+◌, ◌<◌, ◌≤◌, ◌||◌, List, [], ◌∷◌, ◌++◌, map, length, get_or, take, drop, suc, add-one, drop-cons, arith, ap, sym, ◌∙◌, subst}
 use Rattle.std.proofs.Math.ListN.{set, length-set}
 use Rattle.std.proofs.Math.Seq.{take-append_seam}
 use Rattle.std.proofs.lemmas.List.{map-append, take_all, take_more, take_more_set, drop-set-lt}
@@ -12,6 +12,15 @@ pub placed-hidden : (line : ℕ) (hidden : Names) (m : Marked) (all : List (List
     ((n : List ℕ) → names_in all n ≡ (m.hidden n || hidden n)) →
     (let r : Marked = record { token = record m.token { line = line }; hidden = names_in all } in r) ≡ placed line hidden m
 placed-hidden line hidden m all same = ap (λ (h : Names). let r : Marked = record { token = record m.token { line = line }; hidden = h } in r) (fun_ext same)
+
+-- the names of a replacement, where those of a token are among them
+pub taken_in : (all hidden own : List (List ℕ)) → all ≡ hidden → ((n : List ℕ) → names_in own n ≡ true → names_in hidden n ≡ true) →
+    (n : List ℕ) → names_in all n ≡ (names_in own n || names_in hidden n)
+taken_in all hidden own same within n = ap (λ (l : List (List ℕ)). names_in l n) same ∙ go (names_in own n) (names_in hidden n) (within n)
+  where
+    go : (o h : Bool) → (o ≡ true → h ≡ true) → h ≡ (o || h)
+    go true h is = is refl
+    go false h is = refl
 
 -- A loop over a list in place: what was placed so far, and what is left, which is as it was.
 module _ {A B : Type 0} (see : A → B) (place : B → B) (xs ys : List A) (i : ℕ) where

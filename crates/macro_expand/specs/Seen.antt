@@ -28,7 +28,7 @@ marked_of m = record { token = m.token; hidden = names_in m.hidden }
 
 -- a token with no hidden name, as code keeps it
 abbrev pub kept_plain : Token → Kept
-kept_plain t = record { token = t; hidden = [] }
+kept_plain t = record { token = t; hidden = []; stamp = 0 }
 
 abbrev pub kept_token : Kept → Token
 kept_token m = m.token

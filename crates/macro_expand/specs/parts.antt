@@ -8,6 +8,7 @@
 --     Pending  what a run of text still has
 --     Naming   what code reads of a name
 --     Steps    what one step of an expansion puts out, and what is to come
+--     Stamps   what the stamp of a token says of its hide set
 pub mod Pending
 pub mod Parts
 pub mod Pieces
@@ -17,3 +18,4 @@ pub mod Naming
 pub mod Pasting
 pub mod Tries
 pub mod Steps
+pub mod Stamps

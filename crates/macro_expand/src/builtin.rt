@@ -1,10 +1,11 @@
 // `__FILE__` and `__LINE__` (ISO C 6.10.8.1).
-ghost use Rattle.std.specs.Prelude.{◌≡◌, ◌⊎◌, ◌+◌, ◌≤◌, ◌++◌, ◌∷◌, [], map, length, Some, None, IfOk, IfErr, OnOk};
+ghost use Rattle.std.specs.Prelude.{◌≡◌, ◌⊎◌, ℕ, ◌+◌, ◌≤◌, ◌++◌, ◌∷◌, [], map, length, Some, None, IfOk, IfErr, OnOk};
 ghost use Rattle.std.specs.Option.{option_map};
 ghost use Rattle.macro_expand.specs.declared.marked.Role.TheVariants.{FileName, LineNumber};
 ghost use Rattle.macro_expand.specs.Expansion.{head_role, replaced_token, in_quotes};
 ghost use Rattle.macro_expand.specs.Answered.{expanded_for};
 ghost use Rattle.macro_expand.specs.Seen.{marked_of, StepKeepsResult, Stops};
+ghost use Rattle.macro_expand.specs.parts.Stamps.{Stamps, Stamped, AllStamped};
 
 use crate::answers::Answers;
 use crate::expansion::{charge, put};
@@ -30,6 +31,8 @@ pub(crate) fn expand_file_name<'s, S, A: Answers<S>>(
     requires role { head_role mode (marked_of t) (map marked_of pending.old) ≡ FileName }
     ensures ok { OnOk result (StepKeepsResult (A.answerer source.now) mode depth answers.old work.old.left out.old.items t.entry pending.old
         answers.new work.new.left out.new.items pending.new) }
+    ensures stamped { (sets : Stamps) (next : ℕ) → Stamped sets next t.entry → AllStamped sets next out.old.items → OnOk result (AllStamped sets next out.new.items) }
+    ensures pending { pending.new ≡ pending.old }
     ensures spends { work.new.left ≤ work.old.left }
     ensures shorter { OnOk result (work.new.left + length pending.new ≤ work.old.left + length pending.old) }
     ensures grows { OnOk result (length out.new.items + length pending.new + work.new.left ≤ length out.old.items + length pending.old + 1 + work.old.left) }
@@ -55,6 +58,8 @@ pub(crate) fn expand_line_number<'s, S, A: Answers<S>>(
     requires role { head_role mode (marked_of t) (map marked_of pending.old) ≡ LineNumber }
     ensures ok { OnOk result (StepKeepsResult (A.answerer source.now) mode depth answers.old work.old.left out.old.items t.entry pending.old
         answers.new work.new.left out.new.items pending.new) }
+    ensures stamped { (sets : Stamps) (next : ℕ) → Stamped sets next t.entry → AllStamped sets next out.old.items → OnOk result (AllStamped sets next out.new.items) }
+    ensures pending { pending.new ≡ pending.old }
     ensures spends { work.new.left ≤ work.old.left }
     ensures shorter { OnOk result (work.new.left + length pending.new ≤ work.old.left + length pending.old) }
     ensures grows { OnOk result (length out.new.items + length pending.new + work.new.left ≤ length out.old.items + length pending.old + 1 + work.old.left) }
@@ -113,6 +118,7 @@ fn put_in_place<'s>(
     ensures paid { OnOk result (work.new.left + 2 ≡ work.old.left) }
     ensures spends { work.new.left ≤ work.old.left }
     ensures longer { OnOk result (length out.new.items ≡ length out.old.items + 1) }
+    ensures stamped { (sets : Stamps) (next : ℕ) → Stamped sets next t.entry → AllStamped sets next out.old.items → OnOk result (AllStamped sets next out.new.items) }
     ensures err { IfErr result (λ e. (e ≡ RunError.Memory) ⊎ ((e ≡ RunError.Work) × (work.old.left ≤ 1))) }
 {
     charge(work, 1)?;
@@ -126,9 +132,14 @@ fn in_place_of<'s>(
     kind: Kind,
     text: Bytes,
 ) -> Result<Marked<'s>, AllocError>
-    ensures { IfOk result (λ m. marked_of m ≡ replaced_token (marked_of t.entry) kind text) }
+    ensures made { IfOk result (λ m. marked_of m ≡ replaced_token (marked_of t.entry) kind text) }
+    ensures stamped { (sets : Stamps) (next : ℕ) → Stamped sets next t.entry → IfOk result (λ m. Stamped sets next m) }
 {
-    let Marked { token, hidden } = t;
+    let Marked {
+        token,
+        hidden,
+        stamp,
+    } = t;
     let token = TokenCow::owned(
         alloc,
         Token {
@@ -138,7 +149,11 @@ fn in_place_of<'s>(
             space: token.space(),
         },
     )?;
-    Ok(Marked { token, hidden })
+    Ok(Marked {
+        token,
+        hidden,
+        stamp,
+    })
 }
 
 // The text between quotes.

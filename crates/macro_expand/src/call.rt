@@ -1,11 +1,12 @@
 // Calls of function-like macros (ISO C 6.10.3 paragraphs 10 and 11).
-ghost use Rattle.std.specs.Prelude.{◌≡◌, ◌⊎◌, ◌+◌, ◌-◌, ◌^◌, ◌<◌, ◌≤◌, ◌++◌, ◌∷◌, [], List, true, false, Some, None, map, length, IfOk, IfErr, OnOk, IsTrue, IsFalse};
+ghost use Rattle.std.specs.Prelude.{◌≡◌, ◌⊎◌, ℕ, IfSome, ◌+◌, ◌-◌, ◌^◌, ◌<◌, ◌≤◌, ◌++◌, ◌∷◌, [], List, true, false, Some, None, map, length, IfOk, IfErr, OnOk, IsTrue, IsFalse};
 ghost use Rattle.macro_expand.specs.Replacement.{Marked as MarkedToken};
 ghost use Rattle.macro_expand.specs.parts.Reading as reading;
 ghost use Rattle.macro_expand.specs.parts.Reading.{CutsCall, arguments_cut, call_mark, cut_from, cuts_for, ends_call, is_cut, nesting_after, read_arguments};
 ghost use Rattle.std.specs.List.{list_any};
 ghost use Rattle.macro_expand.specs.parts.Parts.{takes_written};
 ghost use Rattle.macro_expand.specs.Seen.{marked_of, lists_of, part_seen, parts_seen, ReadsCall, RefusesCall, KeepsWritten};
+ghost use Rattle.macro_expand.specs.parts.Stamps.{Stamps, Stamped, AllStamped, EachStamped, CutStamped, CallStamped};
 
 use crate::marked::Marked;
 use crate::outcome::RunError;
@@ -34,6 +35,7 @@ pub(crate) fn read_call<'a>(
     ensures ok { IfOk result (λ r. ReadsCall (length params.now) variadic (map marked_of pending.old)
         (lists_of r.written.items) (marked_of r.close) (map marked_of pending.new)) }
     ensures shorter { length pending.new ≤ length pending.old }
+    ensures stamped { (sets : Stamps) (next : ℕ) → AllStamped sets next pending.old → IfOk result (λ r. AllStamped sets next pending.new × CallStamped sets next r) }
     ensures err { IfErr result (λ e. RefusesCall e t.now (length params.now) variadic (map marked_of pending.old)) }
 {
     let count = params.len();
@@ -53,6 +55,7 @@ fn with_arguments<'a>(
 ) -> Result<ReadCall<'a>, RunError>
     ensures ok { IfOk result (λ r. arguments_cut count variadic (lists_of call.entry.written.items) ≡ Some (lists_of r.written.items)) }
     ensures close { IfOk result (λ r. r.close ≡ call.entry.close) }
+    ensures stamped { (sets : Stamps) (next : ℕ) → EachStamped sets next call.entry.written.items → IfOk result (λ r. EachStamped sets next r.written.items) }
     ensures err { IfErr result (λ e. (e ≡ RunError.Memory) ⊎ ((e ≡ RunError.Count t.now.token.text t.now.token.line)
         × (arguments_cut count variadic (lists_of call.entry.written.items) ≡ None))) }
 {
@@ -113,6 +116,7 @@ pub(crate) fn with_kept<'a>(
     call: ReadCall<'a>,
 ) -> Result<(Vec<Vec<Marked<'a>>>, ReadCall<'a>), AllocError>
     ensures written { IfOk result (λ r. lists_of r.0.items ≡ lists_of call.entry.written.items) }
+    ensures stamped { (sets : Stamps) (next : ℕ) → EachStamped sets next call.entry.written.items → IfOk result (λ r. EachStamped sets next r.0.items) }
     ensures close { IfOk result (λ r. r.1.close ≡ call.entry.close) }
     ensures kept { IfOk result (λ r. KeepsWritten (parts_seen parts.now) (lists_of call.entry.written.items) (lists_of r.1.written.items)) }
 {
@@ -230,6 +234,7 @@ impl<'a> Cutting<'a> {
         ensures ok { OnOk result ((ts : List MarkedToken) → cut_from self.old (marked_of t.entry ∷ ts) ≡ cut_from self.new ts) }
         ensures nesting { OnOk result (self.new.nesting ≡ nesting_after self.old.nesting mark) }
         ensures deep { OnOk result (self.new.nesting ≤ length self.new.piece.items) }
+        ensures stamped { (sets : Stamps) (next : ℕ) → CutStamped sets next self.old → Stamped sets next t.entry → OnOk result (CutStamped sets next self.new) }
     {
         if self.is_cut(mark) {
             return self.cut(alloc);
@@ -256,6 +261,7 @@ impl<'a> Cutting<'a> {
     // The call that ends with this `)`, its last piece the one that grew.
     fn ended(self, close: Marked<'a>) -> Result<ReadCall<'a>, AllocError>
         ensures pieces { IfOk result (λ call. lists_of call.written.items ≡ cut_from self.entry []) }
+        ensures stamped { (sets : Stamps) (next : ℕ) → CutStamped sets next self.entry → IfOk result (λ call. EachStamped sets next call.written.items) }
         ensures close { IfOk result (λ call. call.close ≡ close.entry) }
     {
         let Cutting {
@@ -279,6 +285,8 @@ fn cut_call<'a>(
     pending: &mut Pending<'a>,
 ) -> Result<Option<ReadCall<'a>>, AllocError>
     ensures ok { IfOk result (λ call. CutsCall cuts (map marked_of pending.old) call (map marked_of pending.new)) }
+    ensures stamped { (sets : Stamps) (next : ℕ) → AllStamped sets next pending.old
+        → IfOk result (λ o. IfSome o (λ call. AllStamped sets next pending.new × CallStamped sets next call)) }
     ensures shorter { length pending.new ≤ length pending.old }
 {
     let mut cutting = Cutting {
@@ -317,7 +325,8 @@ fn arguments<'a>(
     variadic: bool,
     pieces: Vec<Vec<Marked<'a>>>,
 ) -> Result<Option<Vec<Vec<Marked<'a>>>>, AllocError>
-    ensures { IfOk result (λ o. read_arguments o ≡ arguments_cut count variadic (lists_of pieces.entry.items)) }
+    ensures cut { IfOk result (λ o. read_arguments o ≡ arguments_cut count variadic (lists_of pieces.entry.items)) }
+    ensures stamped { (sets : Stamps) (next : ℕ) → EachStamped sets next pieces.entry.items → IfOk result (λ o. IfSome o (λ args. EachStamped sets next args.items)) }
 {
     if variadic {
         return variable_arguments(alloc, count, pieces);
@@ -334,7 +343,8 @@ fn variable_arguments<'a>(
     count: usize,
     mut pieces: Vec<Vec<Marked<'a>>>,
 ) -> Result<Option<Vec<Vec<Marked<'a>>>>, AllocError>
-    ensures { IfOk result (λ o. read_arguments o ≡ arguments_cut count true (lists_of pieces.entry.items)) }
+    ensures cut { IfOk result (λ o. read_arguments o ≡ arguments_cut count true (lists_of pieces.entry.items)) }
+    ensures stamped { (sets : Stamps) (next : ℕ) → EachStamped sets next pieces.entry.items → IfOk result (λ o. IfSome o (λ args. EachStamped sets next args.items)) }
 {
     if pieces.len() == count {
         return Ok(Some(pieces));
@@ -348,7 +358,8 @@ fn variable_arguments<'a>(
 
 // No arguments, where nothing stands within.
 fn no_arguments<'a>(alloc: Global, pieces: Vec<Vec<Marked<'a>>>) -> Option<Vec<Vec<Marked<'a>>>>
-    ensures { read_arguments result ≡ arguments_cut 0 false (lists_of pieces.entry.items) }
+    ensures cut { read_arguments result ≡ arguments_cut 0 false (lists_of pieces.entry.items) }
+    ensures stamped { (sets : Stamps) (next : ℕ) → IfSome result (λ args. EachStamped sets next args.items) }
 {
     if pieces.is_empty() || pieces[0].is_empty() {
         return Some(Vec::new(alloc));
@@ -359,7 +370,8 @@ fn no_arguments<'a>(alloc: Global, pieces: Vec<Vec<Marked<'a>>>) -> Option<Vec<V
 // The arguments between all commas.
 fn counted_arguments<'a>(count: usize, pieces: Vec<Vec<Marked<'a>>>) -> Option<Vec<Vec<Marked<'a>>>>
     requires { 0 < count }
-    ensures { read_arguments result ≡ arguments_cut count false (lists_of pieces.entry.items) }
+    ensures cut { read_arguments result ≡ arguments_cut count false (lists_of pieces.entry.items) }
+    ensures stamped { (sets : Stamps) (next : ℕ) → EachStamped sets next pieces.entry.items → IfSome result (λ args. EachStamped sets next args.items) }
 {
     if pieces.len() == count {
         return Some(pieces);

@@ -13,6 +13,7 @@ ghost use Rattle.macro_expand.specs.Answered.{argument_for, arguments_for, expan
 ghost use Rattle.std.specs.List.{list_any};
 ghost use Rattle.base_types.specs.Limits.{argument_depth_limit};
 ghost use Rattle.macro_expand.specs.parts.Naming.{StandAlone, called_for, is_named};
+ghost use Rattle.macro_expand.specs.parts.Stamps.{Stamps, Stamped, AllStamped, EachStamped, KeepsStamps, StampsAfter, ArePutIn, stamp_of};
 ghost use Rattle.macro_expand.specs.Seen.{marked_of, kept_token, parts_seen, lists_of, StepKeepsResult, Stops, public_of, HasTokens};
 
 use crate::answers::Answers;
@@ -104,9 +105,13 @@ fn expand_argument<'s, S, A: Answers<S>>(
     t: &Marked,
     alone: bool,
     argument: Vec<Marked<'s>>,
+    stamps: &mut u32,
     work: &mut Work,
 ) -> Result<Vec<Marked<'s>>, RunError>
-    requires { depth ≤ argument_depth_limit }
+    requires shallow { depth ≤ argument_depth_limit }
+    requires stamped { (sets : Stamps) × AllStamped sets stamps.old argument.items }
+    ensures stamps { stamps.old ≤ stamps.new }
+    ensures stamped { (sets : Stamps) → AllStamped sets stamps.old argument.entry.items → IfOk result (λ out. StampsAfter sets stamps.old stamps.new [] out.items) }
     ensures ok { IfOk result (λ out. argument_for (A.answerer source.now) answers.old mode depth t.now.token alone work.old.left (map marked_of argument.entry.items)
         ≡ record { result = Ok (record { tokens = map marked_of out.items; units = work.new.left }); state = answers.new }) }
     ensures spends { work.new.left ≤ work.old.left }
@@ -125,7 +130,16 @@ fn expand_argument<'s, S, A: Answers<S>>(
     if !have_identifier(&argument) {
         return Ok(argument);
     }
-    expand_list(alloc, source, answers, mode, depth + 1, argument, work)
+    expand_list(
+        alloc,
+        source,
+        answers,
+        mode,
+        depth + 1,
+        argument,
+        stamps,
+        work,
+    )
 }
 
 // The arguments of a call of `t`, expanded by themselves where their parameters stand alone; for the others no tokens.
@@ -139,14 +153,19 @@ fn expand_arguments<'s, S, A: Answers<S>>(
     t: &Marked,
     call: &MacroCall<'s>,
     written: Vec<Vec<Marked<'s>>>,
+    stamps: &mut u32,
     work: &mut Work,
 ) -> Result<Vec<Vec<Marked<'s>>>, RunError>
+    requires stamped { (sets : Stamps) × EachStamped sets stamps.old written.items }
     requires shallow { depth ≤ argument_depth_limit }
     requires alone { StandAlone call.now.alone.items (length written.items) (parts_seen call.now.parts.items) }
     ensures ok { IfOk result (λ out. arguments_for (A.answerer source.now) answers.old mode depth t.now.token
         (parts_seen call.now.parts.items) 0 work.old.left (lists_of written.entry.items)
         ≡ record { result = Ok (record { lists = lists_of out.items; units = work.new.left }); state = answers.new }) }
     ensures spends { work.new.left ≤ work.old.left }
+    ensures stamps { stamps.old ≤ stamps.new }
+    ensures stamped { (sets : Stamps) → EachStamped sets stamps.old written.entry.items
+        → IfOk result (λ out. (after : Stamps) × (KeepsStamps sets stamps.old after × EachStamped after stamps.new out.items)) }
     ensures err { IfErr result (λ e. Stops e answers.new (arguments_for (A.answerer source.now) answers.old mode depth t.now.token
         (parts_seen call.now.parts.items) 0 work.old.left (lists_of written.entry.items))) }
 {
@@ -155,7 +174,7 @@ fn expand_arguments<'s, S, A: Answers<S>>(
     while let Some(argument) = left.pop_front() {
         let alone = call.alone[out.len()];
         let expanded = expand_argument(
-            alloc, source, answers, mode, depth, t, alone, argument, work,
+            alloc, source, answers, mode, depth, t, alone, argument, stamps, work,
         )?;
         put_list(&mut out, expanded)?;
     }
@@ -177,9 +196,13 @@ fn put_list<'s>(out: &mut Vec<Vec<Marked<'s>>>, ts: Vec<Marked<'s>>) -> Result<(
 #[inline(always)]
 fn put_in<'s>(
     pending: &mut Pending<'s>,
+    stamps: &mut u32,
     work: &mut Work,
     made: Vec<Marked<'s>>,
 ) -> Result<(), RunError>
+    ensures stamps { stamps.old ≤ stamps.new }
+    ensures stamped { (sets : Stamps) → ArePutIn (stamp_of stamps.old) made.entry.items → AllStamped sets stamps.old pending.old
+        → OnOk result ((after : Stamps) × (KeepsStamps sets stamps.old after × AllStamped after stamps.new pending.new)) }
     ensures ok { OnOk result (pending.new ≡ made.entry.items ++ pending.old) }
     ensures paid { OnOk result (work.new.left + length made.entry.items + 1 ≡ work.old.left) }
     ensures spends { work.new.left ≤ work.old.left }
@@ -187,7 +210,15 @@ fn put_in<'s>(
     ensures err { IfErr result (λ e. (e ≡ RunError.Memory) ⊎ ((e ≡ RunError.Work) × (work.old.left ≤ length made.entry.items))) }
 {
     charge(work, made.len())?;
+    *stamps = stamps.saturating_add(1);
     pending.put_back(made)
+}
+
+// The stamp that a replacement gets where so many were given: none where there is no greater number.
+fn stamp_of(stamps: u32) -> u32
+    ensures { result ≡ stamp_of stamps }
+{
+    if stamps == u32::MAX { 0 } else { stamps }
 }
 
 // A call of `t`, replaced by what its arguments make.
@@ -202,10 +233,15 @@ fn expand_call<'s, S, A: Answers<S>>(
     call: &MacroCall<'s>,
     written: Vec<Vec<Marked<'s>>>,
     pending: &mut Pending<'s>,
+    stamps: &mut u32,
     work: &mut Work,
 ) -> Result<(), RunError>
+    requires stamped { (sets : Stamps) × (Stamped sets stamps.old t.now × (EachStamped sets stamps.old written.items × Stamped sets stamps.old call.now.read.close)) }
     requires shallow { depth ≤ argument_depth_limit }
     requires alone { StandAlone call.now.alone.items (length written.items) (parts_seen call.now.parts.items) }
+    ensures stamps { stamps.old ≤ stamps.new }
+    ensures stamped { (sets : Stamps) → Stamped sets stamps.old t.now → EachStamped sets stamps.old written.entry.items → Stamped sets stamps.old call.now.read.close
+        → AllStamped sets stamps.old pending.old → OnOk result ((after : Stamps) × (KeepsStamps sets stamps.old after × AllStamped after stamps.new pending.new)) }
     ensures ok { OnOk result (called_for (A.answerer source.now) answers.old mode depth work.old.left t.now call.now (lists_of written.entry.items) (map marked_of pending.old)
         ≡ expanded_for (A.answerer source.now) answers.new mode depth work.new.left (map marked_of pending.new)) }
     ensures spends { work.new.left ≤ work.old.left }
@@ -213,7 +249,9 @@ fn expand_call<'s, S, A: Answers<S>>(
     ensures err { IfErr result (λ e. Stops e answers.new
         (called_for (A.answerer source.now) answers.old mode depth work.old.left t.now call.now (lists_of written.entry.items) (map marked_of pending.old))) }
 {
-    let expanded = expand_arguments(alloc, source, answers, mode, depth, t, call, written, work)?;
+    let expanded = expand_arguments(
+        alloc, source, answers, mode, depth, t, call, written, stamps, work,
+    )?;
     let parts = call.parts.as_slice();
     let made = call_tokens(
         alloc,
@@ -222,8 +260,9 @@ fn expand_call<'s, S, A: Answers<S>>(
         call.variable,
         &call.read,
         expanded.as_slice(),
+        stamp_of(*stamps),
     )?;
-    put_in(pending, work, made)
+    put_in(pending, stamps, work, made)
 }
 
 // One step: a name that isn't hidden from itself, and what it is replaced by.
@@ -237,10 +276,15 @@ fn expand_name<'s, S, A: Answers<S>>(
     t: Marked<'s>,
     out: &mut Vec<Marked<'s>>,
     pending: &mut Pending<'s>,
+    stamps: &mut u32,
     work: &mut Work,
 ) -> Result<(), RunError>
     requires shallow { depth ≤ argument_depth_limit }
     requires role { head_role mode (marked_of t) (map marked_of pending.old) ≡ Name }
+    requires stamped { (sets : Stamps) × (Stamped sets stamps.old t × AllStamped sets stamps.old pending.old) }
+    ensures stamps { stamps.old ≤ stamps.new }
+    ensures stamped { (sets : Stamps) → Stamped sets stamps.old t.entry → AllStamped sets stamps.old pending.old → AllStamped sets stamps.old out.old.items
+        → OnOk result (StampsAfter sets stamps.old stamps.new pending.new out.new.items) }
     ensures ok { OnOk result (StepKeepsResult (A.answerer source.now) mode depth answers.old work.old.left out.old.items t.entry pending.old
         answers.new work.new.left out.new.items pending.new) }
     ensures spends { work.new.left ≤ work.old.left }
@@ -249,11 +293,11 @@ fn expand_name<'s, S, A: Answers<S>>(
     ensures err { IfErr result (λ e. Stops e answers.new (expanded_for (A.answerer source.now) answers.old mode depth work.old.left
         (marked_of t.entry ∷ map marked_of pending.old))) }
 {
-    match read_name(alloc, source, answers, &t, pending)? {
+    match read_name(alloc, source, answers, &t, stamp_of(*stamps), pending)? {
         ReadName::Itself => put(out, t),
-        ReadName::Object(made) => put_in(pending, work, made),
+        ReadName::Object(made) => put_in(pending, stamps, work, made),
         ReadName::Call(written, call) => expand_call(
-            alloc, source, answers, mode, depth, &t, &call, written, pending, work,
+            alloc, source, answers, mode, depth, &t, &call, written, pending, stamps, work,
         ),
     }
 }
@@ -269,9 +313,14 @@ pub(crate) fn expand_head<'s, S, A: Answers<S>>(
     t: Marked<'s>,
     out: &mut Vec<Marked<'s>>,
     pending: &mut Pending<'s>,
+    stamps: &mut u32,
     work: &mut Work,
 ) -> Result<(), RunError>
-    requires { depth ≤ argument_depth_limit }
+    requires shallow { depth ≤ argument_depth_limit }
+    requires stamped { (sets : Stamps) × (Stamped sets stamps.old t × AllStamped sets stamps.old pending.old) }
+    ensures stamps { stamps.old ≤ stamps.new }
+    ensures stamped { (sets : Stamps) → Stamped sets stamps.old t.entry → AllStamped sets stamps.old pending.old → AllStamped sets stamps.old out.old.items
+        → OnOk result (StampsAfter sets stamps.old stamps.new pending.new out.new.items) }
     ensures ok { OnOk result (StepKeepsResult (A.answerer source.now) mode depth answers.old work.old.left out.old.items t.entry pending.old
         answers.new work.new.left out.new.items pending.new) }
     ensures spends { work.new.left ≤ work.old.left }
@@ -289,7 +338,9 @@ pub(crate) fn expand_head<'s, S, A: Answers<S>>(
         Role::LineNumber => expand_line_number(
             alloc, source, answers, mode, depth, t, out, pending, work,
         ),
-        Role::Name => expand_name(alloc, source, answers, mode, depth, t, out, pending, work),
+        Role::Name => expand_name(
+            alloc, source, answers, mode, depth, t, out, pending, stamps, work,
+        ),
     }
 }
 
@@ -303,9 +354,13 @@ fn expand_list<'s, S, A: Answers<S>>(
     mode: Mode,
     depth: u32,
     given: Vec<Marked<'s>>,
+    stamps: &mut u32,
     work: &mut Work,
 ) -> Result<Vec<Marked<'s>>, RunError>
-    requires { depth ≤ argument_depth_limit }
+    requires shallow { depth ≤ argument_depth_limit }
+    requires stamped { (sets : Stamps) × AllStamped sets stamps.old given.items }
+    ensures stamps { stamps.old ≤ stamps.new }
+    ensures stamped { (sets : Stamps) → AllStamped sets stamps.old given.entry.items → IfOk result (λ out. StampsAfter sets stamps.old stamps.new [] out.items) }
     ensures ok { IfOk result (λ out. expanded_for (A.answerer source.now) answers.old mode depth work.old.left (map marked_of given.entry.items)
         ≡ record { result = Ok (record { tokens = map marked_of out.items; units = work.new.left }); state = answers.new }) }
     ensures spends { work.new.left ≤ work.old.left }
@@ -324,6 +379,7 @@ fn expand_list<'s, S, A: Answers<S>>(
             t,
             &mut out,
             &mut pending,
+            stamps,
             work,
         )?;
     }
@@ -379,6 +435,7 @@ pub fn expand_for<S, A: Answers<S>>(
     let mut pending = Pending::over(alloc, Run::Listed(run));
     let mut out = Vec::new(alloc);
     let mut step = Vec::new(alloc);
+    let mut stamps = 1u32;
     while let Some(t) = pending.pop() {
         expand_head(
             alloc,
@@ -389,6 +446,7 @@ pub fn expand_for<S, A: Answers<S>>(
             t,
             &mut step,
             &mut pending,
+            &mut stamps,
             work,
         )?;
         keep_tokens(alloc, &mut out, &mut step)?;

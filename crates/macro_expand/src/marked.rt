@@ -12,6 +12,8 @@ use std::alloc::AllocError;
 pub(crate) struct Marked<'a> {
     pub token: TokenCow<'a>,
     pub hidden: HideSet,
+    // Two tokens of an expansion with one stamp have one hide set; 0 where nothing is known.
+    pub stamp: u32,
 }
 
 impl<'a> Marked<'a> {
@@ -23,6 +25,7 @@ impl<'a> Marked<'a> {
         Marked {
             token,
             hidden: HideSet::none(),
+            stamp: 0,
         }
     }
 
@@ -41,6 +44,7 @@ impl<'a> Marked<'a> {
         Ok(Marked {
             token: self.token.copy()?,
             hidden: self.hidden.copy()?,
+            stamp: self.stamp,
         })
     }
 }

@@ -1,10 +1,11 @@
 // What a name stands for, by the definition that it has (ISO C 6.10.3).
-ghost use Rattle.std.specs.Prelude.{◌≡◌, ◌≤◌, map, length, Some, IfOk, IfErr};
+ghost use Rattle.std.specs.Prelude.{◌≡◌, ℕ, ◌≤◌, map, length, Some, IfOk, IfErr};
 ghost use Rattle.macro_defs.specs.Arguments.{parameters_in};
 ghost use Rattle.macro_expand.specs.Replacement.{body_parts};
 ghost use Rattle.macro_expand.specs.Expansion.{variable_of};
 ghost use Rattle.macro_expand.specs.Seen.{lists_of, parts_seen, KeepsWritten};
 ghost use Rattle.macro_expand.specs.parts.Naming.{StandAlone, ReadsName, KnowsAlone, NameStops};
+ghost use Rattle.macro_expand.specs.parts.Stamps.{Stamps, AllStamped, EachStamped, NameStamped};
 
 use crate::answers::Answers;
 use crate::call::{ReadCall, read_call, with_kept};
@@ -46,6 +47,7 @@ fn macro_call<'d>(
     read: ReadCall<'d>,
 ) -> Result<(Vec<Vec<Marked<'d>>>, MacroCall<'d>), AllocError>
     ensures written { IfOk result (λ r. lists_of r.0.items ≡ lists_of read.entry.written.items) }
+    ensures stamped { (sets : Stamps) (next : ℕ) → EachStamped sets next read.entry.written.items → IfOk result (λ r. EachStamped sets next r.0.items) }
     ensures parts { IfOk result (λ r. parts_seen r.1.parts.items ≡ body_parts (parameters_in d.now.shape) d.now.body) }
     ensures alone { IfOk result (λ r. StandAlone r.1.alone.items (length read.entry.written.items) (parts_seen r.1.parts.items)) }
     ensures variable { IfOk result (λ r. r.1.variable ≡ variable_of params.now variadic) }
@@ -67,24 +69,27 @@ fn macro_call<'d>(
     ))
 }
 
-// What a name that isn't hidden from itself stands for. A call's tokens are taken from those that are pending.
+// What a name that isn't hidden from itself stands for. A call's tokens are taken from those that are pending. The tokens of an
+// object-like macro's replacement get this stamp.
 pub(crate) fn read_name<'s, S, A: Answers<S>>(
     alloc: Global,
     source: &'s S,
     answers: &mut A,
     t: &Marked,
+    stamp: u32,
     pending: &mut Pending<'s>,
 ) -> Result<ReadName<'s>, RunError>
     ensures ok { IfOk result (λ name. ReadsName (A.answerer source.now) answers.old t.now pending.old name answers.new pending.new) }
     ensures alone { IfOk result (λ name. KnowsAlone name) }
     ensures shorter { length pending.new ≤ length pending.old }
+    ensures stamped { (sets : Stamps) (next : ℕ) → AllStamped sets next pending.old → IfOk result (λ name. AllStamped sets next pending.new × NameStamped sets next stamp name) }
     ensures err { IfErr result (λ e. NameStops (A.answerer source.now) answers.old t.now pending.old e answers.new) }
 {
     let Some(d) = answers.definition(source, t.token.text())? else {
         return Ok(ReadName::Itself);
     };
     match d.shape() {
-        Shape::Object => Ok(ReadName::Object(object_tokens(alloc, t, d)?)),
+        Shape::Object => Ok(ReadName::Object(object_tokens(alloc, t, d, stamp)?)),
         Shape::Function { params, variadic } => {
             if !pending.take_open() {
                 return Ok(ReadName::Itself);

@@ -1,5 +1,5 @@
 // The operand of `defined` in a condition (ISO C 6.10.1).
-ghost use Rattle.std.specs.Prelude.{◌≡◌, ◌+◌, ◌≤◌, ◌++◌, ◌∷◌, [], map, length, take, drop, IfOk, IfErr, OnOk};
+ghost use Rattle.std.specs.Prelude.{◌≡◌, ℕ, ◌+◌, ◌≤◌, ◌++◌, ◌∷◌, [], map, length, take, drop, IfOk, IfErr, OnOk};
 ghost use Rattle.macro_expand.specs.declared.marked.Role.TheVariants.{Defined};
 ghost use Rattle.pp_tokens.specs.Marks.{is_identifier, is_mark};
 ghost use Rattle.macro_expand.specs.parts.Reading.{holds_at, begins_with_name_in_parentheses};
@@ -7,6 +7,7 @@ ghost use Rattle.macro_expand.specs.Expansion as spec;
 ghost use Rattle.macro_expand.specs.Expansion.{head_role, operand_of_defined};
 ghost use Rattle.macro_expand.specs.Answered.{expanded_for};
 ghost use Rattle.macro_expand.specs.Seen.{marked_of, StepKeepsResult, Stops};
+ghost use Rattle.macro_expand.specs.parts.Stamps.{Stamps, Stamped, AllStamped};
 
 use crate::answers::Answers;
 use crate::expansion::put;
@@ -80,6 +81,8 @@ pub(crate) fn expand_defined<'s, S, A: Answers<S>>(
     ensures spends { work.new.left ≤ work.old.left }
     ensures shorter { OnOk result (work.new.left + length pending.new ≤ work.old.left + length pending.old) }
     ensures grows { OnOk result (length out.new.items + length pending.new + work.new.left ≤ length out.old.items + length pending.old + 1 + work.old.left) }
+    ensures stamped { (sets : Stamps) (next : ℕ) → Stamped sets next t.entry → AllStamped sets next pending.old → AllStamped sets next out.old.items
+        → OnOk result (AllStamped sets next pending.new × AllStamped sets next out.new.items) }
     ensures err { IfErr result (λ e. Stops e answers.new (expanded_for (A.answerer source.now) answers.old mode depth work.old.left
         (marked_of t.entry ∷ map marked_of pending.old))) }
 {
@@ -96,6 +99,8 @@ fn put_operand_of_defined<'s>(
         × (map marked_of pending.new ≡ (operand_of_defined (map marked_of pending.old)).1)) }
     ensures shorter { length pending.new ≤ length pending.old }
     ensures grows { OnOk result (length out.new.items + length pending.new ≤ length out.old.items + length pending.old) }
+    ensures stamped { (sets : Stamps) (next : ℕ) → AllStamped sets next pending.old → AllStamped sets next out.old.items
+        → OnOk result (AllStamped sets next pending.new × AllStamped sets next out.new.items) }
     ensures err { IfErr result (λ e. e ≡ RunError.Memory) }
 {
     for _token in 0..operand_length(pending) {

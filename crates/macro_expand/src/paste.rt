@@ -68,7 +68,11 @@ fn made_of_two<'t>(
             space: left.token.space(),
         },
     )?;
-    Ok(Some(Marked { token, hidden }))
+    Ok(Some(Marked {
+        token,
+        hidden,
+        stamp: 0,
+    }))
 }
 
 fn not_pasted(alloc: Global, t: &Marked, left: Marked, right: Marked) -> RunError

@@ -1,5 +1,5 @@
 // The tokens that are still to be expanded.
-ghost use Rattle.std.specs.Prelude.{◌≡◌, ◌+◌, ◌≤◌, ◌++◌, ◌∷◌, [], List, map, length, reverse, slice_get, Some, None, bytes_eq, codes, false, OnOk, IfErr, IsTrue, IsFalse, IsNone, IfSome, MatchOption};
+ghost use Rattle.std.specs.Prelude.{◌≡◌, ℕ, ◌+◌, ◌≤◌, ◌++◌, ◌∷◌, [], List, map, length, reverse, slice_get, Some, None, bytes_eq, codes, false, OnOk, IfErr, IsTrue, IsFalse, IsNone, IfSome, MatchOption};
 ghost use Rattle.std.specs.Option.{option_map};
 ghost use Rattle.pp_tokens.specs.Tokens.{token_seen};
 ghost use Rattle.macro_defs.specs.Table.{lookup};
@@ -8,6 +8,7 @@ ghost use Rattle.macro_expand.specs.Replacement.{after_open};
 ghost use Rattle.macro_expand.specs.parts.Steps.{StaysAsItIs, TakesUntouched};
 ghost use Rattle.macro_expand.specs.parts.Pending.{run_tokens};
 ghost use Rattle.macro_expand.specs.Seen.{marked_of, kept_plain, kept_token};
+ghost use Rattle.macro_expand.specs.parts.Stamps.{Stamps, AllStamped};
 
 use crate::marked::Marked;
 use crate::outcome::{Mode, RunError};
@@ -101,6 +102,7 @@ impl<'a> Pending<'a> {
     pub(crate) fn take_open(&mut self) -> bool
         ensures opened { IsTrue result → after_open (map marked_of self.old) ≡ Some (map marked_of self.new) }
         ensures shorter { length self.new ≤ length self.old }
+        ensures stamped { (sets : Stamps) (next : ℕ) → AllStamped sets next self.old → AllStamped sets next self.new }
         ensures not_opened { IsFalse result → (after_open (map marked_of self.old) ≡ None) × (self.new ≡ self.old) }
     {
         match self.get(0) {

@@ -7,6 +7,8 @@ ghost use Rattle.macro_expand.specs.Replacement as spec;
 ghost use Rattle.macro_expand.specs.Replacement.{unmarked, with_space, as_pieces, argument_at, is_variable, is_comma_part, is_join, first_body_part, rest_parts, is_empty_argument, pieces_of_part, pieces_of, Real};
 ghost use Rattle.macro_expand.specs.parts.Pieces.{arguments_seen, spaced_at, tokens_of_part, tokens_of_parts};
 ghost use Rattle.macro_expand.specs.Seen.{marked_of, piece_of, part_seen, parts_seen, lists_of};
+ghost use Rattle.macro_expand.specs.declared.marked.Marked.{Marked as Kept};
+ghost use Rattle.macro_expand.specs.parts.Stamps.{Alike, AllAlike, EachAlike};
 
 use crate::marked::{Marked, Piece};
 use crate::replace::{Part, begins_with_join};
@@ -25,7 +27,8 @@ pub(crate) struct Arguments<'a, 't> {
 
 // The tokens of the argument of a number.
 fn argument_at<'a, 't>(arguments: &'a [Vec<Marked<'t>>], i: usize) -> &'a [Marked<'t>]
-    ensures { map marked_of result.now ≡ argument_at i (lists_of arguments.now) }
+    ensures tokens { map marked_of result.now ≡ argument_at i (lists_of arguments.now) }
+    ensures alike { (t : Kept) → EachAlike t arguments.now → AllAlike t result.now }
 {
     if i < arguments.len() {
         &arguments[i]
@@ -88,7 +91,8 @@ fn drops_comma(arguments: &Arguments, t: &Token, rest: &[Part]) -> bool
 
 // A token of a replacement list, with no hidden name.
 fn plain(t: &Token) -> Marked<'_>
-    ensures { marked_of result ≡ unmarked (without_line t.now) }
+    ensures unmarked { marked_of result ≡ unmarked (without_line t.now) }
+    ensures unstamped { result.stamp ≡ 0 }
 {
     let mut token = TokenCow::lent(t.as_ref());
     token.set_line(0);
@@ -97,7 +101,8 @@ fn plain(t: &Token) -> Marked<'_>
 
 // A copy of a token of an argument.
 fn copy_at<'t>(first: bool, space: bool, t: &Marked<'t>) -> Result<Marked<'t>, AllocError>
-    ensures { IfOk result (λ m. marked_of m ≡ spaced_at first space (marked_of t.now)) }
+    ensures spaced { IfOk result (λ m. marked_of m ≡ spaced_at first space (marked_of t.now)) }
+    ensures alike { IfOk result (λ m. (m.stamp ≡ t.now.stamp) × (m.hidden ≡ t.now.hidden)) }
 {
     let mut m = t.copy()?;
     if first {
@@ -117,7 +122,8 @@ fn put<'t>(out: &mut Vec<Piece<'t>>, p: Piece<'t>) -> Result<(), AllocError>
 // Puts in a token, as it is.
 #[inline(always)]
 fn put_marked<'t>(out: &mut Vec<Marked<'t>>, m: Marked<'t>) -> Result<(), AllocError>
-    ensures { OnOk result (map marked_of out.new.items ≡ map marked_of out.old.items ++ marked_of m.entry ∷ []) }
+    ensures put { OnOk result (map marked_of out.new.items ≡ map marked_of out.old.items ++ marked_of m.entry ∷ []) }
+    ensures alike { (t : Kept) → AllAlike t out.old.items → Alike t m.entry → OnOk result (AllAlike t out.new.items) }
 {
     out.push(m)?;
     Ok(())
@@ -129,8 +135,9 @@ fn put_copies<'t>(
     space: bool,
     tokens: &[Marked<'t>],
 ) -> Result<(), AllocError>
-    ensures { OnOk result (map marked_of out.new.items
+    ensures put { OnOk result (map marked_of out.new.items
         ≡ map marked_of out.old.items ++ with_space space (map marked_of tokens.now)) }
+    ensures alike { (t : Kept) → AllAlike t out.old.items → AllAlike t tokens.now → OnOk result (AllAlike t out.new.items) }
 {
     let mut first = true;
     for t in tokens {
@@ -301,8 +308,9 @@ fn put_tokens_of<'t>(
     arguments: &Arguments<'_, 't>,
     p: &Part<'t>,
 ) -> Result<(), AllocError>
-    ensures { OnOk result (map marked_of out.new.items
+    ensures put { OnOk result (map marked_of out.new.items
         ≡ map marked_of out.old.items ++ tokens_of_part (arguments_seen arguments.now) (part_seen p.now)) }
+    ensures alike { (t : Kept) → AllAlike t out.old.items → EachAlike t arguments.now.expanded.now → OnOk result (AllAlike t out.new.items) }
 {
     match p {
         Part::Plain(t) => put_marked(out, plain(t)),
@@ -343,7 +351,8 @@ pub(crate) fn read_tokens<'t>(
     parts: &[Part<'t>],
     arguments: &Arguments<'_, 't>,
 ) -> Result<Vec<Marked<'t>>, AllocError>
-    ensures { IfOk result (λ out. map marked_of out.items ≡ tokens_of_parts (arguments_seen arguments.now) (parts_seen parts.now)) }
+    ensures tokens { IfOk result (λ out. map marked_of out.items ≡ tokens_of_parts (arguments_seen arguments.now) (parts_seen parts.now)) }
+    ensures alike { (t : Kept) → EachAlike t arguments.now.expanded.now → IfOk result (λ out. AllAlike t out.items) }
 {
     let mut out = Vec::with_capacity(alloc, room_for(arguments, parts))?;
     for p in parts {

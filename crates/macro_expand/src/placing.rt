@@ -1,15 +1,24 @@
 // The tokens of a replacement as they are put in for a name (ISO C 6.10.3 paragraphs 9 and 10, 6.10.3.4).
-ghost use Rattle.std.specs.Prelude.{◌≡◌, map, length, IfOk, IfSome, OnOk};
+ghost use Rattle.std.specs.Prelude.{◌≡◌, ℕ, List, true, map, length, IfOk, IfSome, OnOk};
 ghost use Rattle.macro_expand.specs.Sets.{names_in};
 ghost use Rattle.macro_expand.specs.Replacement.{unmarked, with_space, put_in_for};
 ghost use Rattle.macro_defs.specs.MacroDefinition.{without_line};
 ghost use Rattle.macro_expand.specs.Seen.{marked_of};
 ghost use Rattle.macro_expand.specs.parts.Placing.{placed, HasNamesOfBoth, KnowsUnion};
+ghost use Rattle.macro_expand.specs.parts.Stamps.{Fresh, AllFresh, Within, AllWithin};
 
 use crate::hide_set::HideSet;
 use crate::marked::Marked;
 use pp_tokens::{Token, TokenCow};
 use std::alloc::{AllocError, Global};
+
+// The stamp of the macro's name where that is known to hide nothing that the replacement doesn't, else 0, and the stamp of what the
+// replacement hides.
+#[derive(Clone, Copy, Drop)]
+pub(crate) struct Stamping {
+    pub(crate) head: u32,
+    pub(crate) made: u32,
+}
 
 // The names of a token, and the same with those that a replacement hides.
 #[derive(Drop)]
@@ -65,10 +74,6 @@ fn union_with(
     ensures ok { IfOk result (λ all. HasNamesOfBoth all own.now hidden.now) }
     ensures known { OnOk result (KnowsUnion hidden.now last.new) }
 {
-    // Tokens of the replacement list have no names of their own, and stand between those of arguments.
-    if own.is_none() {
-        return hidden.copy();
-    }
     match kept_union(last, own, hidden)? {
         Some(all) => Ok(all),
         None => unite(alloc, last, own, hidden),
@@ -80,22 +85,40 @@ fn place(
     alloc: Global,
     line: u32,
     hidden: &HideSet,
+    stamping: Stamping,
     last: &mut Option<United>,
     m: &mut Marked,
 ) -> Result<(), AllocError>
-    requires { KnowsUnion hidden.now last.old }
+    requires known { KnowsUnion hidden.now last.old }
+    requires within { Within stamping.head hidden.now m.old }
     ensures placed { OnOk result (marked_of m.new ≡ placed line (names_in hidden.now) (marked_of m.old)) }
     ensures known { OnOk result (KnowsUnion hidden.now last.new) }
+    ensures fresh { OnOk result (Fresh stamping.made hidden.now m.new) }
 {
-    let all = union_with(alloc, last, &m.hidden, hidden)?;
     m.token.set_line(line);
+    if hides_all(stamping.head, m) {
+        m.hidden = hidden.copy()?;
+        m.stamp = stamping.made;
+        return Ok(());
+    }
+    let all = union_with(alloc, last, &m.hidden, hidden)?;
     m.hidden = all;
+    m.stamp = 0;
     Ok(())
+}
+
+// Whether a token is known to hide nothing that the replacement doesn't hide: it has no names, or the stamp of the macro's name.
+#[inline(always)]
+fn hides_all(head: u32, m: &Marked) -> bool
+    ensures { result ≡ true → (hidden : List (List ℕ)) → Within head hidden m.now → (n : List ℕ) → names_in m.now.hidden n ≡ true → names_in hidden n ≡ true }
+{
+    m.hidden.is_none() || (head != 0 && m.stamp == head)
 }
 
 // The tokens with this space on the first.
 fn spaced<'t>(mut made: Vec<Marked<'t>>, space: bool) -> Vec<Marked<'t>>
-    ensures { map marked_of result.items ≡ with_space space (map marked_of made.entry.items) }
+    ensures spaced { map marked_of result.items ≡ with_space space (map marked_of made.entry.items) }
+    ensures fresh { (stamp : ℕ) (hidden : List (List ℕ)) → AllFresh stamp hidden made.entry.items → AllFresh stamp hidden result.items }
 {
     if !made.is_empty() {
         made[0].token.set_space(space);
@@ -109,27 +132,37 @@ pub(crate) fn put_in_for<'t>(
     alloc: Global,
     t: &TokenCow,
     hidden: &HideSet,
+    stamping: Stamping,
     mut made: Vec<Marked<'t>>,
 ) -> Result<Vec<Marked<'t>>, AllocError>
-    ensures { IfOk result (λ ts. map marked_of ts.items ≡ put_in_for t.now (names_in hidden.now) (map marked_of made.entry.items)) }
+    requires { AllWithin stamping.head hidden.now made.items }
+    ensures placed { IfOk result (λ ts. map marked_of ts.items ≡ put_in_for t.now (names_in hidden.now) (map marked_of made.entry.items)) }
+    ensures fresh { IfOk result (λ ts. AllFresh stamping.made hidden.now ts.items) }
 {
     let line = t.line();
     let mut last = None;
     for m in made.iter_mut() {
-        place(alloc, line, hidden, &mut last, m)?;
+        place(alloc, line, hidden, stamping, &mut last, m)?;
     }
     Ok(spaced(made, t.space()))
 }
 
 // A token of a replacement list, as it is put in on this line.
-fn lent_at<'t>(line: u32, hidden: &HideSet, u: &'t Token) -> Result<Marked<'t>, AllocError>
-    ensures { IfOk result (λ m. marked_of m ≡ placed line (names_in hidden.now) (unmarked (without_line u.now))) }
+fn lent_at<'t>(
+    line: u32,
+    hidden: &HideSet,
+    stamp: u32,
+    u: &'t Token,
+) -> Result<Marked<'t>, AllocError>
+    ensures placed { IfOk result (λ m. marked_of m ≡ placed line (names_in hidden.now) (unmarked (without_line u.now))) }
+    ensures fresh { IfOk result (λ m. Fresh stamp hidden.now m) }
 {
     let mut token = TokenCow::lent(u.as_ref());
     token.set_line(line);
     Ok(Marked {
         token,
         hidden: hidden.copy()?,
+        stamp,
     })
 }
 
@@ -138,14 +171,16 @@ pub(crate) fn lend_for<'t>(
     alloc: Global,
     t: &TokenCow,
     hidden: &HideSet,
+    stamp: u32,
     body: &'t [Token],
 ) -> Result<Vec<Marked<'t>>, AllocError>
-    ensures { IfOk result (λ ts. map marked_of ts.items ≡ put_in_for t.now (names_in hidden.now) (map unmarked (map without_line body.now))) }
+    ensures fresh { IfOk result (λ ts. AllFresh stamp hidden.now ts.items) }
+    ensures placed { IfOk result (λ ts. map marked_of ts.items ≡ put_in_for t.now (names_in hidden.now) (map unmarked (map without_line body.now))) }
 {
     let line = t.line();
     let mut made = Vec::with_capacity(alloc, body.len())?;
     for u in body {
-        made.push(lent_at(line, hidden, u)?)?;
+        made.push(lent_at(line, hidden, stamp, u)?)?;
     }
     Ok(spaced(made, t.space()))
 }

@@ -1,5 +1,5 @@
 // The replacement of one macro call (ISO C 6.10.3.1 to 6.10.3.3).
-ghost use Rattle.std.specs.Prelude.{◌≡◌, ◌≤◌, ◌<◌, ℕ, List, Some, None, Ok, Err, map, length, get_or, false, ◌++◌, ◌∷◌, [], ◌&&◌, if◌then◌else◌, IfOk, IfErr, OnOk};
+ghost use Rattle.std.specs.Prelude.{◌≡◌, ◌≤◌, ◌<◌, ℕ, List, true, Some, None, Ok, Err, map, length, get_or, false, ◌++◌, ◌∷◌, [], ◌&&◌, if◌then◌else◌, IfOk, IfErr, OnOk};
 ghost use Rattle.macro_defs.specs.MacroDefinition.{without_line};
 ghost use Rattle.macro_defs.specs.Arguments.{parameters_in};
 ghost use Rattle.pp_tokens.specs.Marks.{is_pasting};
@@ -10,6 +10,7 @@ ghost use Rattle.macro_expand.specs.parts.Pieces.{arguments_seen};
 ghost use Rattle.macro_expand.specs.Sets.{names_in};
 ghost use Rattle.macro_expand.specs.Expansion.{object_replacement, variable_of};
 ghost use Rattle.macro_expand.specs.Seen.{marked_of, lists_of, part_seen, parts_seen, Reports, ReportsPaste, call_replaced_by};
+ghost use Rattle.macro_expand.specs.parts.Stamps.{Alike, AllAlike, EachAlike, AllFresh, ArePutIn};
 
 use crate::call::ReadCall;
 use crate::hide_set::HideSet;
@@ -17,7 +18,7 @@ use crate::marked::Marked;
 use crate::outcome::RunError;
 use crate::paste::join_pieces;
 use crate::pieces::{Arguments, read_pieces, read_tokens};
-use crate::placing::{lend_for, put_in_for};
+use crate::placing::{Stamping, lend_for, put_in_for};
 use base_types::Bytes;
 use macro_defs::Definition;
 use pp_tokens::Token;
@@ -206,13 +207,16 @@ fn made_of<'d>(
     alloc: Global,
     t: &Marked,
     parts: &[Part<'d>],
+    joined: bool,
     arguments: &Arguments<'_, 'd>,
 ) -> Result<Vec<Marked<'d>>, RunError>
+    requires { joined ≡ list_any joins (parts_seen parts.now) }
+    ensures alike { joined ≡ false → EachAlike t.now arguments.now.expanded.now → IfOk result (λ ts. AllAlike t.now ts.items) }
     ensures ok { IfOk result (λ ts. joins_made None false (pieces_of (arguments_seen arguments.now) None (parts_seen parts.now)) ≡ Ok (map marked_of ts.items)) }
     ensures err { IfErr result (λ e. ReportsPaste e t.now.token.line
         (joins_made None false (pieces_of (arguments_seen arguments.now) None (parts_seen parts.now)))) }
 {
-    if have_join(parts) {
+    if joined {
         let pieces = read_pieces(alloc, parts, arguments)?;
         return join_pieces(alloc, t, pieces);
     }
@@ -225,16 +229,26 @@ fn replaced<'d>(
     alloc: Global,
     t: &Marked,
     hidden: &HideSet,
+    stamping: Stamping,
     parts: &[Part<'d>],
     arguments: &Arguments<'_, 'd>,
 ) -> Result<Vec<Marked<'d>>, RunError>
+    requires head { (stamping.head ≡ 0 → ⊥) → (stamping.head ≡ t.now.stamp) × ((n : List ℕ) → names_in t.now.hidden n ≡ true → names_in hidden.now n ≡ true) }
+    requires alike { EachAlike t.now arguments.now.expanded.now }
+    ensures fresh { IfOk result (λ ts. AllFresh stamping.made hidden.now ts.items) }
     ensures ok { IfOk result (λ ts. replacement t.now.token (names_in hidden.now) (parts_seen parts.now) (arguments_seen arguments.now)
         ≡ Ok (map marked_of ts.items)) }
     ensures err { IfErr result (λ e. Reports e
         (replacement t.now.token (names_in hidden.now) (parts_seen parts.now) (arguments_seen arguments.now))) }
 {
-    let made = made_of(alloc, t, parts, arguments)?;
-    let out = put_in_for(alloc, &t.token, hidden, made)?;
+    let joined = have_join(parts);
+    let made = made_of(alloc, t, parts, joined, arguments)?;
+    // What is known of the stamps of arguments isn't kept where tokens are joined.
+    let stamping = Stamping {
+        head: if joined { 0 } else { stamping.head },
+        made: stamping.made,
+    };
+    let out = put_in_for(alloc, &t.token, hidden, stamping, made)?;
     Ok(out)
 }
 
@@ -247,9 +261,14 @@ fn hidden_by_name(alloc: Global, t: &Marked) -> Result<HideSet, AllocError>
 
 // The names that a call's replacement hides: those that its name and its `)` both hide, and itself (6.10.3.4).
 fn hidden_by_call(alloc: Global, t: &Marked, close: &Marked) -> Result<HideSet, AllocError>
+    requires { Alike t.now close.now }
     ensures { IfOk result (λ h. (n : List ℕ) → names_in h n
         ≡ with_name t.now.token.text (common_names (names_in t.now.hidden) (names_in close.now.hidden)) n) }
 {
+    // Mostly both were put in by one replacement.
+    if t.stamp != 0 && close.stamp == t.stamp {
+        return t.hidden.with(alloc, t.token.text());
+    }
     let common = t.hidden.common(alloc, &close.hidden)?;
     common.with(alloc, t.token.text())
 }
@@ -271,8 +290,10 @@ fn joined_tokens<'d>(
     alloc: Global,
     t: &Marked,
     hidden: &HideSet,
+    stamp: u32,
     body: &'d [Token],
 ) -> Result<Vec<Marked<'d>>, RunError>
+    ensures fresh { IfOk result (λ ts. AllFresh stamp hidden.now ts.items) }
     ensures ok { IfOk result (λ ts. replacement t.now.token (names_in hidden.now) (object_parts (map without_line body.now))
         (record { written = []; expanded = []; variable = None }) ≡ Ok (map marked_of ts.items)) }
     ensures err { IfErr result (λ e. Reports e (replacement t.now.token (names_in hidden.now) (object_parts (map without_line body.now))
@@ -284,7 +305,11 @@ fn joined_tokens<'d>(
         expanded: &[],
         variable: None,
     };
-    replaced(alloc, t, hidden, &parts, &arguments)
+    let stamping = Stamping {
+        head: 0,
+        made: stamp,
+    };
+    replaced(alloc, t, hidden, stamping, &parts, &arguments)
 }
 
 // What the name of an object-like macro is replaced by.
@@ -292,16 +317,18 @@ pub(crate) fn object_tokens<'d>(
     alloc: Global,
     t: &Marked,
     d: &'d Definition,
+    stamp: u32,
 ) -> Result<Vec<Marked<'d>>, RunError>
+    ensures fresh { IfOk result (λ ts. ArePutIn stamp ts.items) }
     ensures ok { IfOk result (λ ts. object_replacement (marked_of t.now) d.now.body ≡ Ok (map marked_of ts.items)) }
     ensures err { IfErr result (λ e. Reports e (object_replacement (marked_of t.now) d.now.body)) }
 {
     let body = d.body();
     let hidden = hidden_by_name(alloc, t)?;
     if has_pasting(body) {
-        return joined_tokens(alloc, t, &hidden, body);
+        return joined_tokens(alloc, t, &hidden, stamp, body);
     }
-    let made = lend_for(alloc, &t.token, &hidden, body)?;
+    let made = lend_for(alloc, &t.token, &hidden, stamp, body)?;
     Ok(made)
 }
 
@@ -313,7 +340,11 @@ pub(crate) fn call_tokens<'d>(
     variable: Option<usize>,
     call: &ReadCall<'d>,
     expanded: &[Vec<Marked<'d>>],
+    stamp: u32,
 ) -> Result<Vec<Marked<'d>>, RunError>
+    requires close { Alike t.now call.now.close }
+    requires alike { EachAlike t.now expanded.now }
+    ensures fresh { IfOk result (λ ts. ArePutIn stamp ts.items) }
     ensures ok { IfOk result (λ ts. call_replaced_by t.now (parts_seen parts.now) variable (lists_of call.now.written.items)
         (marked_of call.now.close) (lists_of expanded.now) ≡ Ok (map marked_of ts.items)) }
     ensures err { IfErr result (λ e. Reports e (call_replaced_by t.now (parts_seen parts.now) variable
@@ -325,5 +356,13 @@ pub(crate) fn call_tokens<'d>(
         expanded,
         variable,
     };
-    replaced(alloc, t, &hidden, parts, &arguments)
+    let stamping = Stamping {
+        head: if call.close.stamp == t.stamp {
+            t.stamp
+        } else {
+            0
+        },
+        made: stamp,
+    };
+    replaced(alloc, t, &hidden, stamping, parts, &arguments)
 }

@@ -10,6 +10,7 @@ ghost use Rattle.macro_expand.specs.Seen.{marked_of, kept_plain, place_of, Gives
 ghost use Rattle.macro_expand.specs.parts.Pending.{run_tokens};
 ghost use Rattle.macro_expand.specs.Stream.{to_come, at_hand, FirstReady, GivesNext, StandsAfter, StandsAfterAnswer};
 ghost use Rattle.macro_expand.specs.parts.Steps.{StaysAsItIs, Becomes};
+ghost use Rattle.macro_expand.specs.parts.Stamps.{Stamps, AllStamped};
 
 use crate::answers::{Presumed, TablePlace};
 use crate::expansion::{expand_head, public_error};
@@ -44,6 +45,8 @@ pub struct Expander<'a> {
     // The tokens that one step put out, the last first.
     ready: Vec<Marked<'a>>,
     pending: Pending<'a>,
+    // The next stamp.
+    stamps: u32,
     standing: Standing,
 }
 
@@ -61,6 +64,12 @@ impl<'a> Model for Expander<'a> {
       pending = e.pending;
       standing = e.standing;
     } };
+
+    ghost use Rattle.macro_expand.specs.parts.Stamps.{Stamps, AllStamped};
+    ghost use Rattle.std.specs.Prelude.{◌≡◌};
+    ghost use Rattle.macro_expand.specs.declared.stream.Standing.TheVariants.{Going};
+
+    ghost invariant = { λ e. e.standing ≡ Going → (sets : Stamps) × AllStamped sets e.stamps e.pending };
 }
 
 impl<'a> Expander<'a> {
@@ -89,6 +98,7 @@ impl<'a> Expander<'a> {
             mode,
             ready: Vec::new(alloc),
             pending: Pending::over(alloc, run),
+            stamps: 1,
             standing: Standing::Going,
         }
     }
@@ -189,6 +199,7 @@ impl<'a> Expander<'a> {
             self.mode,
             &mut self.ready,
             &mut self.pending,
+            &mut self.stamps,
             work,
         ) {
             Ok(Some(m)) => Ok(Some(m.bare())),
@@ -231,9 +242,12 @@ fn advance<'s>(
     mode: Mode,
     out: &mut Vec<Marked<'s>>,
     pending: &mut Pending<'s>,
+    stamps: &mut u32,
     work: &mut Work,
 ) -> Result<Option<Marked<'s>>, RunError>
-    requires { out.old.items ≡ [] }
+    requires empty { out.old.items ≡ [] }
+    requires stamped { (sets : Stamps) × AllStamped sets stamps.old pending.old }
+    ensures stamped { IfOk result (λ o. (sets : Stamps) × AllStamped sets stamps.new pending.new) }
     ensures some { IfOk result (λ o. IfSome o (λ t. Becomes (lookup table.now) answers.old mode work.old.left pending.old
         (t ∷ reverse out.new.items) answers.new work.new.left pending.new)) }
     ensures none { IfOk result (λ o. IsNone o → Becomes (lookup table.now) answers.old mode work.old.left pending.old [] answers.new work.new.left []) }
@@ -246,7 +260,9 @@ fn advance<'s>(
         if stays(&t) {
             return Ok(Some(t));
         }
-        expand_head(alloc, table, answers, mode, 0, t, out, pending, work)?;
+        expand_head(
+            alloc, table, answers, mode, 0, t, out, pending, stamps, work,
+        )?;
         if let Some(first) = first_of(out) {
             return Ok(Some(first));
         }

@@ -94,7 +94,8 @@ pub(crate) fn stringized<'t>(
     space: bool,
     tokens: &[Marked],
 ) -> Result<Marked<'t>, AllocError>
-    ensures { IfOk result (λ m. marked_of m ≡ stringized space (map marked_of tokens.now)) }
+    ensures stringized { IfOk result (λ m. marked_of m ≡ stringized space (map marked_of tokens.now)) }
+    ensures unstamped { IfOk result (λ m. m.stamp ≡ 0) }
 {
     let text = Bytes::of(literal_of(alloc, tokens)?);
     let token = Token {

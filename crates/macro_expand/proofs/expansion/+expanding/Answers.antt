@@ -1,4 +1,4 @@
-use Rattle.std.proofs.Common.{List, map, length, ◌∷◌, refl, ap, sym, ◌∙◌, arith}
+use Rattle.std.proofs.Common.{rules, List, map, length, ◌∷◌, refl, ap, sym, subst, ◌∙◌, arith}
 use Rattle.std.proofs.lemmas.List.{nil_from_length}
 use Rattle.std.proofs.lemmas.Result.{err_from_is_err_and}
 use Rattle.macro_expand.specs.Answered.{expanded_for, arguments_for}
@@ -8,6 +8,8 @@ use Rattle.macro_expand.specs.parts.Naming.{named_for, called_for, is_named}
 use Rattle.macro_expand.specs.Seen.{marked_of, lists_of, parts_seen}
 use Rattle.macro_expand.proofs.AnsweredLaws.{before-nothing, before_all-nothing}
 use Rattle.macro_expand.proofs.LoopLaws.{Stops-is, on_ok-map, on_ok-both, if_err-map, put_in-paid, put_in-stops, goes_on-left, goes_on-behind, goes_on-ordinary, keeps_step, stops_step, keeps_end}
+use Rattle.macro_expand.specs.parts.Stamps.{Stamped, AllStamped, Alike, NameStamped, ArePutIn}
+use Rattle.macro_expand.proofs.StampLaws.{all-push, all-map, each-map, stamped-later, alike-stamped, arguments-turn, argument-stamped, stamps-turn, head-stamped, call-stamped, with-out}
 use Rattle.macro_expand.proofs.NameLaws.{argument_skipped, argument_deep, argument_unnamed, argument_made, argument_fails, argument_stops, call_replaced, paste_stops, turn_expanded, turn_stops, arguments_end, stands_next, one_moved}
 use Rattle.macro_expand.proofs.expansion.+expanding.Goals as goal
 
@@ -41,7 +43,7 @@ expand_argument-returns-clause-err g t c =
 pub expand_arguments-loop-argument-init : goal.expand_arguments-loop-argument-init
 expand_arguments-loop-argument-init g t c =
     rw (c.in_ok-out.ensures.items, c.from_vec-left.ensures.items)
-    (sym (before_all-nothing _), (omega (arith, c.requires.alone.0), omega arith))
+    (sym (before_all-nothing _), (omega (arith, c.requires.alone.0), (omega arith, (omega arith, λ sets each. (sets, ((λ k below. refl), (tt, each)))))))
 
 pub expand_arguments-returns-in_err-expanded-clause-err : goal.expand_arguments-returns-in_err-expanded-clause-err
 expand_arguments-returns-in_err-expanded-clause-err g t c =
@@ -68,7 +70,16 @@ expand_arguments-loop-argument-preserved g t c = (
   (
     one_moved c.loop-argument.out.items c.put_list.new.out.items c.loop-argument.left.items c.pop_front.new.self.items c.in_ok-expanded.expanded c.in-Some.argument _
         c.in_ok-put_list.ensures.ok c.in-Some.ensures.items c.loop-argument.invariant.1.0,
-    omega (arith, c.in_ok-expanded.ensures.spends, c.loop-argument.invariant.1.1),
+    (
+      omega (arith, c.in_ok-expanded.ensures.spends, c.loop-argument.invariant.1.1.0),
+      (
+        omega (arith, c.in_ok-expanded.ensures.stamps, c.loop-argument.invariant.1.1.1.0),
+        λ sets each.
+            arguments-turn sets c.args.stamps.now c.loop-argument.stamps c.expand_argument.new.stamps c.in-Some.argument c.in_ok-expanded.expanded c.loop-argument.out.items c.loop-argument.left.items
+            c.pop_front.new.self.items c.put_list.new.out.items c.loop-argument.invariant.1.1.1.0 c.in_ok-expanded.ensures.stamps c.in-Some.ensures.items c.in_ok-put_list.ensures.ok
+            (c.loop-argument.invariant.1.1.1.1 sets each) c.in_ok-expanded.ensures.stamped,
+      ),
+    ),
   ),
 )
 
@@ -121,14 +132,22 @@ expand_head-returns-in-Ordinary-clause-ok g t c =
 
 pub expand_list-loop-t-init : goal.expand_list-loop-t-init
 expand_list-loop-t-init g t c =
-    (rw (c.in_ok-out.ensures.items, c.of-pending.ensures) (sym (before-nothing _)), omega arith)
+    rw (c.in_ok-out.ensures.items, c.of-pending.ensures) (sym (before-nothing _), (omega arith, (omega arith, λ sets all. (sets, ((λ k below. refl), (all, tt))))))
 
 pub expand_list-loop-t-preserved : goal.expand_list-loop-t-preserved
 expand_list-loop-t-preserved g t c = (
   keeps_step (g.A.Answers.answerer c.args.source.now) c.args.mode c.args.depth
       (expanded_for (g.A.Answers.answerer c.args.source.now) c.args.answers.now c.args.mode c.args.depth c.args.work.now.left (map marked_of c.args.given.items))
       c.loop-t.out.items c.expand_head.new.out.items c.in-Some.t c.loop-t.answers c.expand_head.new.answers c.loop-t.work.left c.expand_head.new.work.left c.loop-t.pending c.pop.new.self c.expand_head.new.pending c.in-Some.ensures.first c.in_ok-expand_head.ensures.ok c.loop-t.invariant.0,
-  omega (arith, c.in_ok-expand_head.ensures.spends, c.loop-t.invariant.1),
+  (
+    omega (arith, c.in_ok-expand_head.ensures.spends, c.loop-t.invariant.1.0),
+    (
+      omega (arith, c.in_ok-expand_head.ensures.stamps, c.loop-t.invariant.1.1.0),
+      λ sets all.
+          stamps-turn sets c.args.stamps.now c.loop-t.stamps c.expand_head.new.stamps c.in-Some.t c.loop-t.pending c.pop.new.self c.loop-t.out.items c.expand_head.new.pending
+          c.expand_head.new.out.items c.loop-t.invariant.1.1.0 c.in-Some.ensures.first (c.loop-t.invariant.1.1.1 sets all) c.in_ok-expand_head.ensures.stamped,
+    ),
+  ),
 )
 
 pub expand_list-returns-in_err-expand_head-clause-err : goal.expand_list-returns-in_err-expand_head-clause-err
@@ -181,3 +200,145 @@ expand_name-returns-in-Call-clause-err g t c =
     if_err-map c.expand_call.result
     (λ e. Stops-is e _ _ _ (c.in_ok-read_name.ensures.ok c.args.mode c.args.depth c.args.work.now.left c.requires.role
     ∙ ap (λ n. named_for (g.A.Answers.answerer c.args.source.now) c.read_name.new.answers c.args.mode c.args.depth c.args.work.now.left c.args.t n (map marked_of c.read_name.new.pending)) c.in-Call.is)) c.expand_call.ensures.err
+
+-- What the stamps say.
+
+pub expand_argument-returns-then-not-alone-clause-stamped : goal.expand_argument-returns-then-not-alone-clause-stamped
+expand_argument-returns-then-not-alone-clause-stamped g t c sets all =
+    (sets, ((λ k below. refl), (tt, subst (AllStamped sets c.args.stamps.now) (sym c.new.ensures.items) tt)))
+
+pub expand_argument-returns-then-not-have_identifier-clause-stamped : goal.expand_argument-returns-then-not-have_identifier-clause-stamped
+expand_argument-returns-then-not-have_identifier-clause-stamped g t c sets all = (sets, ((λ k below. refl), (tt, all)))
+
+pub expand_arguments-returns-in_err-expanded-clause-stamps : goal.expand_arguments-returns-in_err-expanded-clause-stamps
+expand_arguments-returns-in_err-expanded-clause-stamps g t c = omega (arith, c.in_err-expanded.ensures.stamps, c.loop-argument.invariant.1.1.1.0)
+
+pub expand_arguments-returns-in_err-put_list-clause-stamps : goal.expand_arguments-returns-in_err-put_list-clause-stamps
+expand_arguments-returns-in_err-put_list-clause-stamps g t c = omega (arith, c.in_ok-expanded.ensures.stamps, c.loop-argument.invariant.1.1.1.0)
+
+pub expand_arguments-returns-clause-stamps : goal.expand_arguments-returns-clause-stamps
+expand_arguments-returns-clause-stamps g t c = c.loop-argument.invariant.1.1.1.0
+
+pub expand_arguments-returns-clause-stamped : goal.expand_arguments-returns-clause-stamped
+expand_arguments-returns-clause-stamped g t c sets each =
+    let st = c.loop-argument.invariant.1.1.1.1 sets each in
+    (st.0, (st.1.0, st.1.1.0))
+
+pub expand_call-call_tokens-requires-clause-alike : goal.expand_call-call_tokens-requires-clause-alike
+expand_call-call_tokens-requires-clause-alike g t c =
+    let given = c.requires.stamped in
+    let st = c.in_ok-expanded.ensures.stamped given.0 given.1.1.0 in
+    rw c.as_slice.ensures.value
+    (each-map (Stamped st.0 c.expand_arguments.new.stamps) (Alike c.args.t.now)
+    (λ m of_m. alike-stamped st.0 c.expand_arguments.new.stamps c.args.t.now m
+    (stamped-later given.0 st.0 c.args.stamps.now c.expand_arguments.new.stamps st.1.0 c.in_ok-expanded.ensures.stamps c.args.t.now given.1.0) of_m)
+    c.in_ok-expanded.expanded.items st.1.1)
+
+pub expand_call-returns-clause-stamped : goal.expand_call-returns-clause-stamped
+expand_call-returns-clause-stamped g t c sets of_t each close pending =
+    let st = c.in_ok-expanded.ensures.stamped sets each in
+    let s1 = c.expand_arguments.new.stamps in
+    on_ok-map c.put_in.result (call-stamped sets c.args.stamps.now s1 c.put_in.new.stamps c.put_in.new.pending c.in_ok-expanded.ensures.stamps (st.0, st.1.0))
+    (c.put_in.ensures.stamped st.0 (subst (λ n. ArePutIn n c.in_ok-made.made.items) c.stamp_of.ensures c.in_ok-made.ensures.fresh)
+    (all-map (Stamped sets c.args.stamps.now) (Stamped st.0 s1) (stamped-later sets st.0 c.args.stamps.now s1 st.1.0 c.in_ok-expanded.ensures.stamps) c.args.pending.now pending))
+
+pub expand_head-returns-in-Ordinary-clause-stamped : goal.expand_head-returns-in-Ordinary-clause-stamped
+expand_head-returns-in-Ordinary-clause-stamped g t c sets of_t pending out =
+    on_ok-map c.put.result
+    (λ e. (sets, ((λ k below. refl), (pending, subst (AllStamped sets c.args.stamps.now) (sym e) (all-push (Stamped sets c.args.stamps.now) c.args.out.now.items c.args.t out of_t)))))
+    c.put.ensures.ok
+
+pub expand_head-returns-in-Defined-clause-stamped : goal.expand_head-returns-in-Defined-clause-stamped
+expand_head-returns-in-Defined-clause-stamped g t c sets of_t pending out =
+    on_ok-map c.expand_defined.result (λ p. (sets, ((λ k below. refl), p))) (c.expand_defined.ensures.stamped sets c.args.stamps.now of_t pending out)
+
+pub expand_head-returns-in-FileName-clause-stamped : goal.expand_head-returns-in-FileName-clause-stamped
+expand_head-returns-in-FileName-clause-stamped g t c sets of_t pending out =
+    on_ok-map c.expand_file_name.result (λ p. (sets, ((λ k below. refl), (subst (AllStamped sets c.args.stamps.now) (sym c.expand_file_name.ensures.pending) pending, p))))
+    (c.expand_file_name.ensures.stamped sets c.args.stamps.now of_t out)
+
+pub expand_head-returns-in-LineNumber-clause-stamped : goal.expand_head-returns-in-LineNumber-clause-stamped
+expand_head-returns-in-LineNumber-clause-stamped g t c sets of_t pending out =
+    on_ok-map c.expand_line_number.result (λ p. (sets, ((λ k below. refl), (subst (AllStamped sets c.args.stamps.now) (sym c.expand_line_number.ensures.pending) pending, p))))
+    (c.expand_line_number.ensures.stamped sets c.args.stamps.now of_t out)
+
+pub expand_list-returns-in_err-expand_head-clause-stamps : goal.expand_list-returns-in_err-expand_head-clause-stamps
+expand_list-returns-in_err-expand_head-clause-stamps g t c = omega (arith, c.in_err-expand_head.ensures.stamps, c.loop-t.invariant.1.1.0)
+
+pub expand_list-returns-clause-stamps : goal.expand_list-returns-clause-stamps
+expand_list-returns-clause-stamps g t c = c.loop-t.invariant.1.1.0
+
+pub expand_list-returns-clause-stamped : goal.expand_list-returns-clause-stamped
+expand_list-returns-clause-stamped g t c sets all =
+    let st = c.loop-t.invariant.1.1.1 sets all in
+    (st.0, (st.1.0, (tt, st.1.1.1)))
+
+pub expand_name-returns-in-Itself-clause-stamped : goal.expand_name-returns-in-Itself-clause-stamped
+expand_name-returns-in-Itself-clause-stamped g t c sets of_t pending out =
+    let read = c.in_ok-read_name.ensures.stamped sets c.args.stamps.now pending in
+    on_ok-map c.put.result
+    (λ e. (sets, ((λ k below. refl), (read.0, subst (AllStamped sets c.args.stamps.now) (sym e) (all-push (Stamped sets c.args.stamps.now) c.args.out.now.items c.args.t out of_t)))))
+    c.put.ensures.ok
+
+pub expand_name-returns-in-Object-clause-stamped : goal.expand_name-returns-in-Object-clause-stamped
+expand_name-returns-in-Object-clause-stamped g t c sets of_t pending out =
+    let read = c.in_ok-read_name.ensures.stamped sets c.args.stamps.now pending in
+    let made = subst (NameStamped sets c.args.stamps.now c.stamp_of.result) c.in-Object.is read.1 in
+    on_ok-map c.put_in.result (with-out sets c.args.stamps.now c.put_in.new.stamps c.put_in.new.pending c.args.out.now.items c.put_in.ensures.stamps out)
+    (c.put_in.ensures.stamped sets (subst (λ n. ArePutIn n c.in-Object.made.items) c.stamp_of.ensures made) read.0)
+
+pub expand_name-returns-in-Call-clause-stamped : goal.expand_name-returns-in-Call-clause-stamped
+expand_name-returns-in-Call-clause-stamped g t c sets of_t pending out =
+    let read = c.in_ok-read_name.ensures.stamped sets c.args.stamps.now pending in
+    let call = subst (NameStamped sets c.args.stamps.now c.stamp_of.result) c.in-Call.is read.1 in
+    on_ok-map c.expand_call.result (with-out sets c.args.stamps.now c.expand_call.new.stamps c.expand_call.new.pending c.args.out.now.items c.expand_call.ensures.stamps out)
+    (c.expand_call.ensures.stamped sets of_t call.0 call.1 read.0)
+
+pub expand_list-expand_head-requires : goal.expand_list-expand_head-requires
+expand_list-expand_head-requires g t c = λ κs lives. (
+  search rules,
+  (
+    lives.0,
+    (
+      lives.1,
+      (
+        c.requires.shallow,
+        head-stamped c.requires.stamped.0 c.args.stamps.now c.loop-t.stamps c.in-Some.t c.loop-t.pending c.pop.new.self c.loop-t.out.items c.in-Some.ensures.first
+            (c.loop-t.invariant.1.1.1 c.requires.stamped.0 c.requires.stamped.1),
+      ),
+    ),
+  ),
+)
+
+pub expand_arguments-expand_argument-requires : goal.expand_arguments-expand_argument-requires
+expand_arguments-expand_argument-requires g t c = λ κs lives. (
+  search rules,
+  (
+    lives.0,
+    (
+      lives.1,
+      (
+        c.requires.shallow,
+        argument-stamped c.requires.stamped.0 c.args.stamps.now c.loop-argument.stamps c.in-Some.argument c.loop-argument.out.items c.loop-argument.left.items c.pop_front.new.self.items
+            c.in-Some.ensures.items (c.loop-argument.invariant.1.1.1.1 c.requires.stamped.0 c.requires.stamped.1),
+      ),
+    ),
+  ),
+)
+
+pub expand_name-expand_call-requires : goal.expand_name-expand_call-requires
+expand_name-expand_call-requires g t c = λ κs lives. (
+  search rules,
+  (
+    lives.0,
+    (
+      lives.1,
+      (
+        let read = c.in_ok-read_name.ensures.stamped c.requires.stamped.0 c.args.stamps.now c.requires.stamped.1.1 in
+            let call = subst (NameStamped c.requires.stamped.0 c.args.stamps.now c.stamp_of.result) c.in-Call.is read.1 in
+            (c.requires.stamped.0, (c.requires.stamped.1.0, call)),
+        (c.requires.shallow, search rules),
+      ),
+    ),
+  ),
+)

@@ -2,6 +2,8 @@ use Rattle.std.proofs.Common.{◌≡◌, ◌+◌, ◌-◌, ◌*◌, ◌≤◌, m
 use Rattle.base_types.specs.Limits.{argument_depth_limit}
 use Rattle.macro_expand.specs.Answered.{before, expanded_for, arguments_for}
 use Rattle.macro_expand.specs.Seen.{marked_of, lists_of, parts_seen}
+use Rattle.macro_expand.specs.parts.Stamps.{Stamps, AllStamped, EachStamped, StampsAfter}
+use Rattle.macro_expand.proofs.StampLaws.{ArgumentsAfter}
 use Rattle.macro_expand.proofs.AnsweredLaws.{before_all}
 use Rattle.macro_expand.proofs.expansion.+expanding.Given as goal
 
@@ -30,7 +32,9 @@ invariant-expand_arguments-loop-argument g l =
     (arguments_for (g.A.Answers.answerer l.source) l.initial.answers l.mode l.depth l.t.token (parts_seen l.call.parts.items) 0 l.initial.work.left (lists_of l.fn.written.items)
     ≡ before_all (lists_of l.out.items)
     (arguments_for (g.A.Answers.answerer l.source) l.answers l.mode l.depth l.t.token (parts_seen l.call.parts.items) (length l.out.items) l.work.left (lists_of l.left.items)))
-    × ((length l.out.items + length l.left.items ≡ length l.call.alone.items) × (l.work.left ≤ l.initial.work.left))
+    × ((length l.out.items + length l.left.items ≡ length l.call.alone.items) × ((l.work.left ≤ l.initial.work.left)
+    × ((l.initial.stamps ≤ l.stamps)
+    × ((sets : Stamps) → EachStamped sets l.initial.stamps l.fn.written.items → ArgumentsAfter sets l.initial.stamps l.stamps l.out.items l.left.items))))
 
 abbrev pub decreases-expand_arguments-loop-argument : goal.decreases-expand_arguments-loop-argument
 decreases-expand_arguments-loop-argument g l = deque_len l.left
@@ -41,7 +45,8 @@ invariant-expand_list-loop-t g l =
     (expanded_for (g.A.Answers.answerer l.source) l.initial.answers l.mode l.depth l.initial.work.left (map marked_of l.fn.given.items)
     ≡ before (map marked_of l.out.items)
     (expanded_for (g.A.Answers.answerer l.source) l.answers l.mode l.depth l.work.left (map marked_of l.pending)))
-    × (l.work.left ≤ l.initial.work.left)
+    × ((l.work.left ≤ l.initial.work.left) × ((l.initial.stamps ≤ l.stamps)
+    × ((sets : Stamps) → AllStamped sets l.initial.stamps l.fn.given.items → StampsAfter sets l.initial.stamps l.stamps l.pending l.out.items)))
 
 abbrev pub decreases-expand_list-loop-t : goal.decreases-expand_list-loop-t
 decreases-expand_list-loop-t g l = l.work.left + length l.pending

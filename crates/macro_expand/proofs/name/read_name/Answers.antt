@@ -1,10 +1,11 @@
-use Rattle.std.proofs.Common.{ℕ, List, map, ap, sym, ◌∙◌, refl}
+use Rattle.std.proofs.Common.{ℕ, List, map, ap, sym, ◌∙◌, refl, subst}
 use Rattle.std.proofs.lemmas.Result.{err_from_is_err_and}
 use Rattle.macro_defs.specs.Arguments.{parameters_in}
 use Rattle.macro_expand.specs.Replacement.{body_parts}
 use Rattle.macro_expand.specs.Expansion.{variable_of}
 use Rattle.macro_expand.specs.Seen.{marked_of, lists_of, parts_seen}
 use Rattle.macro_expand.proofs.NameLaws.{head_undefined, head_object, head_object_error, head_not_called, head_refused, head_called, stand_alone-same}
+use Rattle.macro_expand.specs.parts.Stamps.{Stamped}
 use Rattle.macro_expand.proofs.name.read_name.Goals as goal
 
 pub returns-in_default-clause-ok : goal.returns-in_default-clause-ok
@@ -50,3 +51,8 @@ pub returns-in_ok-written-in-Function-clause-alone : goal.returns-in_ok-written-
 returns-in_ok-written-in-Function-clause-alone g c =
     stand_alone-same c.in_ok-written-in-Function.call.alone.items c.in_ok-read-in-Function.read.written.items c.in_ok-written-in-Function.written.items
     (parts_seen c.in_ok-written-in-Function.call.parts.items) c.in_ok-written-in-Function.ensures.written c.in_ok-written-in-Function.ensures.alone
+
+pub returns-in_ok-written-in-Function-clause-stamped : goal.returns-in_ok-written-in-Function-clause-stamped
+returns-in_ok-written-in-Function-clause-stamped g c sets next all =
+    let read = c.in_ok-read-in-Function.ensures.stamped sets next (c.take_open.ensures.stamped sets next all) in
+    (read.0, (c.in_ok-written-in-Function.ensures.stamped sets next read.1.0, subst (Stamped sets next) (sym c.in_ok-written-in-Function.ensures.close) read.1.1))

@@ -3,7 +3,9 @@ use Rattle.macro_expand.specs.Replacement.{replacement}
 use Rattle.macro_expand.specs.Sets.{names_in}
 use Rattle.macro_expand.specs.Seen.{marked_of, parts_seen, lists_of, call_replaced_by}
 use Rattle.macro_expand.proofs.PieceLemmas.{call-same, ok-same, err-same}
+use Rattle.macro_expand.proofs.StampLaws.{head-within}
 use Rattle.macro_expand.proofs.replace.call_tokens.Goals as goal
+use Rattle.macro_expand.proofs.replace.call_tokens.Goals.{then-call-t, else-call-t}
 
 pub returns-clause-ok : goal.returns-clause-ok
 returns-clause-ok c =
@@ -30,3 +32,14 @@ returns-clause-err c =
     ∙ ap (λ w. call_replaced_by c.args.t.now (parts_seen c.args.parts.now) c.args.variable (lists_of w) (marked_of c.args.call.now.close)
     (lists_of c.args.expanded.now)) c.deref.ensures.value)
     c.replaced.ensures.err
+
+pub replaced-requires-clause-head : goal.replaced-requires-clause-head
+replaced-requires-clause-head c some =
+    elim c.if-call-t.branch [
+      | then-call-t w ↦ (
+        w.stamping-is,
+        head-within c.args.t.now.hidden c.args.call.now.close.hidden c.in_ok-hidden.hidden c.args.t.now.token.text c.in_ok-hidden.ensures
+            (c.requires.close w.if-call-t.true (λ none. some (w.stamping-is ∙ none))),
+      )
+      | else-call-t w ↦ absurd (some w.stamping-is)
+    ]

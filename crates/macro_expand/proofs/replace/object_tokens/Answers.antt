@@ -31,4 +31,4 @@ pub returns-clause-ok : goal.returns-clause-ok
 returns-clause-ok c =
     object-lent c.args.t.now c.args.d.now.body c.in_ok-hidden.hidden (map marked_of c.in_ok-made.made.items) c.in_ok-hidden.ensures
     (ap (list_any is_pasting) (sym c.body-body.ensures) ∙ sym c.has_pasting.ensures ∙ c.if-has_pasting.false)
-    (c.in_ok-made.ensures ∙ ap (λ ts. put_in_for c.args.t.now.token (names_in c.in_ok-hidden.hidden) (map unmarked ts)) c.body-body.ensures)
+    (c.in_ok-made.ensures.placed ∙ ap (λ ts. put_in_for c.args.t.now.token (names_in c.in_ok-hidden.hidden) (map unmarked ts)) c.body-body.ensures)

@@ -17,4 +17,4 @@ pub returns-clause-ok : goal.returns-clause-ok
 returns-clause-ok c =
     replacement-made c.args.t.now.token (names_in c.args.hidden.now) (parts_seen c.args.parts.now) (arguments_seen c.args.arguments.now)
     (pieces_of (arguments_seen c.args.arguments.now) None (parts_seen c.args.parts.now)) refl (map marked_of c.in_ok-made.made.items)
-    (map marked_of c.in_ok-out.out.items) c.in_ok-made.ensures.ok c.in_ok-out.ensures
+    (map marked_of c.in_ok-out.out.items) c.in_ok-made.ensures.ok c.in_ok-out.ensures.placed

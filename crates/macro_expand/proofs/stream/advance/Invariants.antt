@@ -1,6 +1,7 @@
 use Rattle.std.proofs.Common.{◌≡◌, ◌+◌, ◌≤◌, [], length}
 use Rattle.macro_defs.specs.Table.{lookup}
 use Rattle.macro_expand.specs.parts.Steps.{Becomes}
+use Rattle.macro_expand.specs.parts.Stamps.{Stamps, AllStamped}
 use Rattle.macro_expand.proofs.stream.advance.Given as goal
 
 -- nothing was put out so far, and the pending tokens become what those at the beginning do
@@ -11,6 +12,7 @@ invariant-loop-t l =
       empty : l.out.items ≡ [];
       fewer : length l.pending + l.work.left ≤ length l.initial.pending + l.initial.work.left;
       spends : l.work.left ≤ l.initial.work.left;
+      stamped : (sets : Stamps) × AllStamped sets l.stamps l.pending;
     }
 
 abbrev pub decreases-loop-t : goal.decreases-loop-t
