@@ -296,7 +296,16 @@ fn gather(alloc: Global, text: &[u8], splices: &[u32]) -> Result<Gathering, Allo
     Ok(gathering)
 }
 
-// The file that a text makes and what is gathered of all of it, with its splices where that is all its tokens. Room that
+// Gives room that nothing took back, unless it is little: most texts of a compile command are a few bytes.
+fn give_back<T>(list: &mut Vec<T>)
+    ensures { list.new.items ≡ list.old.items }
+{
+    if list.capacity().saturating_sub(list.len()) > 64 {
+        list.shrink_to_fit();
+    }
+}
+
+// The file that a text makes and what is gathered of all of it, with its splices where that is all its tokens. Much room that
 // nothing took is given back.
 fn finished(text: Vec<u8>, splices: Option<Vec<u32>>, gathering: Gathering) -> Lexed
     requires gathered { IsGathered text.items gathering }
@@ -309,8 +318,8 @@ fn finished(text: Vec<u8>, splices: Option<Vec<u32>>, gathering: Gathering) -> L
         unended,
         ..
     } = gathering;
-    places.shrink_to_fit();
-    ends.shrink_to_fit();
+    give_back(&mut places);
+    give_back(&mut ends);
     Lexed {
         text,
         splices,
