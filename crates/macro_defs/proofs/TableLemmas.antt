@@ -1,6 +1,6 @@
 -- Tables after a definition and after an undefinition.
 use Rattle.std.proofs.Common.{◌≡◌, ℕ, Bool, true, false, List, [], ◌∷◌, Option, Some, None, refl, sym, ap, ◌∙◌, true≢false, if◌then◌else◌, OnOk, MatchOption}
-use Rattle.std.specs.Prelude.{Vec, Result, Ok, Err, bytes_eq}
+use Rattle.std.specs.Prelude.{Result, Ok, Err, bytes_eq}
 use Rattle.std.specs.Borrow.{Bor}
 use Rattle.std.specs.Map as map
 use Rattle.std.specs.Option.{option_copied, option_flatten}
@@ -8,7 +8,6 @@ use Rattle.std.proofs.lemmas.Cmp.{nat_list_eq_equiv}
 use Rattle.indexmap.specs.IndexMap.{insert_entry}
 use Rattle.macro_defs.specs.MacroDefinition.{MacroDefinition}
 use Rattle.macro_defs.specs.Table.{TableEntries, lookup, names_ever_defined, with_definition, SetsDefinition}
-use Rattle.macro_defs.specs.parts.Stored.{entries_of_map}
 
 abbrev Defined : Type 0
 Defined = Option MacroDefinition
@@ -56,70 +55,59 @@ pub put_sets_ok : {E : Type 0} (result : Result (Unit {0}) E) (old new : TableEn
 put_sets_ok (Ok u) old new k d is = λ n. ap (λ t. lookup t n) is ∙ put_sets old k d n
 put_sets_ok (Err e) old new k d is = tt
 
--- the entries of a map with byte strings as keys
-abbrev Stored : Type 0 → Type 0
-Stored A = List (Vec ℕ A × Defined)
+-- what a map holds after an insertion, as it is seen
+pub seen_inserted : (es : TableEntries) (k : List ℕ) (d : Defined) → insert_entry bytes_eq es k d ≡ with_definition es k d
+seen_inserted [] k d = refl
+seen_inserted (e ∷ es) k d = by (bytes_eq k e.0) (seen_inserted es k d)
+  where
+    by : (b : Bool) → insert_entry bytes_eq es k d ≡ with_definition es k d
+        → (if b then (e.0, d) ∷ es else e ∷ insert_entry bytes_eq es k d) ≡ (if b then (e.0, d) ∷ es else (e.0, e.1) ∷ with_definition es k d)
+    by true rest = refl
+    by false rest = ap (λ (r : TableEntries). (e.0, e.1) ∷ r) rest
 
-module _ {A : Type 0} where
-  abbrev same_key : Vec ℕ A → Vec ℕ A → Bool
-  same_key j k = bytes_eq j.items k.items
+-- a definition that is written over is the name's, and each other name keeps its own
+pub written_sets : (es : TableEntries) (k : List ℕ) → SetsDefinition es k None (map.set_value (bytes_eq k) es None)
+unfolding lookup
+written_sets [] k n = nothing k n
+written_sets (e ∷ es) k n = by (bytes_eq k e.0) refl (written_sets es k n)
+  where
+    by : (b : Bool) → bytes_eq k e.0 ≡ b → lookup (map.set_value (bytes_eq k) es None) n ≡ (if bytes_eq k n then None else lookup es n)
+        → lookup (if b then (e.0, None) ∷ es else e ∷ map.set_value (bytes_eq k) es None) n ≡ (if bytes_eq k n then None else (if bytes_eq n e.0 then e.1 else lookup es n))
+    by true same rest = here k e.0 n None e.1 (lookup es n) same
+    by false apart rest = ap (λ (r : Defined). if bytes_eq n e.0 then e.1 else r) rest ∙ there k e.0 n None e.1 (lookup es n) apart
 
-  abbrev is_key : List ℕ → Vec ℕ A → Bool
-  is_key name k = bytes_eq name k.items
+-- a definition that is written over leaves the names
+pub written_names : (es : TableEntries) (k : List ℕ) → names_ever_defined (map.set_value (bytes_eq k) es None) ≡ names_ever_defined es
+written_names [] k = refl
+written_names (e ∷ es) k = by (bytes_eq k e.0) (written_names es k)
+  where
+    by : (b : Bool) → names_ever_defined (map.set_value (bytes_eq k) es None) ≡ names_ever_defined es
+        → names_ever_defined (if b then (e.0, None) ∷ es else e ∷ map.set_value (bytes_eq k) es None) ≡ e.0 ∷ names_ever_defined es
+    by true rest = refl
+    by false rest = ap (λ (names : List (List ℕ)). e.0 ∷ names) rest
 
-  -- what a map holds after an insertion, as it is seen
-  pub seen_inserted : (es : Stored A) (k : Vec ℕ A) (d : Defined) → entries_of_map (insert_entry same_key es k d) ≡ with_definition (entries_of_map es) k.items d
-  seen_inserted [] k d = refl
-  seen_inserted (e ∷ es) k d = by (same_key k e.0) (seen_inserted es k d)
-    where
-      by : (b : Bool) → entries_of_map (insert_entry same_key es k d) ≡ with_definition (entries_of_map es) k.items d
-          → entries_of_map (if b then (e.0, d) ∷ es else e ∷ insert_entry same_key es k d) ≡ (if b then (e.0.items, d) ∷ entries_of_map es else (e.0.items, e.1) ∷ with_definition (entries_of_map es) k.items d)
-      by true rest = refl
-      by false rest = ap (λ (r : TableEntries). (e.0.items, e.1) ∷ r) rest
+-- a map that lacks the name
+pub absent_sets : (es : TableEntries) (k : List ℕ) → map.lookup (bytes_eq k) es ≡ None → SetsDefinition es k None es
+unfolding lookup
+absent_sets [] k none n = nothing k n
+absent_sets (e ∷ es) k none n = by (bytes_eq k e.0) refl none (λ left. absent_sets es k left n)
+  where
+    by : (b : Bool) → bytes_eq k e.0 ≡ b → (if b then Some e.1 else map.lookup (bytes_eq k) es) ≡ None
+        → (map.lookup (bytes_eq k) es ≡ None → lookup es n ≡ (if bytes_eq k n then None else lookup es n))
+        → (if bytes_eq n e.0 then e.1 else lookup es n) ≡ (if bytes_eq k n then None else (if bytes_eq n e.0 then e.1 else lookup es n))
+    by true same absent rest = cc
+    by false apart absent rest = ap (λ (r : Defined). if bytes_eq n e.0 then e.1 else r) (rest absent) ∙ there k e.0 n None e.1 (lookup es n) apart
 
-  -- a definition that is written over is the name's, and each other name keeps its own
-  pub written_sets : (es : Stored A) (k : List ℕ) → SetsDefinition (entries_of_map es) k None (entries_of_map (map.set_value (is_key k) es None))
-  unfolding lookup
-  written_sets [] k n = nothing k n
-  written_sets (e ∷ es) k n = by (is_key k e.0) refl (written_sets es k n)
-    where
-      by : (b : Bool) → is_key k e.0 ≡ b → lookup (entries_of_map (map.set_value (is_key k) es None)) n ≡ (if bytes_eq k n then None else lookup (entries_of_map es) n)
-          → lookup (entries_of_map (if b then (e.0, None) ∷ es else e ∷ map.set_value (is_key k) es None)) n ≡ (if bytes_eq k n then None else (if bytes_eq n e.0.items then e.1 else lookup (entries_of_map es) n))
-      by true same rest = here k e.0.items n None e.1 (lookup (entries_of_map es) n) same
-      by false apart rest = ap (λ (r : Defined). if bytes_eq n e.0.items then e.1 else r) rest ∙ there k e.0.items n None e.1 (lookup (entries_of_map es) n) apart
-
-  -- a definition that is written over leaves the names
-  pub written_names : (es : Stored A) (k : List ℕ) → names_ever_defined (entries_of_map (map.set_value (is_key k) es None)) ≡ names_ever_defined (entries_of_map es)
-  written_names [] k = refl
-  written_names (e ∷ es) k = by (is_key k e.0) (written_names es k)
-    where
-      by : (b : Bool) → names_ever_defined (entries_of_map (map.set_value (is_key k) es None)) ≡ names_ever_defined (entries_of_map es)
-          → names_ever_defined (entries_of_map (if b then (e.0, None) ∷ es else e ∷ map.set_value (is_key k) es None)) ≡ e.0.items ∷ names_ever_defined (entries_of_map es)
-      by true rest = refl
-      by false rest = ap (λ (names : List (List ℕ)). e.0.items ∷ names) rest
-
-  -- a map that lacks the name
-  pub absent_sets : (es : Stored A) (k : List ℕ) → map.lookup (is_key k) es ≡ None → SetsDefinition (entries_of_map es) k None (entries_of_map es)
-  unfolding lookup
-  absent_sets [] k none n = nothing k n
-  absent_sets (e ∷ es) k none n = by (is_key k e.0) refl none (λ left. absent_sets es k left n)
-    where
-      by : (b : Bool) → is_key k e.0 ≡ b → (if b then Some e.1 else map.lookup (is_key k) es) ≡ None
-          → (map.lookup (is_key k) es ≡ None → lookup (entries_of_map es) n ≡ (if bytes_eq k n then None else lookup (entries_of_map es) n))
-          → (if bytes_eq n e.0.items then e.1 else lookup (entries_of_map es) n) ≡ (if bytes_eq k n then None else (if bytes_eq n e.0.items then e.1 else lookup (entries_of_map es) n))
-      by true same absent rest = cc
-      by false apart absent rest = ap (λ (r : Defined). if bytes_eq n e.0.items then e.1 else r) (rest absent) ∙ there k e.0.items n None e.1 (lookup (entries_of_map es) n) apart
-
-  -- a look-up in a map
-  pub seen_lookup : (es : Stored A) (name : List ℕ) → lookup (entries_of_map es) name ≡ option_flatten (map.lookup (is_key name) es)
-  unfolding lookup
-  seen_lookup [] name = refl
-  seen_lookup (e ∷ es) name = by (is_key name e.0) (seen_lookup es name)
-    where
-      by : (b : Bool) → lookup (entries_of_map es) name ≡ option_flatten (map.lookup (is_key name) es)
-          → (if b then e.1 else lookup (entries_of_map es) name) ≡ option_flatten (if b then Some e.1 else map.lookup (is_key name) es)
-      by true rest = refl
-      by false rest = rest
+-- a look-up in a map
+pub seen_lookup : (es : TableEntries) (name : List ℕ) → lookup es name ≡ option_flatten (map.lookup (bytes_eq name) es)
+unfolding lookup
+seen_lookup [] name = refl
+seen_lookup (e ∷ es) name = by (bytes_eq name e.0) (seen_lookup es name)
+  where
+    by : (b : Bool) → lookup es name ≡ option_flatten (map.lookup (bytes_eq name) es)
+        → (if b then e.1 else lookup es name) ≡ option_flatten (if b then Some e.1 else map.lookup (bytes_eq name) es)
+    by true rest = refl
+    by false rest = rest
 
 -- what a reference to a definition tells
 pub lent : (found : Option (Bor MacroDefinition)) (is told : Defined) → option_copied found ≡ is → told ≡ is → MatchOption found (told ≡ None) (λ d. told ≡ Some d.now)

@@ -3,6 +3,7 @@
 
 mod copies;
 mod definition;
+mod key;
 mod marks;
 mod numbers;
 mod params;

@@ -3,6 +3,7 @@ ghost use Rattle.std.specs.Prelude.{◌≡◌, ◌<◌, true, IfOk, OnOk, Some};
 ghost use Rattle.macro_defs.specs.Table.{one_token, is_always_defined};
 ghost use Rattle.macro_defs.specs.parts.NameMarks.{mark_of, has_mark, KeepsMarks};
 
+use crate::key::Key;
 use crate::{Definition, Shape};
 use base_types::{Bytes, List};
 use indexmap::IndexMap;
@@ -15,7 +16,7 @@ use std::marker::Model;
 /// average.
 #[derive(Drop)]
 pub struct MacroTable {
-    entries: IndexMap<Vec<u8>, Option<Definition>>,
+    entries: IndexMap<Bytes, Option<Definition>>,
     // The marks of all names that were ever put, each at its `mark_of`; none before the first name. Most identifiers of a
     // text name no macro, and an unset mark tells this of most of them without the hashing of a name.
     marks: Vec<bool>,
@@ -26,14 +27,13 @@ const MARKS: usize = 8192;
 
 impl Model for MacroTable {
     ghost use Rattle.macro_defs.specs.Table.{TableEntries, names_ever_defined};
-    ghost use Rattle.macro_defs.specs.parts.Stored.{entries_of_map};
     ghost use Rattle.macro_defs.specs.parts.NameMarks.{AreMarked};
 
     ghost Value = { TableEntries };
 
-    ghost view = { λ t. entries_of_map t.entries.entries };
+    ghost view = { λ t. t.entries.entries };
 
-    ghost invariant = { λ t. AreMarked t.marks.items (names_ever_defined (entries_of_map t.entries.entries)) };
+    ghost invariant = { λ t. AreMarked t.marks.items (names_ever_defined t.entries.entries) };
 }
 
 impl MacroTable {
@@ -78,9 +78,8 @@ impl MacroTable {
         ensures ok { OnOk result (self.new ≡ with_definition self.old name (Some definition)) }
         ensures err { OnErr result (self.new ≡ self.old) }
     {
-        let key = name.into_vec()?;
-        set_mark(&mut self.marks, key.as_slice())?;
-        match self.entries.insert(key, Some(definition)) {
+        set_mark(&mut self.marks, name.as_slice())?;
+        match self.entries.insert(name, Some(definition)) {
             Ok(_) => Ok(()),
             Err(_) => Err(AllocError),
         }
@@ -101,7 +100,7 @@ impl MacroTable {
         ensures sets { SetsDefinition self.old name.now None self.new }
         ensures names { names_ever_defined self.new ≡ names_ever_defined self.old }
     {
-        if let Some(definition) = self.entries.get_mut(name) {
+        if let Some(definition) = self.entries.get_mut(Key { text: name }) {
             *definition = None;
         }
     }
@@ -121,7 +120,7 @@ impl MacroTable {
     fn get_hashed(&self, name: &[u8]) -> Option<&Definition>
         ensures { MatchOption result (lookup self.now name.now ≡ None) (λ d. lookup self.now name.now ≡ Some d.now) }
     {
-        match self.entries.get(name) {
+        match self.entries.get(Key { text: name }) {
             Some(definition) => definition.as_ref(),
             None => None,
         }

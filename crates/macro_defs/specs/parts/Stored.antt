@@ -1,18 +1,12 @@
 -- How maps and sets of names are seen, and what a definition keeps beside its value.
-use Rattle.std.specs.Prelude.{ℕ, List, [], ◌∷◌, map, Option, None, Vec, if◌then◌else◌, bytes_eq}
+use Rattle.std.specs.Prelude.{ℕ, List, [], ◌∷◌, map, Option, None, if◌then◌else◌, bytes_eq}
 use Rattle.std.specs.Borrow.{Bor}
 use Rattle.indexmap.specs.IndexMap.{IndexMap, get_by}
 use Rattle.pp_tokens.specs.declared.Token.{Token}
 use Rattle.pp_tokens.specs.Marks.{is_identifier}
-use Rattle.macro_defs.specs.MacroDefinition.{MacroDefinition}
 use Rattle.macro_defs.specs.declared.params.Names.{Names}
 use Rattle.macro_defs.specs.declared.params.Names.TheVariants as names
 use Rattle.macro_defs.specs.Arguments.{argument_named}
-use Rattle.macro_defs.specs.Table.{TableEntries}
-
--- the entries of a map, each key as its bytes
-abbrev pub entries_of_map : {A : Type 0} → List (Vec ℕ A × Option MacroDefinition) → TableEntries
-entries_of_map entries = map (λ e. (e.0.items, e.1)) entries
 
 -- the spellings in a set of names
 abbrev pub spellings_of : List (Bor (List ℕ)) → List (List ℕ)
