@@ -26,6 +26,10 @@ impl Answers<MacroTable> for Nowhere {
         Ok(source.get(name))
     }
 
+    fn lacks(&self, source: &MacroTable, name: &[u8]) -> bool {
+        source.get(name).is_none()
+    }
+
     fn file(&mut self, _alloc: Global, _source: &MacroTable) -> Result<Option<Bytes>, AllocError> {
         Ok(None)
     }

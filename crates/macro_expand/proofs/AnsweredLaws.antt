@@ -1,8 +1,7 @@
 -- How an expansion goes on, token by token, whoever answers.
-use Rattle.std.proofs.Common.{◌≡◌, ℕ, suc, add-one, ◌+◌, ◌-◌, ◌<◌, ◌≤◌, Bool, true, false, not, ◌||◌, List, [], ◌∷◌, ◌++◌, length, refl, ap, sym, ◌∙◌, append_assoc, Result, Ok, Err, Option, Some, None, arith, nat_lt}
+use Rattle.std.proofs.Common.{◌≡◌, ℕ, suc, add-one, ◌+◌, ◌-◌, ◌<◌, ◌≤◌, Bool, true, false, ◌⊎◌, inl, inr, List, [], ◌∷◌, ◌++◌, length, refl, ap, sym, ◌∙◌, append_assoc, Result, Ok, Err, Option, Some, None, arith, nat_lt}
 use mathlib.Core.Path.{fun_ext}
-use Rattle.std.proofs.lemmas.Bool.{le-ltb, lt-ltb, cond-true, true≢false}
-use Rattle.std.specs.List.{list_any}
+use Rattle.std.proofs.lemmas.Bool.{le-ltb, lt-ltb}
 use Rattle.base_types.specs.Limits.{argument_depth_limit}
 use Rattle.macro_expand.specs.declared.outcome.Mode.{Mode}
 use Rattle.pp_tokens.specs.declared.Kind.{Kind}
@@ -15,7 +14,7 @@ use Rattle.macro_expand.specs.Asking.{Failure, Count, Unclosed, Deep, Work, Aski
 use Rattle.macro_expand.specs.Replacement.{Marked, BodyPart, Call, call_in, after_open, arguments_of, body_parts, stands_alone}
 use Rattle.macro_expand.specs.Expansion.{ExpandedEach, argument_expanded, arguments_expanded, counted, called, function_replaced, call_replacement, variable_of, Expanded, expansion, expansion_step, head_role, role_expanded, name_replaced, macro_replaced, charged, go_on, put_out, object_replacement, operand_of_defined, replaced_token, built_in, Table, Place, by_table}
 use Rattle.macro_expand.specs.Answered.{Answerer, Stop, ByFailure, ByPresumed, Answered, with_text, answered, after_result, answered_and_then, before, expanded_for, charged_for, argument_for, arguments_for, table_answerer}
-use Rattle.macro_expand.specs.parts.Naming.{is_named}
+use Rattle.macro_expand.specs.parts.Steps.{EachStaysFor}
 use Rattle.macro_expand.proofs.StepLaws.{expansion-unfolds}
 
 -- the first part, and then what follows its result
@@ -57,10 +56,6 @@ before-before a b r = go r.result
     go (Ok e) = ap (λ w. record { result = Ok (record e { tokens = w }); state = r.state }) (sym (append_assoc a b e.tokens))
     go (Err e) = refl
 
-unnamed_role : (mode : Mode) (t : Marked) (rest : List Marked) → is_named t ≡ false → head_role mode t rest ≡ Ordinary
-unfolding head_role
-unnamed_role mode t rest is = cond-true _ _ _ (ap not is)
-
 module _ {S : Type 0} (w : Answerer S) (s : S) (mode : Mode) (depth units : ℕ) where
   answered-put_out : (ts : List Marked) (t : Asking Expanded) → answered w s (put_out ts t) ≡ before ts (answered w s t)
   unfolding put_out before answered
@@ -82,19 +77,6 @@ module _ {S : Type 0} (w : Answerer S) (s : S) (mode : Mode) (depth units : ℕ)
       expanded_for-step t rest
       ∙ ap (λ r. answered w s (role_expanded (expansion mode) depth units t rest r)) e
       ∙ answered-put_out (t ∷ []) (expansion mode depth units rest)
-
-  -- tokens without an identifier stand for themselves
-  pub expanded_for-unnamed : (ts : List Marked) → list_any is_named ts ≡ false →
-      expanded_for w s mode depth units ts ≡ record { result = Ok (record { tokens = ts; units = units }); state = s }
-  unfolding before answered_and_then after_result
-  expanded_for-unnamed [] none = expanded_for-nil
-  expanded_for-unnamed (t ∷ ts) none = go (is_named t) refl none (expanded_for-unnamed ts)
-    where
-      go : (b : Bool) → is_named t ≡ b → (b || list_any is_named ts) ≡ false →
-          (list_any is_named ts ≡ false → expanded_for w s mode depth units ts ≡ record { result = Ok (record { tokens = ts; units = units }); state = s }) →
-          expanded_for w s mode depth units (t ∷ ts) ≡ record { result = Ok (record { tokens = t ∷ ts; units = units }); state = s }
-      go true is rest others = absurd (true≢false rest)
-      go false is rest others = expanded_for-ordinary t ts (unnamed_role mode t ts is) ∙ ap (before (t ∷ [])) (others rest)
 
   pub expanded_for-defined : (t : Marked) (rest : List Marked) → head_role mode t rest ≡ Defined →
       expanded_for w s mode depth units (t ∷ rest)
@@ -267,6 +249,19 @@ module _ {S : Type 0} (w : Answerer S) (s u : S) (mode : Mode) (depth units : �
 -- lists before other lists
 unfoldable pub before_all : {S : Type 0} → List (List Marked) → Answered ExpandedEach S → Answered ExpandedEach S
 before_all ls a = answered_and_then a (λ e s. record { result = Ok (record e { lists = ls ++ e.lists }); state = s })
+
+-- Tokens that are put out as they are, whoever was asked before, stand for themselves.
+pub expanded_for-staying : {S : Type 0} (w : Answerer S) (s : S) (mode : Mode) (depth units : ℕ) (ts : List Marked) → EachStaysFor w mode ts →
+    expanded_for w s mode depth units ts ≡ record { result = Ok (record { tokens = ts; units = units }); state = s }
+unfolding before answered_and_then after_result
+expanded_for-staying w s mode depth units [] each = expanded_for-nil w s mode depth units
+expanded_for-staying w s mode depth units (t ∷ ts) each = go (each.0 ts) ∙ ap (before (t ∷ [])) (expanded_for-staying w s mode depth units ts each.1)
+  where
+    go : (head_role mode t ts ≡ Ordinary) ⊎ ((head_role mode t ts ≡ Name) × ((u : _) → w.definition u t.token.text ≡ record { answer = None; state = u })) →
+        expanded_for w s mode depth units (t ∷ ts) ≡ before (t ∷ []) (expanded_for w s mode depth units ts)
+    go (inl ordinary) = expanded_for-ordinary w s mode depth units t ts ordinary
+    go (inr (name, lacks)) =
+        expanded_for-undefined w s s mode depth units t ts name (ap (λ r. r.state) (lacks s)) (ap (λ r. r.answer) (lacks s))
 
 pub before_all-nothing : {S : Type 0} (a : Answered ExpandedEach S) → before_all [] a ≡ a
 unfolding before_all answered_and_then after_result

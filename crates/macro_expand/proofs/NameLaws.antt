@@ -16,10 +16,10 @@ use Rattle.macro_expand.specs.Replacement.{Marked, after_open, BodyPart, body_pa
 use Rattle.macro_expand.specs.Expansion.{Expanded, ExpandedEach, head_role, object_replacement, variable_of, call_replacement}
 use Rattle.macro_expand.specs.Answered.{Answerer, ByFailure, Answered, after_result, answered_and_then, before, expanded_for, charged_for, argument_for, arguments_for}
 use Rattle.macro_expand.specs.Seen.{marked_of, lists_of, parts_seen, Reports, Stops, ReadsCall, RefusesCall, KeepsWritten, call_replaced_by}
-use Rattle.macro_expand.specs.parts.Naming.{StandAlone, called_for, is_named}
-use Rattle.std.specs.List.{list_any}
+use Rattle.macro_expand.specs.parts.Naming.{StandAlone, called_for}
+use Rattle.macro_expand.specs.parts.Steps.{EachStaysFor}
 use Rattle.base_types.specs.Limits.{argument_depth_limit}
-use Rattle.macro_expand.proofs.AnsweredLaws.{expanded_for-unnamed, argument_for-skipped, argument_for-deep, argument_for-alone, expanded_for-undefined, expanded_for-object, expanded_for-not_called, expanded_for-unclosed, expanded_for-count, expanded_for-called, charged_for-error, before_all, before_all-lists, arguments_for-next, arguments_for-nil}
+use Rattle.macro_expand.proofs.AnsweredLaws.{expanded_for-staying, argument_for-skipped, argument_for-deep, argument_for-alone, expanded_for-undefined, expanded_for-object, expanded_for-not_called, expanded_for-unclosed, expanded_for-count, expanded_for-called, charged_for-error, before_all, before_all-lists, arguments_for-next, arguments_for-nil}
 use Rattle.macro_expand.proofs.PieceLemmas.{written_is}
 use Rattle.macro_expand.proofs.LoopLaws.{Stops-is, Stops-same, Stops-reports}
 
@@ -151,11 +151,11 @@ module _ {S : Type 0} (w : Answerer S) (s : S) (mode : Mode) (depth units : ℕ)
     argument_deep deep =
         ap (λ b. argument_for w s mode depth t b units (map marked_of a)) stands ∙ argument_for-deep w s mode depth t units (map marked_of a) deep
 
-    pub argument_unnamed : depth < argument_depth_limit → list_any is_named (map marked_of a) ≡ false →
+    pub argument_staying : depth < argument_depth_limit → EachStaysFor w mode (map marked_of a) →
         argument_for w s mode depth t alone units (map marked_of a) ≡ record { result = Ok (record { tokens = map marked_of a; units = units }); state = s }
-    argument_unnamed shallow none =
+    argument_staying shallow stay =
         ap (λ b. argument_for w s mode depth t b units (map marked_of a)) stands ∙ argument_for-alone w s mode depth t units (map marked_of a) shallow
-        ∙ expanded_for-unnamed w s mode (depth + 1) units (map marked_of a) none
+        ∙ expanded_for-staying w s mode (depth + 1) units (map marked_of a) stay
 
     module _ (shallow : depth < argument_depth_limit) (given : List Kept) (same : given ≡ a) (u : S) (left : ℕ) where
       argument_is : Argument ≡ expanded_for w s mode (depth + 1) units (map marked_of given)

@@ -1,5 +1,5 @@
 // Who answers what expansion asks.
-ghost use Rattle.std.specs.Prelude.{◌≡◌, pos, ◌+ℤ◌, IfOk, Option, Some, None};
+ghost use Rattle.std.specs.Prelude.{◌≡◌, pos, ◌+ℤ◌, IfOk, IsTrue, Option, Some, None};
 ghost use Rattle.std.specs.Option.{option_copied};
 ghost use Rattle.std.specs.Fmt.{signed_decimal};
 ghost use Rattle.macro_defs.specs.Table.{lookup};
@@ -34,6 +34,10 @@ pub trait Answers<S> {
         ensures answer { IfOk result (λ d. option_copied d ≡ ((answerer source.now).definition self.old name.now).answer) }
         ensures state { IfOk result (λ d. self.new ≡ ((answerer source.now).definition self.old name.now).state) };
 
+    /// Whether a name is known to have no definition, so that nobody asks for it: the answer would be none, and the state the same.
+    fn lacks(&self, source: &S, name: &[u8]) -> bool
+        ensures { IsTrue result → (state : Self) → (answerer source.now).definition state name.now ≡ record { answer = None; state = state } };
+
     /// The presumed name, where it is known.
     fn file(&mut self, alloc: Global, source: &S) -> Result<Option<Bytes>, AllocError>
         ensures answer { IfOk result (λ t. t ≡ ((answerer source.now).file self.old).answer) }
@@ -60,6 +64,10 @@ impl<'p> Answers<MacroTable> for TablePlace<'p> {
         name: &[u8],
     ) -> Result<Option<&'s Definition>, AllocError> {
         Ok(source.get(name))
+    }
+
+    fn lacks(&self, source: &MacroTable, name: &[u8]) -> bool {
+        source.get(name).is_none()
     }
 
     fn file(&mut self, alloc: Global, source: &MacroTable) -> Result<Option<Bytes>, AllocError> {

@@ -5,14 +5,14 @@
 // it. A call's arguments are expanded before that, each by itself, by a recursion of depth 400 at most. Who answers which definition a name
 // has is a parameter (`Answers`), so that a table of macros and a choice among definitions share one loop. It ends, since each
 // replacement is paid for from `work`.
-ghost use Rattle.std.specs.Prelude.{◌≡◌, ◌⊎◌, ◌+◌, ◌<◌, ◌≤◌, ◌++◌, ◌∷◌, [], map, length, Ok, IfOk, IfErr, OnOk};
+ghost use Rattle.std.specs.Prelude.{◌≡◌, ◌⊎◌, ◌+◌, ◌<◌, ◌≤◌, ◌++◌, ◌∷◌, [], map, length, Ok, IfOk, IfErr, IsTrue, OnOk};
 ghost use Rattle.macro_expand.specs.declared.marked.Role.TheVariants.{Name};
 ghost use Rattle.macro_expand.specs.Replacement.{unmarked};
 ghost use Rattle.macro_expand.specs.Expansion.{head_role};
 ghost use Rattle.macro_expand.specs.Answered.{argument_for, arguments_for, expanded_for};
-ghost use Rattle.std.specs.List.{list_any};
 ghost use Rattle.base_types.specs.Limits.{argument_depth_limit};
-ghost use Rattle.macro_expand.specs.parts.Naming.{StandAlone, called_for, is_named};
+ghost use Rattle.macro_expand.specs.parts.Naming.{StandAlone, called_for};
+ghost use Rattle.macro_expand.specs.parts.Steps.{StaysFor, EachStaysFor};
 ghost use Rattle.macro_expand.specs.parts.Stamps.{Stamps, Stamped, AllStamped, EachStamped, KeepsStamps, StampsAfter, ArePutIn, stamp_of};
 ghost use Rattle.macro_expand.specs.Seen.{marked_of, kept_token, parts_seen, lists_of, StepKeepsResult, Stops, public_of, HasTokens};
 
@@ -22,7 +22,7 @@ use crate::marked::{Marked, Role};
 use crate::name::{MacroCall, ReadName, read_name};
 use crate::operand::{expand_defined, has_operand};
 use crate::outcome::{ExpandError, Mode, RunError, Work};
-use crate::pending::Pending;
+use crate::pending::{Pending, is_place};
 use crate::replace::call_tokens;
 use crate::run::Run;
 use base_types::List;
@@ -82,16 +82,31 @@ pub(crate) fn charge(work: &mut Work, tokens: usize) -> Result<(), RunError>
     Ok(())
 }
 
-// Whether an identifier stands among the tokens.
-fn have_identifier(tokens: &[Marked]) -> bool
-    ensures { result ≡ list_any is_named (map marked_of tokens.now) }
+// Whether a token is put out as it is, whatever stands behind it and whoever was asked before.
+#[tactic(auto, unfolding(crate::specs::Expansion::head_role))]
+fn stays<S, A: Answers<S>>(source: &S, answers: &A, mode: Mode, t: &Marked) -> bool
+    ensures { IsTrue result → StaysFor (A.answerer source.now) mode (marked_of t.now) }
+{
+    if !t.token.is_identifier() {
+        return true;
+    }
+    let name = t.token.text();
+    if name == b"defined".as_slice() && matches!(mode, Mode::Condition) {
+        return false;
+    }
+    !is_place(name) && answers.lacks(source, name)
+}
+
+// Whether tokens are known to be put out as they are.
+fn stay<S, A: Answers<S>>(source: &S, answers: &A, mode: Mode, tokens: &[Marked]) -> bool
+    ensures { IsTrue result → EachStaysFor (A.answerer source.now) mode (map marked_of tokens.now) }
 {
     for t in tokens {
-        if t.token.is_identifier() {
-            return true;
+        if !stays(source, answers, mode, t) {
+            return false;
         }
     }
-    false
+    true
 }
 
 // The tokens of a call's argument: expanded by itself where its parameter stands `alone` (6.10.3.1), else none.
@@ -126,8 +141,8 @@ fn expand_argument<'s, S, A: Answers<S>>(
             line: t.token.line(),
         });
     }
-    // what has no name in it stands for itself
-    if !have_identifier(&argument) {
+    // what no macro touches stands for itself
+    if stay(source, answers, mode, &argument) {
         return Ok(argument);
     }
     expand_list(

@@ -128,7 +128,7 @@ impl<'a> Pending<'a> {
 
 // Whether a name is `__FILE__` or `__LINE__`; their length alone tells most others.
 #[inline(always)]
-fn is_place(name: &[u8]) -> bool
+pub(crate) fn is_place(name: &[u8]) -> bool
     ensures { IsFalse result → (bytes_eq name.now (codes "__FILE__") ≡ false) × (bytes_eq name.now (codes "__LINE__") ≡ false) }
 {
     if name.len() != 8 {

@@ -138,6 +138,11 @@ impl<'f> Answers<DefSets> for Choices<'f> {
         self.choose(source.get(name))
     }
 
+    // A name that is met is noted, so each is asked for.
+    fn lacks(&self, _source: &DefSets, _name: &[u8]) -> bool {
+        false
+    }
+
     fn file(&mut self, alloc: Global, _source: &DefSets) -> Result<Option<Bytes>, AllocError> {
         let name = self.file_name(alloc)?;
         self.meet(b"__FILE__")?;

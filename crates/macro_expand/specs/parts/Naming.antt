@@ -1,6 +1,5 @@
 -- What code reads of a name: what the name and the tokens after it become (6.10.3).
 use Rattle.std.specs.Prelude.{◌≡◌, ◌<◌, ℕ, Bool, false, List, [], ◌∷◌, map, length, get_or, None, Ok}
-use Rattle.pp_tokens.specs.Marks.{is_identifier}
 use Rattle.macro_expand.specs.declared.outcome.Mode.{Mode}
 use Rattle.macro_expand.specs.declared.outcome.RunError.{RunError}
 use Rattle.macro_expand.specs.declared.marked.Marked.{Marked as Kept}
@@ -12,10 +11,6 @@ use Rattle.macro_expand.specs.Replacement.{Marked, BodyPart, stands_alone}
 use Rattle.macro_expand.specs.Expansion.{Expanded, head_role}
 use Rattle.macro_expand.specs.Answered.{Answerer, Answered, answered_and_then, before, expanded_for, charged_for, arguments_for}
 use Rattle.macro_expand.specs.Seen.{marked_of, lists_of, parts_seen, call_replaced_by, Stops}
-
--- whether a token is an identifier
-abbrev pub is_named : Marked → Bool
-is_named m = is_identifier m.token
 
 -- which of so many arguments stand alone somewhere
 abbrev pub StandAlone : List Bool → ℕ → List BodyPart → Type 0

@@ -1,12 +1,13 @@
 -- Steps of an expansion under a table: what of the pending tokens was put out, and what is to come (6.10.3).
-use Rattle.std.specs.Prelude.{◌≡◌, ℕ, ◌⊎◌, List, ◌∷◌, map, None}
+use Rattle.std.specs.Prelude.{◌≡◌, ℕ, ◌⊎◌, List, [], ◌∷◌, map, None}
 use Rattle.pp_tokens.specs.declared.token.Token.{Token}
 use Rattle.macro_expand.specs.declared.answers.TablePlace.{TablePlace}
 use Rattle.macro_expand.specs.declared.marked.Marked.{Marked as Kept}
 use Rattle.macro_expand.specs.declared.marked.Role.TheVariants.{Name, Ordinary}
 use Rattle.macro_expand.specs.declared.outcome.Mode.{Mode}
 use Rattle.macro_expand.specs.Expansion.{Table, head_role}
-use Rattle.macro_expand.specs.Answered.{before, expanded_for, table_answerer}
+use Rattle.macro_expand.specs.Replacement.{Marked}
+use Rattle.macro_expand.specs.Answered.{Answerer, before, expanded_for, table_answerer}
 use Rattle.macro_expand.specs.Seen.{marked_of, kept_token, place_of}
 
 -- a token is put out as it is: an ordinary one, or a name without a definition
@@ -24,3 +25,13 @@ abbrev pub Becomes : Table → TablePlace → Mode → ℕ → List Kept → Lis
 Becomes table s mode units pending out u left later =
     expanded_for (table_answerer (λ _. table) (λ p. place_of p.here.now)) s mode 0 units (map marked_of pending)
     ≡ before (map marked_of out) (expanded_for (table_answerer (λ _. table) (λ p. place_of p.here.now)) u mode 0 left (map marked_of later))
+
+-- a token is put out as it is whoever was asked before, and whatever stands behind it: it is ordinary, or a name that lacks a definition
+abbrev pub StaysFor : {S : Type 0} → Answerer S → Mode → Marked → Type 0
+StaysFor {S} w mode t =
+    (rest : List Marked) → (head_role mode t rest ≡ Ordinary)
+    ⊎ ((head_role mode t rest ≡ Name) × ((s : S) → w.definition s t.token.text ≡ record { answer = None; state = s }))
+
+abbrev pub EachStaysFor : {S : Type 0} → Answerer S → Mode → List Marked → Type 0
+EachStaysFor w mode [] = Unit {0}
+EachStaysFor w mode (t ∷ ts) = StaysFor w mode t × EachStaysFor w mode ts

@@ -2,15 +2,15 @@ use Rattle.std.proofs.Common.{rules, List, map, length, ◌∷◌, refl, ap, sym
 use Rattle.std.proofs.lemmas.List.{nil_from_length}
 use Rattle.std.proofs.lemmas.Result.{err_from_is_err_and}
 use Rattle.macro_expand.specs.Answered.{expanded_for, arguments_for}
-use Rattle.std.specs.List.{list_any}
 use Rattle.macro_expand.specs.declared.marked.Marked.{Marked as Kept}
-use Rattle.macro_expand.specs.parts.Naming.{named_for, called_for, is_named}
+use Rattle.macro_expand.specs.parts.Naming.{named_for, called_for}
+use Rattle.macro_expand.specs.parts.Steps.{EachStaysFor}
 use Rattle.macro_expand.specs.Seen.{marked_of, lists_of, parts_seen}
 use Rattle.macro_expand.proofs.AnsweredLaws.{before-nothing, before_all-nothing}
 use Rattle.macro_expand.proofs.LoopLaws.{Stops-is, on_ok-map, on_ok-both, if_err-map, put_in-paid, put_in-stops, goes_on-left, goes_on-behind, goes_on-ordinary, keeps_step, stops_step, keeps_end}
 use Rattle.macro_expand.specs.parts.Stamps.{Stamped, AllStamped, Alike, NameStamped, ArePutIn}
 use Rattle.macro_expand.proofs.StampLaws.{all-push, all-map, each-map, stamped-later, alike-stamped, arguments-turn, argument-stamped, stamps-turn, head-stamped, call-stamped, with-out}
-use Rattle.macro_expand.proofs.NameLaws.{argument_skipped, argument_deep, argument_unnamed, argument_made, argument_fails, argument_stops, call_replaced, paste_stops, turn_expanded, turn_stops, arguments_end, stands_next, one_moved}
+use Rattle.macro_expand.proofs.NameLaws.{argument_skipped, argument_deep, argument_staying, argument_made, argument_fails, argument_stops, call_replaced, paste_stops, turn_expanded, turn_stops, arguments_end, stands_next, one_moved}
 use Rattle.macro_expand.proofs.expansion.+expanding.Goals as goal
 
 pub expand_argument-returns-then-not-alone-clause-ok : goal.expand_argument-returns-then-not-alone-clause-ok
@@ -23,10 +23,11 @@ expand_argument-returns-then-depth-ge-ARGUMENT_DEPTH_LIMIT-clause-err g t c =
     rw c.line.ensures (argument_deep (g.A.Answers.answerer c.args.source.now) c.args.answers.now c.args.mode c.args.depth c.args.work.now.left c.args.t.now.token c.args.alone c.args.argument.items
     c.if-not-alone.false c.if-depth-ge-ARGUMENT_DEPTH_LIMIT.true)
 
-pub expand_argument-returns-then-not-have_identifier-clause-ok : goal.expand_argument-returns-then-not-have_identifier-clause-ok
-expand_argument-returns-then-not-have_identifier-clause-ok g t c =
-    argument_unnamed (g.A.Answers.answerer c.args.source.now) c.args.answers.now c.args.mode c.args.depth c.args.work.now.left c.args.t.now.token c.args.alone c.args.argument.items
-    c.if-not-alone.false c.if-depth-ge-ARGUMENT_DEPTH_LIMIT.false (ap (λ (l : List Kept). list_any is_named (map marked_of l)) (sym c.deref.ensures.value) ∙ sym c.have_identifier.ensures ∙ c.if-not-have_identifier.true)
+pub expand_argument-returns-then-stay-clause-ok : goal.expand_argument-returns-then-stay-clause-ok
+expand_argument-returns-then-stay-clause-ok g t c =
+    argument_staying (g.A.Answers.answerer c.args.source.now) c.args.answers.now c.args.mode c.args.depth c.args.work.now.left c.args.t.now.token c.args.alone c.args.argument.items
+    c.if-not-alone.false c.if-depth-ge-ARGUMENT_DEPTH_LIMIT.false
+    (subst (λ (l : List Kept). EachStaysFor (g.A.Answers.answerer c.args.source.now) c.args.mode (map marked_of l)) c.deref.ensures.value (c.stay.ensures c.if-stay.true))
 
 pub expand_argument-returns-clause-ok : goal.expand_argument-returns-clause-ok
 expand_argument-returns-clause-ok g t c =
@@ -207,8 +208,8 @@ pub expand_argument-returns-then-not-alone-clause-stamped : goal.expand_argument
 expand_argument-returns-then-not-alone-clause-stamped g t c sets all =
     (sets, ((λ k below. refl), (tt, subst (AllStamped sets c.args.stamps.now) (sym c.new.ensures.items) tt)))
 
-pub expand_argument-returns-then-not-have_identifier-clause-stamped : goal.expand_argument-returns-then-not-have_identifier-clause-stamped
-expand_argument-returns-then-not-have_identifier-clause-stamped g t c sets all = (sets, ((λ k below. refl), (tt, all)))
+pub expand_argument-returns-then-stay-clause-stamped : goal.expand_argument-returns-then-stay-clause-stamped
+expand_argument-returns-then-stay-clause-stamped g t c sets all = (sets, ((λ k below. refl), (tt, all)))
 
 pub expand_arguments-returns-in_err-expanded-clause-stamps : goal.expand_arguments-returns-in_err-expanded-clause-stamps
 expand_arguments-returns-in_err-expanded-clause-stamps g t c = omega (arith, c.in_err-expanded.ensures.stamps, c.loop-argument.invariant.1.1.1.0)
