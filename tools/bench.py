@@ -7,12 +7,12 @@ and REAL the folder that tools/real_text.py made. docs/PERFORMANCE.md says what 
 import os
 import re
 import shutil
-import subprocess
 import sys
 import tempfile
 
 import bodies
 import generated
+import units
 from measure import Job, Row, Table, answer, measure
 
 GCC = ["gcc", "-E", "-undef", "-nostdinc", "-w"]
@@ -53,6 +53,13 @@ class Bench:
         jobs = [Job([program, *rest, *files]) for files in given or [[]]]
         shown = [word for word in rest if word in SHOWN]
         return Row(input_, " ".join([name, *shown]), jobs, **more)
+
+    def row_given(self, input_, words, given):
+        """A row of a program that reads each of these requests as its standard input, which says how it replies."""
+        row = self.row(input_, words, [[]] * len(given), size=sum(map(os.path.getsize, given)), tells=reply)
+        for job, path in zip(row.jobs, given):
+            job.given = path
+        return row
 
     def rows(self, input_, commands, given, **more):
         """A row of each of these commands, beside the first."""
@@ -130,7 +137,7 @@ def small_plain_files(bench):
 def real_headers(bench):
     """Sources that include headers of the C library or of Linux, with what the compiler defines by itself: preprocessed by a daemon that has the
     request, and as whole jobs, with the analysis and the exchange."""
-    rows, words = [], compiler_words()
+    rows, words = [], units.compiler_words()
     for number, names in enumerate(bodies.REAL_HEADERS):
         text = "".join(f"#include <{name}>\n" for name in names)
         path = bench.write(f"headers{number}/a.c", text.encode())
@@ -148,25 +155,28 @@ def real_headers(bench):
 def served(bench, label, path):
     """A row of `pumpd` on the request of a source with the files that `gcc -M` lists."""
     folder = os.path.dirname(path)
-    listed = subprocess.run(["gcc", "-M", "-w", path], capture_output=True, text=True, check=True).stdout
-    paths = {os.path.realpath(word) for word in listed.replace("\\\n", " ").split()[1:]}
-    files = {}
-    for name in paths:
-        with open(name, "rb") as file:
-            files[os.fsencode(name)] = file.read()
-    words = [b"a.c", *compiler_words("--lines").encode().split(b"\n")]
-    given = bench.write(f"requests{folder.replace('/', '-')}", bodies.request_of(os.fsencode(folder), words, files))
-    row = bench.row(label, ["pumpd", "--inetd"], size=os.path.getsize(given), tells=reply)
-    for job in row.jobs:
-        job.given = given
-    return row
+    given = bench.write(f"requests{folder.replace('/', '-')}", units.request(folder, ["a.c"]))
+    return bench.row_given(label, ["pumpd", "--inetd"], [given])
 
 
-def compiler_words(*options):
-    """The words for what gcc defines by itself, and where it searches, as a list has them or, with `--lines`, one on a line."""
-    script = os.path.join(os.path.dirname(os.path.abspath(__file__)), "compiler-words")
-    command = [sys.executable, "-B", script, *options, "gcc"]
-    return subprocess.run(command, capture_output=True, text=True, check=True).stdout.strip()
+def real_units(bench):
+    """Units of real code with their headers, conditionals and all, each in a process of its own: by gcc and tcc where they are, and by a daemon
+    that has the request."""
+    rows = []
+    for name, listed in units.units_of(bench.real).items():
+        label = f"{name}, {len(listed)} units"
+        gcc, tcc = (bench.row(label, [program, "-E", "-w"], [words for _, words in listed]) for program in ["gcc", "tcc"])
+        for row in [gcc, tcc]:
+            for job, (folder, _) in zip(row.jobs, listed):
+                job.folder = folder
+        given = [bench.write(f"units/{name}/{number}", units.request(*unit)) for number, unit in enumerate(listed)]
+        daemon = bench.row_given(label, ["pumpd", "--inetd"], given)
+        gcc.beside = tcc.beside = daemon.beside = gcc
+        rows += [gcc, tcc, daemon]
+        bench.goal(f"{name}, units with their headers, to gcc -E", daemon, Row.ratio, 0.35, "")
+    if not rows:
+        rows = [absent("units of zlib, libiberty, uClibc", "", "not here: see tools/real_text.py")]
+    return Table("Units of real code with their headers, preprocessed by the daemon. The ratio is to gcc -E.", "", rows)
 
 
 def lexing(bench):
@@ -210,11 +220,11 @@ def hostile(bench):
 def real_code(bench):
     """Units of real code, a process for each; their tokens are those read and those put out."""
     rows = []
-    for name in sorted(os.listdir(bench.real)) if os.path.isdir(bench.real) else []:
+    for name in sorted(units.units_of(bench.real)):
         folder = os.path.join(bench.real, name)
         paths = sorted(os.path.join(folder, file) for file in os.listdir(folder))
-        read, made, units = bench.numbers(EXPAND, paths)
-        label = f"{name}, {len(paths)} units, {units:,} of work"
+        read, made, work = bench.numbers(EXPAND, paths)
+        label = f"{name}, {len(paths)} units, {work:,} of work"
         counts = {"size": sum(map(os.path.getsize, paths)), "count": read + made}
         commands = [GCC, TCC, EXPAND, [*EXPAND, "text"]]
         rows += bench.rows(label, commands, [[path] for path in paths], **counts)
@@ -240,8 +250,8 @@ def expansion(bench):
     rows, expanded = [], {}
     for label, text in made_texts():
         path = bench.write(f"expansion{len(rows)}.c", text.encode())
-        _, _, units = bench.numbers(EXPAND, [path])
-        rows += bench.rows(label, [GCC, TCC, EXPAND], [[path]], count=units)
+        _, _, work = bench.numbers(EXPAND, [path])
+        rows += bench.rows(label, [GCC, TCC, EXPAND], [[path]], count=work)
         expanded[label] = rows[-1]
     bench.goal("a token of a body that is put in", expanded["a body of 50 tokens, 100,000 times"], per_one, 40, "ns")
     for label in IN_A_SECOND:
@@ -249,8 +259,8 @@ def expansion(bench):
     shorter, longer = expanded["a chain of 4,800 calls"], expanded["a chain of 9,600 calls"]
     bench.goal("a chain of calls twice as long, of the time", longer, lambda row: row.least() / shorter.least(), 2.5, "")
     path = bench.write("doubling.c", bodies.doubling("A21 A20").encode())
-    _, _, units = bench.numbers(EXPAND, [path])
-    rows.append(bench.row("doubling, nearly the most", EXPAND, [[path]], count=units))
+    _, _, work = bench.numbers(EXPAND, [path])
+    rows.append(bench.row("doubling, nearly the most", EXPAND, [[path]], count=work))
     bench.goal("20,000,000 units of work", rows[-1], lambda row: per_one(row) / 50, 10, "s")
     return Table("Macro expansion of made texts. The ratio is to gcc -E.", "unit", rows)
 
@@ -408,6 +418,7 @@ TABLES = [
     plain_text,
     small_plain_files,
     real_headers,
+    real_units,
     lexing,
     hostile,
     real_code,
@@ -422,7 +433,7 @@ TABLES = [
     lists,
     many_jobs,
 ]
-MADE_BY_GCC = [plain_text, small_plain_files, real_headers]
+MADE_BY_GCC = [plain_text, small_plain_files, real_headers, real_units]
 
 
 def print_goals(bench):

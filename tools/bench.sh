@@ -26,6 +26,9 @@ python3 tools/real_text.py out/bench/real
 python3 -B tools/bench.py "${1:-5}" "$counter" out/bench/real $programs
 status=$?
 case " $(echo $programs) " in
+*" pumpd "*) [ ! -e out/bench/real/units.json ] || python3 -B tools/units.py crates/pumpd/out/pumpd out/bench/real ;;
+esac
+case " $(echo $programs) " in
 *" tree_examples "*) python3 -B tools/measure-analysis.py crates/tree_examples/out/tree_examples ;;
 esac
 exit $status

@@ -5,6 +5,11 @@ import subprocess
 
 LIMIT = 16_777_216  # the most bytes that a body has
 
+TOKEN = re.compile(
+    rb'(?:u8|[uUL])?"(?:[^"\\\n]|\\.)*"|(?:u8|[uUL])?\'(?:[^\'\\\n]|\\.)*\''
+    rb"|\.?[0-9](?:[eEpP][+-]|[\w.])*|[A-Za-z_$\x80-\xff][\w$\x80-\xff]*"
+    rb"|%:%:|\.\.\.|<<=|>>=|##|->|\+\+|--|<<|>>|[<>=!*/%+\-&^|]=|&&|\|\||<:|:>|<%|%>|%:|\S")
+
 HEADERS = """
     assert complex ctype errno fenv float inttypes iso646 limits locale math setjmp signal stdalign stdarg stdatomic
     stdbool stddef stdint stdio stdlib stdnoreturn string tgmath threads time uchar wchar wctype
@@ -22,6 +27,11 @@ REAL_HEADERS = [
     ["limits.h", "stdint.h", "inttypes.h", "float.h", "stdarg.h", "stdbool.h"],
     ["linux/kernel.h", "linux/types.h", "linux/if.h", "linux/netlink.h", "linux/rtnetlink.h"],
 ]
+
+
+def tokens_of(text):
+    """The tokens of a preprocessed text, without its line markers."""
+    return TOKEN.findall(b"\n".join(line for line in text.split(b"\n") if not line.startswith(b"# ")))
 
 
 def fill(unit, size):

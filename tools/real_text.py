@@ -1,15 +1,17 @@
 #!/usr/bin/env python3
-"""Makes real C text without conditionals and includes: real_text.py OUT
+"""Makes real C text without conditionals and includes, and lists the units it is of: real_text.py OUT
 
 OUT/SET/NNN.c is what `gcc -E -fdirectives-only` makes of a unit of the set: its conditionals and includes are done,
 each #define and #undef is kept, and no macro is expanded. So every preprocessor does the same work on it, also one that
 knows no conditionals. A unit is left out where gcc gives the new file other tokens than the unit, as where a line's
-number is in it.
+number is in it. OUT/units.json lists the units by their sets, each with the folder in which gcc is run, and the words with which it
+preprocesses the unit itself.
 
-The sources come from Debian's packages, which are downloaded beside OUT and deleted when the text is made. Where it
-can't be made, a line on standard error says why, and the status is 1. A folder OUT that is there already is left alone.
+The sources come from Debian's packages, which are downloaded to OUT.sources and stay there. Where they can't be had, or no text
+is made, a line on standard error says why, and the status is 1. A folder OUT with its list is left alone.
 """
 import glob
+import json
 import os
 import re
 import shlex
@@ -17,6 +19,8 @@ import shutil
 import subprocess
 import sys
 from dataclasses import dataclass, field
+
+from bodies import tokens_of
 
 # What a library's configure needs of gcc's sources besides the library.
 GCC_PARTS = ["include", "config", "config*", "install-sh", "mkinstalldirs", "move-if-change", "missing", "depcomp",
@@ -27,10 +31,6 @@ ALONE = ("-I", "-D", "-U", "-f", "-m", "-O", "-std=", "-nostdinc", "-iquote", "-
 # Macros that gcc defines whatever it is told.
 FIXED = re.compile(rb"#define __STDC(_VERSION_|_HOSTED_|_UTF_16_|_UTF_32_)?_ ")
 MARKER = re.compile(rb"# \d")
-TOKEN = re.compile(
-    rb'(?:u8|[uUL])?"(?:[^"\\\n]|\\.)*"|(?:u8|[uUL])?\'(?:[^\'\\\n]|\\.)*\''
-    rb"|\.?[0-9](?:[eEpP][+-]|[\w.])*|[A-Za-z_$\x80-\xff][\w$\x80-\xff]*"
-    rb"|%:%:|\.\.\.|<<=|>>=|##|->|\+\+|--|<<|>>|[<>=!*/%+\-&^|]=|&&|\|\||<:|:>|<%|%>|%:|\S")
 
 
 class Missing(Exception):
@@ -134,10 +134,6 @@ def units_of(folder, words):
     return [[*words, source] for source, words in units.items()]
 
 
-def tokens_of(text):
-    return TOKEN.findall(b"\n".join(line for line in text.split(b"\n") if not line.startswith(b"# ")))
-
-
 def text_of(folder, words, path, place):
     """Writes the text of a unit, without the place in which it was made. Whether gcc reads the same tokens in it."""
     try:
@@ -152,51 +148,56 @@ def text_of(folder, words, path, place):
     return given.returncode == 0 and tokens_of(given.stdout) == tokens_of(wanted)
 
 
-def make_set(out, name, units, step):
-    """The texts of every so many of the units."""
+def make_set(out, name, units, place):
+    """The texts of units, and the units that have one."""
     folder = os.path.join(out, name)
     os.makedirs(folder)
-    kept, place = 0, os.path.dirname(out)
-    for number, (build, words) in enumerate(units[::step]):
+    kept = []
+    for number, (build, words) in enumerate(units):
         path = os.path.join(folder, f"{number:03}.c")
         if text_of(build, words, path, place):
-            kept += 1
+            kept.append((build, words))
         elif os.path.exists(path):
             os.remove(path)
     size = sum(entry.stat().st_size for entry in os.scandir(folder))
-    print(f"{name}: {kept} units, {size / 1e6:.1f} MB", flush=True)
+    print(f"{name}: {len(kept)} units, {size / 1e6:.1f} MB", flush=True)
+    return kept
 
 
 def make_all(out, place):
-    sources = gcc_sources().unpack(place)
+    sources, units = gcc_sources().unpack(place), {}
+    # of each set every so many
     for library, step in [("zlib", 1), ("libiberty", 3)]:
         folder = configured(sources, library)
-        make_set(out, library, [(folder, words) for words in units_of(folder, [])], step)
+        units[library] = [(folder, words) for words in units_of(folder, [])][::step]
     folder = configured_uclibc(Package("uclibc-source", "usr/src/uClibc-ng-*.tar.xz").unpack(place))
-    units = units_of(folder, ["ARCH=x86_64", "V=1"])
-    make_set(out, "uClibc", [(folder, words) for words in units], 24)
+    units["uClibc"] = [(folder, words) for words in units_of(folder, ["ARCH=x86_64", "V=1"])][::24]
+    kept = {name: make_set(out, name, units[name], place) for name in units}
+    with open(os.path.join(out, "units.json"), "w") as file:
+        json.dump(kept, file)
 
 
 def main():
     out = os.path.abspath(sys.argv[1])
-    if os.path.isdir(out):
+    if os.path.exists(os.path.join(out, "units.json")):
         return 0
     tools = ["gcc", "make", "apt-get", "dpkg-deb", "tar"]
     missing = [tool for tool in tools if shutil.which(tool) is None]
-    place = f"{out}.making"
-    shutil.rmtree(place, ignore_errors=True)
+    place, texts = f"{out}.sources", f"{out}.making"
+    for folder in [out, place, texts]:
+        shutil.rmtree(folder, ignore_errors=True)
     try:
         if missing:
             raise Missing(f"{', '.join(missing)} not found")
         os.makedirs(place)
-        texts = os.path.join(place, "texts")
         make_all(texts, place)
         os.rename(texts, out)
     except Missing as why:
         print(f"no real text: {why}", file=sys.stderr)
+        shutil.rmtree(place, ignore_errors=True)
         return 1
     finally:
-        shutil.rmtree(place, ignore_errors=True)
+        shutil.rmtree(texts, ignore_errors=True)
     return 0
 
 
