@@ -21,7 +21,7 @@ if ! gcc -O2 -shared -fPIC tools/count_malloc.c -o "$counter" 2> out/bench/count
     echo "allocations aren't counted: see out/bench/count_malloc.log" >&2
     counter=none
 fi
-python3 tools/real_text.py out/bench/real
+python3 -B tools/real_text.py out/bench/real "${XDG_CACHE_HOME:-$HOME/.cache}/mowhairu/real"
 # Each program's name is a word of its own.
 python3 -B tools/bench.py "${1:-5}" "$counter" out/bench/real $programs
 status=$?

@@ -1,5 +1,5 @@
 #!/usr/bin/env python3
-"""Makes real C text without conditionals and includes, and lists the units it is of: real_text.py OUT
+"""Makes real C text without conditionals and includes, and lists the units it is of: real_text.py OUT SOURCES
 
 OUT/SET/NNN.c is what `gcc -E -fdirectives-only` makes of a unit of the set: its conditionals and includes are done,
 each #define and #undef is kept, and no macro is expanded. So every preprocessor does the same work on it, also one that
@@ -7,8 +7,9 @@ knows no conditionals. A unit is left out where gcc gives the new file other tok
 number is in it. OUT/units.json lists the units by their sets, each with the folder in which gcc is run, and the words with which it
 preprocesses the unit itself.
 
-The sources come from Debian's packages, which are downloaded to OUT.sources and stay there. Where they can't be had, or no text
-is made, a line on standard error says why, and the status is 1. A folder OUT with its list is left alone.
+The sources come from Debian's packages, which are unpacked to the folder SOURCES and stay there. It has links, so it belongs outside
+of a repository whose gate takes none. Where the sources can't be had, or no text is made, a line on standard error says why, and the status
+is 1. A folder OUT with its list is left alone while the sources are there.
 """
 import glob
 import json
@@ -177,13 +178,22 @@ def make_all(out, place):
         json.dump(kept, file)
 
 
+def is_made(out):
+    """Whether the texts are there, and the sources of the units that their list names."""
+    path = os.path.join(out, "units.json")
+    if not os.path.exists(path):
+        return False
+    with open(path) as file:
+        return all(os.path.isdir(folder) for units in json.load(file).values() for folder, _ in units)
+
+
 def main():
-    out = os.path.abspath(sys.argv[1])
-    if os.path.exists(os.path.join(out, "units.json")):
+    out, place = map(os.path.abspath, sys.argv[1:])
+    if is_made(out):
         return 0
     tools = ["gcc", "make", "apt-get", "dpkg-deb", "tar"]
     missing = [tool for tool in tools if shutil.which(tool) is None]
-    place, texts = f"{out}.sources", f"{out}.making"
+    texts = f"{out}.making"
     for folder in [out, place, texts]:
         shutil.rmtree(folder, ignore_errors=True)
     try:
