@@ -113,7 +113,7 @@ digit_no_start b low high start =
     cc
 
 -- letters aren't digits
-start_no_digit : (b : ℕ) → is_identifier_start b ≡ true → is_digit b ≡ false
+pub start_no_digit : (b : ℕ) → is_identifier_start b ≡ true → is_digit b ≡ false
 start_no_digit b start = by_test (is_digit b) refl
   where
     by_test : (t : Bool) → is_digit b ≡ t → t ≡ false

@@ -6,6 +6,7 @@ pub mod Reading
 mod SliceLemmas
 mod FirstBytes
 mod Numbers
+mod GoingOn
 mod Punctuators
 mod MarkLemmas
 mod TextMarks

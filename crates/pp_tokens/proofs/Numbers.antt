@@ -1,5 +1,7 @@
 -- Numbers and single bytes that stand in front of a text.
-use Rattle.std.specs.Prelude.{◌≡◌, ℕ, ◌+◌, ◌≤◌, ◌<◌, Bool, true, false, cond, List, [], ◌∷◌, ◌++◌, length, Some, None, option_map, zero, suc, refl, ◌==◌, drop, eqb}
+use Prim.Native.Nat.compare
+use lib.Dec.{compare_is_eq}
+use Rattle.std.specs.Prelude.{◌≡◌, ◌&&◌, ℕ, ◌+◌, ◌≤◌, ◌<◌, Bool, true, false, cond, List, [], ◌∷◌, ◌++◌, length, Some, None, option_map, zero, suc, refl, ◌==◌, drop, eqb}
 use Rattle.std.proofs.Math.Numerals.{one-add}
 use Rattle.std.proofs.Common.{get_or, sym, ◌∙◌, ap, inl, inr, arith}
 use Rattle.std.proofs.lemmas.List.{drop_more}
@@ -193,3 +195,14 @@ number_end last [] zero h = refl
 number_end last [] (suc i) h = refl
 number_end last (x ∷ xs) zero h = absurd (omega arith)
 number_end last (x ∷ xs) (suc i) h = number_end last xs i (omega arith)
+
+-- bytes go on with a number where all of them do
+pub number_goes_on-length : (last : ℕ) (bs : List ℕ) → eqb (number_length last bs) (length bs) ≡ number_goes_on last bs
+unfolding number_goes_on number_length
+number_goes_on-length last [] = refl
+number_goes_on-length last (b ∷ bs) = go (continues_number last b) (number_goes_on-length b bs)
+  where
+    go : (c : Bool) → eqb (number_length b bs) (length bs) ≡ number_goes_on b bs →
+        eqb (cond c (suc (number_length b bs)) 0) (suc (length bs)) ≡ (c && number_goes_on b bs)
+    go true rest = ap compare_is_eq (compare.suc-suc (number_length b bs) (length bs)) ∙ rest
+    go false rest = ne_eqb 0 (suc (length bs)) (λ e. absurd (omega (arith, e)))

@@ -1,5 +1,5 @@
 -- Which texts are preprocessing tokens, and of which kind (ISO C 6.4). A text is a list of bytes.
-use Rattle.std.specs.Prelude.{ℕ, suc, Bool, true, false, not, ◌&&◌, ◌||◌, List, [], ◌∷◌, length, drop, if◌then◌else◌, nat_le, ◌==◌, nat_eq, Option, Some, None, codes, bytes_eq}
+use Rattle.std.specs.Prelude.{ℕ, suc, Bool, true, false, not, ◌&&◌, ◌||◌, List, [], ◌∷◌, ◌-◌, length, drop, get_or, if◌then◌else◌, nat_le, ◌==◌, nat_eq, Option, Some, None, codes, bytes_eq}
 use Rattle.std.specs.List.{list_all, list_any, starts_with}
 use Rattle.base_types.specs.Ascii as ascii
 use Rattle.pp_tokens.specs.declared.token.Kind.{Kind}
@@ -139,3 +139,12 @@ kind_of t =
     else (if is_punctuator t then Some Punct
     else (if is_one_byte t then Some Other
     else None)))))
+
+-- whether these bytes go on with a text that is an identifier or a number, so that both together are one, too (6.4.2.1, 6.4.8)
+abbrev pub goes_on : Kind → List ℕ → List ℕ → Bool
+goes_on kind text more =
+    elim kind [
+      | Ident ↦ list_all is_identifier_byte more
+      | Number ↦ number_goes_on (get_or text (length text - 1) 0) more
+      | _ ↦ false
+    ]

@@ -24,7 +24,7 @@ pub use base_types::{Bytes, List};
 pub use law::{one_reading, tokens_are_slices};
 pub use lexer::{Lexed, lex, lex_directives};
 pub use plain::{is_plain, is_simple_name};
-pub use single::single_token;
+pub use single::{goes_on, single_token};
 pub use token::{Kind, Token, TokenRef};
 pub use token_cow::TokenCow;
 pub use tokens::Tokens;

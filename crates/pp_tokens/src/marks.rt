@@ -1,6 +1,6 @@
 // Numbers, punctuators and other bytes that stand first in a text (ISO C 6.4.6, 6.4.8).
 ghost use Rattle.std.specs.Prelude.{◌≡◌, ◌≤◌, ◌<◌, [], ◌∷◌, true, false, ◌&&◌, ◌||◌, ◌==◌, length, get_or};
-ghost use Rattle.pp_tokens.specs.Grammar.{is_identifier_start, is_white, is_newline, continues_number, number_length};
+ghost use Rattle.pp_tokens.specs.Grammar.{is_identifier_start, is_white, is_newline, continues_number, number_goes_on, number_length};
 ghost use Rattle.pp_tokens.specs.Lines.{first_part};
 ghost use Rattle.pp_tokens.specs.parts.Text.{part_told, is_quote, begins_number, begins_comment, takes_equals, is_doubled, is_mixed, is_pair, is_triple, is_quadruple, mark_length};
 
@@ -36,6 +36,13 @@ pub fn number_length(first: u8, bytes: &[u8]) -> usize
         last = *b;
     }
     bytes.len()
+}
+
+/// Whether bytes go on with a number, behind a byte of it.
+pub fn number_goes_on(last: u8, bytes: &[u8]) -> bool
+    ensures { result ≡ number_goes_on last bytes.now }
+{
+    number_length(last, bytes) == bytes.len()
 }
 
 /// What begins with a digit, or with a `.` and a digit: a number.

@@ -1,5 +1,5 @@
 // A preprocessing token whose spelling is lent or owned.
-ghost use Rattle.std.specs.Prelude.{◌≡◌, IfOk, IfSome};
+ghost use Rattle.std.specs.Prelude.{◌≡◌, ◌++◌, IfOk, IfSome};
 ghost use Rattle.pp_tokens.specs.Marks.{is_identifier, is_literal, is_mark};
 ghost use Rattle.pp_tokens.specs.Tokens.{token_seen, bytes_of_spelling};
 
@@ -162,11 +162,48 @@ impl<'a> TokenCow<'a> {
         })
     }
 
+    /// The token with more bytes behind its spelling. Where it has a spelling of its own that no copy shares, the bytes are added
+    /// to this one, at a constant cost each on average.
+    pub fn extended(self, alloc: Global, more: &[u8]) -> Result<TokenCow<'a>, AllocError>
+        ensures { IfOk result (λ t. t ≡ record self.entry { text = self.entry.text ++ more.now }) }
+    {
+        let TokenCow {
+            kind,
+            spelling,
+            line,
+            space,
+        } = self;
+        let mut text = own_text(alloc, spelling)?;
+        text.extend(more)?;
+        TokenCow::owned(
+            alloc,
+            Token {
+                kind,
+                text,
+                line,
+                space,
+            },
+        )
+    }
+
     /// A token that owns a copy of the spelling.
     pub fn to_token(&self, alloc: Global) -> Result<Token, AllocError>
         ensures { IfOk result (λ t. t ≡ self.now) }
     {
         self.as_ref().to_token(alloc)
+    }
+}
+
+// The bytes of a spelling, with no copy where nobody shares them.
+fn own_text(alloc: Global, spelling: Spelling<'_>) -> Result<Bytes, AllocError>
+    ensures { IfOk result (λ text. text ≡ bytes_of_spelling spelling.entry) }
+{
+    match spelling {
+        Spelling::Lent(text) => Bytes::copy_of(alloc, text),
+        Spelling::Owned(text) => match Rc::try_unwrap(text) {
+            Ok(text) => Ok(text),
+            Err(text) => Bytes::copy_of(alloc, text.as_slice()),
+        },
     }
 }
 
