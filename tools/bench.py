@@ -257,7 +257,11 @@ def expansion(bench):
     for label in IN_A_SECOND:
         bench.goal(label, expanded[label], Row.least, 1, "s")
     shorter, longer = expanded["a chain of 4,800 calls"], expanded["a chain of 9,600 calls"]
-    bench.goal("a chain of calls twice as long, of the time", longer, lambda row: row.least() / shorter.least(), 2.5, "")
+    bench.goal("a chain of calls twice as long, of the time", longer, lambda row, of=shorter: row.least() / of.least(), 2.5, "")
+    path = bench.write("pasted.c", bodies.pasted(80_000).encode())
+    rows.append(bench.row("80,000 spellings pasted", EXPAND, [[path]], count=2))
+    shorter = expanded["20,000 spellings pasted"]
+    bench.goal("four times the spellings pasted, of the time", rows[-1], lambda row, of=shorter: row.least() / of.least(), 5, "")
     path = bench.write("doubling.c", bodies.doubling("A21 A20").encode())
     _, _, work = bench.numbers(EXPAND, [path])
     rows.append(bench.row("doubling, nearly the most", EXPAND, [[path]], count=work))

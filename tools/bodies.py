@@ -145,7 +145,12 @@ def expansions():
         yield f"a chain of {count:,} calls", f"#define F0(x) x\n{calls}F{count}(1)\n"
     parameters = ",".join(f"p{n}" for n in range(40_000))
     yield "a call with 40,000 parameters", f"#define F({parameters}) {'p39999 ' * 100_000}\nF({',' * 39_999})\n"
-    yield "20,000 spellings pasted", f"#define F(x) {' ## '.join(['x'] * 20_000)}\nF(a)\n"
+    yield "20,000 spellings pasted", pasted(20_000)
+
+
+def pasted(count):
+    """So many spellings that are joined to one."""
+    return f"#define F(x) {' ## '.join(['x'] * count)}\nF(a)\n"
 
 
 def doubling(calls):
