@@ -160,8 +160,8 @@ def served(bench, label, path):
 
 
 def real_units(bench):
-    """Units of real code with their headers, conditionals and all, each in a process of its own: by gcc and tcc where they are, and by a daemon
-    that has the request."""
+    """Units of real code with their headers, conditionals and all: by gcc and tcc where they are, and by a daemon that has the request, each in a
+    process of its own; and as whole jobs of one list."""
     rows = []
     for name, listed in units.units_of(bench.real).items():
         label = f"{name}, {len(listed)} units"
@@ -171,12 +171,16 @@ def real_units(bench):
                 job.folder = folder
         given = [bench.write(f"units/{name}/{number}", units.request(*unit)) for number, unit in enumerate(listed)]
         daemon = bench.row_given(label, ["pumpd", "--inetd"], given)
-        gcc.beside = tcc.beside = daemon.beside = gcc
-        rows += [gcc, tcc, daemon]
+        whole = bench.row(label, ["pump_program", *ORDER], tells=looks)
+        lines = [units.list_line(folder, [*units.compile_words(words), "-o", f"{number}.i"]) for number, (folder, words) in enumerate(listed)]
+        for job in whole.jobs:
+            job.folder, job.given = bench.folder, bench.write(f"units/{name}/list", "".join(lines).encode())
+        gcc.beside = tcc.beside = daemon.beside = whole.beside = gcc
+        rows += [gcc, tcc, daemon, whole]
         bench.goal(f"{name}, units with their headers, to gcc -E", daemon, Row.ratio, 0.35, "")
     if not rows:
         rows = [absent("units of zlib, libiberty, uClibc", "", "not here: see tools/real_text.py")]
-    return Table("Units of real code with their headers, preprocessed by the daemon. The ratio is to gcc -E.", "", rows)
+    return Table("Units of real code with their headers: preprocessed by the daemon, and as whole jobs of one list. The ratio is to gcc -E.", "", rows)
 
 
 def lexing(bench):

@@ -26,9 +26,11 @@ python3 -B tools/real_text.py out/bench/real "${XDG_CACHE_HOME:-$HOME/.cache}/mo
 python3 -B tools/bench.py "${1:-5}" "$counter" out/bench/real $programs
 status=$?
 case " $(echo $programs) " in
-*" pumpd "*) [ ! -e out/bench/real/units.json ] || python3 -B tools/units.py crates/pumpd/out/pumpd out/bench/real ;;
+*" pump_program pumpd "*)
+    [ ! -e out/bench/real/units.json ] || python3 -B tools/units.py crates/pumpd/out/pumpd crates/pump_program/out/pump_program out/bench/real
+    ;;
 esac
 case " $(echo $programs) " in
-*" tree_examples "*) python3 -B tools/measure-analysis.py crates/tree_examples/out/tree_examples ;;
+*" tree_examples "*) python3 -B tools/measure-analysis.py crates/tree_examples/out/tree_examples out/bench/real ;;
 esac
 exit $status

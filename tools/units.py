@@ -1,17 +1,18 @@
 #!/usr/bin/env python3
-"""Real units as requests to the daemon, and a check of what it makes of them: units.py PUMPD REAL
+"""Real units as requests to the daemon and as jobs, and a check of what comes of them: units.py PUMPD PUMP_PROGRAM REAL
 
 REAL is the folder that tools/real_text.py made: REAL/units.json has units of real code, each a folder and the words with which gcc
-preprocesses it. PUMPD, as it was built, gets a request with the files that `gcc -M` lists of a unit, and its text is to have
-the tokens of `gcc -E`. The last line says of how many units it has them.
+preprocesses it. PUMPD, as it was built, gets a request with the files that `gcc -M` lists of a unit, and PUMP_PROGRAM a list with
+all units, which eight clients do. The texts are to have the tokens of `gcc -E`. The last lines say of how many units they have them.
 
-Status: 0 it has them of all units; 1 of some it doesn't, and a line names each; 2 there are no units.
+Status: 0 they have them of all units; 1 of some they don't, and a line names each; 2 there are no units.
 """
 import json
 import os
 import re
 import subprocess
 import sys
+import tempfile
 
 from bodies import field, token, tokens_of
 
@@ -85,6 +86,11 @@ def request(folder, words):
     return head + b"".join(field(b"ARGV", os.fsencode(word)) for word in job) + token(b"NFIL", len(nodes)) + entries
 
 
+def list_line(folder, words):
+    """The line of a compile list with a job of these words."""
+    return " ".join(re.sub(r"[ \t\\]|^#", r"\\\g<0>", word) for word in [folder, *words]) + "\n"
+
+
 def units_of(real):
     """The units of each set, where they were made."""
     path = os.path.join(real, "units.json")
@@ -94,25 +100,43 @@ def units_of(real):
         return json.load(file)
 
 
-def is_same(pumpd, folder, words):
-    """Whether the daemon's text of a unit has the tokens of gcc's."""
-    wanted = subprocess.run(["gcc", "-E", "-w", *words], cwd=folder, capture_output=True, check=True).stdout
-    reply = subprocess.run([pumpd, "--inetd"], input=request(folder, words), capture_output=True, check=False).stdout
-    _, _, text = reply.partition(b"DOTI")
-    return tokens_of(text[8:]) == tokens_of(wanted)
+def served(pumpd, units):
+    """The text that the daemon gives each unit."""
+    for folder, words in units:
+        reply = subprocess.run([pumpd, "--inetd"], input=request(folder, words), capture_output=True, check=False).stdout
+        yield reply.partition(b"DOTI")[2][8:]
 
 
-def main(pumpd, real):
-    units = [(name, *unit) for name, units in units_of(real).items() for unit in units]
+def done(program, units):
+    """The text of each unit as a job of one list."""
+    lines = [list_line(folder, [*compile_words(words), "-o", f"{number}.i"]) for number, (folder, words) in enumerate(units)]
+    with tempfile.TemporaryDirectory() as place:
+        command = [program, "order", "-", "--hosts", "localhost", "-j", "8"]
+        subprocess.run(command, input="".join(lines).encode(), cwd=place, stdout=subprocess.DEVNULL, check=False)
+        for number in range(len(units)):
+            path = os.path.join(place, "out", f"{number}.i")
+            if not os.path.exists(path):
+                yield b""
+                continue
+            with open(path, "rb") as file:
+                yield file.read()
+
+
+def main(pumpd, program, real):
+    units = [unit for units in units_of(real).values() for unit in units]
     if not units:
         print(f"{real} has no units: see tools/real_text.py", file=sys.stderr)
         return 2
-    differ = [(name, words[-1]) for name, folder, words in units if not is_same(pumpd, folder, words)]
-    for name, source in differ:
-        print(f"{name}: {source} has other tokens than gcc gives it")
-    print(f"{len(units) - len(differ)} of {len(units)} units have the tokens of gcc")
-    return 1 if differ else 0
+    wanted = [tokens_of(subprocess.run(["gcc", "-E", "-w", *words], cwd=folder, capture_output=True, check=True).stdout) for folder, words in units]
+    status = 0
+    for way, texts in [("requests", served(pumpd, units)), ("whole jobs", done(program, units))]:
+        differ = [words[-1] for (_, words), tokens, text in zip(units, wanted, texts, strict=True) if tokens_of(text) != tokens]
+        for source in differ:
+            print(f"{source} has other tokens than gcc gives it")
+        print(f"{len(units) - len(differ)} of {len(units)} units have the tokens of gcc as {way}")
+        status = status or (1 if differ else 0)
+    return status
 
 
 if __name__ == "__main__":
-    sys.exit(main(os.path.abspath(sys.argv[1]), os.path.abspath(sys.argv[2])))
+    sys.exit(main(*map(os.path.abspath, sys.argv[1:])))
