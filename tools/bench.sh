@@ -1,5 +1,6 @@
 #!/bin/sh
-# Measures the programs, most beside gcc and tcc: see docs/PERFORMANCE.md. An argument is the number of rounds.
+# Measures the programs, most beside gcc and tcc: see docs/PERFORMANCE.md. An argument is the number of rounds. With BUILT=1 the programs
+# are measured as they are built, by the gate for one, and not built anew.
 cd "$(dirname "$0")/.." || exit 1
 mkdir -p out/bench
 
@@ -7,7 +8,7 @@ mkdir -p out/bench
 build() {
     for program in "$@"; do
         log=$PWD/out/bench/$program.log
-        if (cd "crates/$program" && rt run -- --version) > "$log" 2>&1; then
+        if [ "${BUILT:-0}" = 1 ] && [ -x "crates/$program/out/$program" ] || (cd "crates/$program" && rt run -- --version) > "$log" 2>&1; then
             echo "$program"
         else
             echo "$program isn't built: see $log" >&2
