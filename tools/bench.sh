@@ -32,6 +32,6 @@ case " $(echo $programs) " in
     ;;
 esac
 case " $(echo $programs) " in
-*" tree_examples "*) python3 -B tools/measure-analysis.py crates/tree_examples/out/tree_examples out/bench/real ;;
+*" tree_examples "*) ! command -v gcc > /dev/null || python3 -B tools/measure-analysis.py crates/tree_examples/out/tree_examples out/bench/real ;;
 esac
 exit $status
