@@ -7,8 +7,8 @@ use Rattle.std.specs.List.{AllByRecursion}
 use Rattle.base_types.specs.Ascii.{dot}
 use Rattle.tree_model.specs.Paths.{Text, Path, IsName, IsCanonical, IsAtOrAbove, parent, spelled, is_spelling, names_of, path_of}
 use Rattle.tree_model.specs.Trees.{FileTree, entry_at, node_at, node_of_entry, IsTree}
-use Rattle.tree_model.specs.Walk.{Look, components, Stay, Up, Down, component_of, start, is_absolute, root_if, Nowhere, AtDir, Walked, looking, walk_ended, entered, taken, walk, located_in, last_looked_up}
-use Rattle.tree_model.specs.parts.Glances.{Tells, TellsName, lineage, plain_file, located_behind}
+use Rattle.tree_model.specs.Walk.{Look, components, Component, Stay, Up, Down, component_of, start, is_absolute, root_if, Nowhere, AtDir, Walked, looking, walk_ended, entered, taken, walk, located_in, last_looked_up}
+use Rattle.tree_model.specs.parts.Glances.{Tells, TellsName, GoesAlong, IsGap, lineage, plain_file, located_behind}
 use Rattle.tree_model.specs.parts.Steps.{GoesOn, followed}
 use Rattle.tree_model.specs.declared.entry.Entry.{Entry}
 use Rattle.tree_model.specs.declared.entry.Entry.TheVariants.{Dir, File, Link}
@@ -150,6 +150,46 @@ parent_above_too gap [] up e a = e ∙ ap parent a
 parent_above_too gap (name ∷ path) up e (inl f) = inr (subst (λ (p : Path). IsAtOrAbove p path) (sym (e ∙ ap parent f)) (at_itself path))
 parent_above_too gap (name ∷ path) up e (inr a) = inr (parent_above_too gap path up e a)
 
+-- WAYS
+
+-- a way behind one component more
+module _ (tree : FileTree) (is : IsTree tree) (whole : List Text) (dir : Path) (straight : Bool) (name : Text) (left : List Text)
+    (along : GoesAlong tree whole dir straight (name ∷ left)) where
+  asked_for : (what : Component) → what ≡ component_of name
+      → walk (entry_at tree) 40 dir (name ∷ left) ≡ taken (λ next. walk (entry_at tree) 40 next left) (followed (entry_at tree) 40) left dir (entry_at tree) what
+  asked_for what e = walk-cons (entry_at tree) 40 dir name left ∙ ap (taken (λ next. walk (entry_at tree) 40 next left) (followed (entry_at tree) 40) left dir (entry_at tree)) (sym e)
+
+  pub along_staying : Stay ≡ component_of name → GoesAlong tree whole dir straight left
+  along_staying e = (
+    λ d. along.0 d ∙ ap (λ (w : Walked). w.end) (asked_for Stay e),
+    λ s d. to_walk ([] ∷ []) (reverse (lineage dir)) (walk (entry_at tree) 40 [] whole) (walk (entry_at tree) 40 dir (name ∷ left)) (walk (entry_at tree) 40 dir left) (asked_for Stay e) (along.1 s d),
+  )
+
+  pub along_up : Up ≡ component_of name → entry_at tree dir ≡ Some Dir → GoesAlong tree whole (parent dir) false left
+  along_up e here = (λ d. along.0 here ∙ ap (λ (w : Walked). w.end) (asked_for Up e), λ s. absurd (cc))
+
+  pub along_down : GoesAlong tree whole (name ∷ dir) straight left
+  along_down = (
+    λ d. along.0 (above d) ∙ (further d).end,
+    λ s d. goes_further ([] ∷ []) (reverse (lineage dir)) (reverse (lineage (name ∷ dir))) (walk (entry_at tree) 40 [] whole) (walk (entry_at tree) 40 dir (name ∷ left)) (walk (entry_at tree) 40 (name ∷ dir) left)
+        (along.1 s (above d)) (further d),
+  )
+    where
+      above : entry_at tree (name ∷ dir) ≡ Some Dir → entry_at tree dir ≡ Some Dir
+      above d = is.parent name dir (ap is_some d)
+
+      further : entry_at tree (name ∷ dir) ≡ Some Dir → GoesOn (reverse (lineage dir)) (walk (entry_at tree) 40 dir (name ∷ left)) (reverse (lineage (name ∷ dir))) (walk (entry_at tree) 40 (name ∷ dir) left)
+      further d = to_dir (entry_at tree) 40 dir name (is.canonical (name ∷ dir) (ap is_some d)).names.0 left (reverse (lineage dir)) (reverse (lineage (name ∷ dir))) d (one_below name dir)
+
+-- a way that goes down to a missing node ends there
+pub lost_at : (tree : FileTree) (whole : List Text) (dir : Path) (straight : Bool) (name : Text) (left : List Text) (gap : Path)
+    → GoesAlong tree whole dir straight (name ∷ left) → Down name ≡ component_of name → gap ≡ name ∷ dir → IsGap tree gap
+    → (walk (entry_at tree) 40 [] whole).end ≡ Nowhere
+lost_at tree whole dir straight name left gap along down is gaps =
+    along.0 (ap (λ path. entry_at tree (parent path)) (sym is) ∙ gaps.1)
+    ∙ ap (λ (w : Walked). w.end) (walk-cons (entry_at tree) 40 dir name left ∙ ap (taken (λ next. walk (entry_at tree) 40 next left) (followed (entry_at tree) 40) left dir (entry_at tree)) (sym down))
+    ∙ ap (λ found. (entered (λ next. walk (entry_at tree) 40 next left) (followed (entry_at tree) 40) left dir (name ∷ dir) found).end) (ap (entry_at tree) (sym is) ∙ gaps.0)
+
 -- TEXTS
 
 -- a path that a text spells is canonical, and the text is its spelling
@@ -168,54 +208,77 @@ pub from_root : (dir : Path) (text : Text) → is_absolute text ≡ true → sta
 from_root dir [] e = absurd (cc)
 from_root dir (b ∷ text) e = ap (λ t. cond t [] dir) e
 
--- what is located in a directory is what is told of the name
-module _ (tree : FileTree) (is : IsTree tree) (links : ℕ) (dir : Path) (name : Text) (from : Path) where
-  abbrev Here : Option Located
-  Here = located_in dir name (from ∷ reverse (lineage dir)) (walk (entry_at tree) links dir (name ∷ []))
+-- what is located in a directory where a name is missing, whatever nodes were walked before
+missing_here : (tree : FileTree) (links : ℕ) (dir : Path) (name : Text) (before : List Path) → entry_at tree (name ∷ dir) ≡ None
+    → None ≡ located_in dir name before (walk (entry_at tree) links dir (name ∷ []))
+missing_here tree links dir name before none =
+    let w : Walked = walk (entry_at tree) links dir (name ∷ []) in
+    sym (no_file dir name (before ++ w.nodes) w.end (λ real f.
+    let there : IsSome (entry_at tree (name ∷ dir)) = walk-stood (entry_at tree) links dir name real f in
+    let clash : true ≡ false = sym there ∙ ap is_some none in
+    absurd (cc)))
 
-  missing_here : entry_at tree (name ∷ dir) ≡ None → None ≡ Here
-  missing_here none =
-      let w : Walked = walk (entry_at tree) links dir (name ∷ []) in
-      sym (no_file dir name ((from ∷ reverse (lineage dir)) ++ w.nodes) w.end (λ real f.
-      let there : IsSome (entry_at tree (name ∷ dir)) = walk-stood (entry_at tree) links dir name real f in
-      let clash : true ≡ false = sym there ∙ ap is_some none in
-      absurd (cc)))
+-- what is located there is the file that is told of, by the nodes of its path
+file_here : (tree : FileTree) → IsTree tree → (links : ℕ) (dir : Path) (name : Text) (from path : Path) → path ≡ name ∷ dir → Some node.File ≡ node_at tree path
+    → Some (plain_file from path) ≡ located_in dir name (from ∷ reverse (lineage dir)) (walk (entry_at tree) links dir (name ∷ []))
+file_here tree is links dir name from path e file =
+    let there = entry_file tree (name ∷ dir) (file ∙ ap (node_at tree) e) in
+    let named : IsName name = (is.canonical (name ∷ dir) (ap is_some there.1)).names.0 in
+    let at : Path → List Path → Option Located = λ path nodes. Some (record { place = path; real = path; walked = from ∷ nodes }) in
+    ap (λ path. at path (reverse (lineage path))) e ∙ ap (at (name ∷ dir)) (one_below name dir)
+    ∙ ap (located_in dir name (from ∷ reverse (lineage dir))) (sym (taken_as (entry_at tree) links dir name named [] (Some (File there.0)) there.1))
 
-  file_here : (path : Path) → path ≡ name ∷ dir → Some node.File ≡ node_at tree path → Some (plain_file from path) ≡ Here
-  file_here path e file =
-      let there = entry_file tree (name ∷ dir) (file ∙ ap (node_at tree) e) in
-      let named : IsName name = (is.canonical (name ∷ dir) (ap is_some there.1)).names.0 in
-      let at : Path → List Path → Option Located = λ path nodes. Some (record { place = path; real = path; walked = from ∷ nodes }) in
-      ap (λ path. at path (reverse (lineage path))) e ∙ ap (at (name ∷ dir)) (one_below name dir)
-      ∙ ap (located_in dir name (from ∷ reverse (lineage dir))) (sym (taken_as (entry_at tree) links dir name named [] (Some (File there.0)) there.1))
+-- behind the walk of a text's front
+module _ (tree : FileTree) (is : IsTree tree) (from : Path) (text name : Text) (front : List Text) (root : is_absolute text ≡ true) where
+  abbrev Front : Walked
+  Front = walk (entry_at tree) 40 [] front
 
-  told_here : (told : Glance) → TellsName tree dir name told → Tells from told Here
-  told_here glance.Unsure h = tt
-  told_here glance.Missing h = missing_here h
-  told_here (glance.File path) h = file_here path h.0 h.1
+  as_front : located_behind (entry_at tree) from text front name ≡ last_looked_up (entry_at tree) name (from ∷ ([] ∷ [] ++ Front.nodes)) Front.end
+  as_front =
+      ap (λ first. last_looked_up (entry_at tree) name ((from ∷ root_if first) ++ (walk (entry_at tree) 40 (start from text) front).nodes) (walk (entry_at tree) 40 (start from text) front).end) root
+      ∙ ap (λ at. last_looked_up (entry_at tree) name (from ∷ ([] ∷ [] ++ (walk (entry_at tree) 40 at front).nodes)) (walk (entry_at tree) 40 at front).end) (from_root from text root)
+
+  -- nothing is, where the walk ends before
+  pub lost_front : Front.end ≡ Nowhere → None ≡ located_behind (entry_at tree) from text front name
+  lost_front nowhere = sym (as_front ∙ ap (last_looked_up (entry_at tree) name (from ∷ ([] ∷ [] ++ Front.nodes))) nowhere)
+
+  -- the name is looked up in the directory that the way comes to
+  module _ (dir : Path) (straight : Bool) (along : GoesAlong tree front dir straight []) (d : entry_at tree dir ≡ Some Dir) where
+    at_end : (nodes : List Path) → last_looked_up (entry_at tree) name nodes Front.end ≡ located_in dir name nodes (walk (entry_at tree) 40 dir (name ∷ []))
+    at_end nodes = ap (last_looked_up (entry_at tree) name nodes) (along.0 d ∙ ap (λ (w : Walked). w.end) (walk-nil (entry_at tree) 40 dir))
+
+    pub missing_along : entry_at tree (name ∷ dir) ≡ None → None ≡ located_behind (entry_at tree) from text front name
+    missing_along none = missing_here tree 40 dir name (from ∷ ([] ∷ [] ++ Front.nodes)) none ∙ sym (as_front ∙ at_end (from ∷ ([] ∷ [] ++ Front.nodes)))
+
+    pub told_along : (told : Glance) → straight ≡ true → TellsName tree dir name told → Tells from told (located_behind (entry_at tree) from text front name)
+    told_along glance.Unsure s h = tt
+    told_along glance.Missing s h = missing_along h
+    told_along (glance.File path) s h =
+        let on = along.1 s d in
+        let nodes : [] ∷ [] ++ Front.nodes ≡ reverse (lineage dir) = on.nodes ∙ ap (λ (w : Walked). reverse (lineage dir) ++ w.nodes) (walk-nil (entry_at tree) 40 dir) ∙ append-nil (reverse (lineage dir)) in
+        file_here tree is 40 dir name from path h.0 h.1
+        ∙ ap (λ nodes. located_in dir name (from ∷ nodes) (walk (entry_at tree) 40 dir (name ∷ []))) (sym nodes)
+        ∙ sym (as_front ∙ at_end (from ∷ ([] ∷ [] ++ Front.nodes)))
+
+-- a canonical path is the way of its spelling
+spelled_along : (tree : FileTree) → IsTree tree → (front : Text) (dir : Path) → Some dir ≡ path_of front → GoesAlong tree (components front) dir true []
+spelled_along tree is front dir spells =
+    let path = spelled_path dir front spells in
+    let on : entry_at tree dir ≡ Some Dir → GoesOn ([] ∷ []) (walk (entry_at tree) 40 [] (components front)) (reverse (lineage dir)) (walk (entry_at tree) 40 dir []) =
+    λ d. to_walk ([] ∷ []) (reverse (lineage dir)) (walk (entry_at tree) 40 [] (components front)) (walk_ended (AtDir dir 40)) (walk (entry_at tree) 40 dir []) (sym (walk-nil (entry_at tree) 40 dir))
+    (from_walk ([] ∷ []) (reverse (lineage dir)) (walk (entry_at tree) 40 [] (components (spelled dir))) (walk (entry_at tree) 40 [] (components front)) (walk_ended (AtDir dir 40))
+    (ap (λ t. walk (entry_at tree) 40 [] (components t)) path.1) (at_front tree is 40 dir path.0 d)) in
+    (λ d. (on d).end, λ s. on)
 
 -- behind the walk of a text's front, which is a canonical path
 module _ (tree : FileTree) (is : IsTree tree) (from : Path) (text front name : Text) (dir : Path)
     (root : is_absolute text ≡ true) (spells : Some dir ≡ path_of front) where
-  abbrev Front : Walked
-  Front = walk (entry_at tree) 40 [] (components (spelled dir))
-
-  as_front : located_behind (entry_at tree) from text (components front) name ≡ last_looked_up (entry_at tree) name (from ∷ ([] ∷ [] ++ Front.nodes)) Front.end
-  as_front =
-      ap (λ first. last_looked_up (entry_at tree) name ((from ∷ root_if first) ++ (walk (entry_at tree) 40 (start from text) (components front)).nodes) (walk (entry_at tree) 40 (start from text) (components front)).end) root
-      ∙ ap (λ at. last_looked_up (entry_at tree) name (from ∷ ([] ∷ [] ++ (walk (entry_at tree) 40 at (components front)).nodes)) (walk (entry_at tree) 40 at (components front)).end) (from_root from text root)
-      ∙ ap (λ front. last_looked_up (entry_at tree) name (from ∷ ([] ∷ [] ++ (walk (entry_at tree) 40 [] (components front)).nodes)) (walk (entry_at tree) 40 [] (components front)).end) (spelled_path dir front spells).1
-
   -- the name is looked up in that directory
   pub told_behind : (told : Glance) → Some node.Dir ≡ node_at tree dir → TellsName tree dir name told
       → Tells from told (located_behind (entry_at tree) from text (components front) name)
-  told_behind told d h =
-      let at = at_front tree is 40 dir (spelled_path dir front spells).0 (entry_dir tree dir d) in
-      let same : located_behind (entry_at tree) from text (components front) name ≡ Here tree is 40 dir name from =
-      as_front ∙ ap (last_looked_up (entry_at tree) name (from ∷ ([] ∷ [] ++ Front.nodes))) at.end
-      ∙ ap (λ nodes. last_looked_up (entry_at tree) name (from ∷ nodes) (AtDir dir 40)) (at.nodes ∙ append-nil (reverse (lineage dir))) in
-      subst (Tells from told) (sym same) (told_here tree is 40 dir name from told h)
+  told_behind told d h = told_along tree is from text name (components front) root dir true (spelled_along tree is front dir spells) (entry_dir tree dir d) told refl h
 
   -- nothing is, where the walk ends before
-  pub missing_front : Front.end ≡ Nowhere → None ≡ located_behind (entry_at tree) from text (components front) name
-  missing_front nowhere = sym (as_front ∙ ap (last_looked_up (entry_at tree) name (from ∷ ([] ∷ [] ++ Front.nodes))) nowhere)
+  pub missing_front : (walk (entry_at tree) 40 [] (components (spelled dir))).end ≡ Nowhere → None ≡ located_behind (entry_at tree) from text (components front) name
+  missing_front nowhere =
+      lost_front tree is from text name (components front) root (ap (λ t. (walk (entry_at tree) 40 [] (components t)).end) (spelled_path dir front spells).1 ∙ nowhere)

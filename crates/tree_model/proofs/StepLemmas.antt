@@ -86,6 +86,10 @@ child-is : (b : Bool) (path other : Path) → Some path ≡ (if b then (Some oth
 child-is true path other e = cc
 child-is false path other e = absurd (cc)
 
+-- a child is the directory's, by its name
+pub child_named : (dir : Path) (name : Text) (path : Path) → Some path ≡ child_of dir name → path ≡ name ∷ dir
+child_named dir name path e = child-is (is_canonical (name ∷ dir)) path (name ∷ dir) e
+
 -- a child's parent is the directory
 pub child_parent : (dir : Path) (name : Text) (path : Path) → Some path ≡ child_of dir name → parent path ≡ dir
 child_parent dir name path e = ap parent (child-is (is_canonical (name ∷ dir)) path (name ∷ dir) e)

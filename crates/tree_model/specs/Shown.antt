@@ -1,5 +1,5 @@
 -- Paths as diagnostics and line markers show them.
-use Rattle.std.specs.Prelude.{ℕ, List, [], ◌∷◌, if◌then◌else◌, ◌==◌, codes}
+use Rattle.std.specs.Prelude.{ℕ, [], ◌∷◌, if◌then◌else◌, ◌==◌, codes}
 use Rattle.std.specs.List.{flat_map}
 use Rattle.base_types.specs.Ascii as ascii
 use Rattle.tree_model.specs.Paths.{Text, Path, spelled}

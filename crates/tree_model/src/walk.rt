@@ -63,7 +63,7 @@ fn copies(alloc: Global, paths: &[CanonPath]) -> Result<List<CanonPath>, AllocEr
 
 // What a component asks for: to stay, to go up, or to go down to a name.
 #[derive(Clone, Copy)]
-enum Move {
+pub(crate) enum Move {
     Stay,
     Up,
     Down,
@@ -87,7 +87,7 @@ enum Stop {
     File(CanonPath),
 }
 
-fn move_of(name: &[u8]) -> Move
+pub(crate) fn move_of(name: &[u8]) -> Move
     ensures { asked result name.now ≡ component_of name.now }
 {
     match name {
@@ -104,7 +104,7 @@ fn first_slash(text: &[u8]) -> Option<usize>
 }
 
 // The first component of a text, and what stands behind its `/`.
-fn cut_component(text: &[u8]) -> (&[u8], Option<&[u8]>)
+pub(crate) fn cut_component(text: &[u8]) -> (&[u8], Option<&[u8]>)
     ensures { components text.now ≡ result.0.now ∷ components_left (option_map (λ t. t.now) result.1) }
 {
     match first_slash(text) {

@@ -1,10 +1,12 @@
 -- What two looks at a tree tell of a text.
-use Rattle.std.specs.Prelude.{◌≡◌, List, [], ◌∷◌, ◌++◌, reverse, Option, Some, None}
+use Rattle.std.specs.Prelude.{◌≡◌, Bool, true, List, [], ◌∷◌, ◌++◌, reverse, Option, Some, None}
 use Rattle.base_types.specs.Limits.{link_limit}
-use Rattle.tree_model.specs.Paths.{Text, Path}
+use Rattle.tree_model.specs.Paths.{Text, Path, parent}
 use Rattle.tree_model.specs.Trees.{FileTree, entry_at, node_at}
 use Rattle.tree_model.specs.Walk.{Look, start, walk, first_nodes, last_looked_up}
+use Rattle.tree_model.specs.declared.entry.Entry.TheVariants.{Dir}
 use Rattle.tree_model.specs.declared.entry.Node.TheVariants as node
+use Rattle.tree_model.specs.parts.Steps.{GoesOn}
 use Rattle.tree_model.specs.declared.walk.Located.{Located}
 use Rattle.tree_model.specs.declared.glance.Glance.{Glance}
 use Rattle.tree_model.specs.declared.glance.Glance.TheVariants as glance
@@ -35,3 +37,21 @@ abbrev pub located_behind : Look → Path → Text → List Text → Text → Op
 located_behind look from text list name =
     let walked = walk look link_limit (start from text) list in
     last_looked_up look name (first_nodes from text ++ walked.nodes) walked.end
+
+-- where a directory is at a path, the walk of all components from the root ends as the one of those that are left does from there
+abbrev pub ComesBy : FileTree → List Text → Path → List Text → Type 0
+ComesBy tree whole path left =
+    entry_at tree path ≡ Some Dir → (walk (entry_at tree) link_limit [] whole).end ≡ (walk (entry_at tree) link_limit path left).end
+
+-- the same, by the nodes of the path alone
+abbrev pub ComesStraight : FileTree → List Text → Path → List Text → Type 0
+ComesStraight tree whole path left =
+    entry_at tree path ≡ Some Dir → GoesOn ([] ∷ []) (walk (entry_at tree) link_limit [] whole) (reverse (lineage path)) (walk (entry_at tree) link_limit path left)
+
+-- a way along a text's components, of which these are left
+abbrev pub GoesAlong : FileTree → List Text → Path → Bool → List Text → Type 0
+GoesAlong tree whole path straight left = ComesBy tree whole path left × (straight ≡ true → ComesStraight tree whole path left)
+
+-- no node is at the path, in a directory
+abbrev pub IsGap : FileTree → Path → Type 0
+IsGap tree gap = (entry_at tree gap ≡ None) × (entry_at tree (parent gap) ≡ Some Dir)
