@@ -1,5 +1,5 @@
 -- Paths as diagnostics and line markers show them.
-use Rattle.std.specs.Prelude.{ℕ, [], ◌∷◌, if◌then◌else◌, ◌==◌, codes}
+use Rattle.std.specs.Prelude.{ℕ, Bool, not, ◌&&◌, [], ◌∷◌, if◌then◌else◌, ◌==◌, codes}
 use Rattle.std.specs.List.{flat_map}
 use Rattle.base_types.specs.Ascii as ascii
 use Rattle.tree_model.specs.Paths.{Text, Path, spelled}
@@ -7,6 +7,10 @@ use Rattle.tree_model.specs.Paths.{Text, Path, spelled}
 -- a byte as it is shown in a name: `\`, `"` and a newline are escaped
 abbrev pub shown_byte : ℕ → Text
 shown_byte b = if b == ascii.backslash then codes "\\\\" else (if b == ascii.quote then codes "\\\"" else (if b == ascii.newline then codes "\\n" else b ∷ []))
+
+-- a byte that is shown as it is
+abbrev pub is_plain : ℕ → Bool
+is_plain b = not (b == ascii.backslash) && (not (b == ascii.quote) && not (b == ascii.newline))
 
 unfoldable pub shown : Text → Text
 shown text = flat_map shown_byte text

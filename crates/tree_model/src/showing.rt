@@ -1,6 +1,7 @@
 // Names as diagnostics and line markers show them.
 ghost use Rattle.std.specs.Prelude.{◌≡◌, ◌++◌, IfOk, OnOk};
-ghost use Rattle.tree_model.specs.Shown.{shown, shown_byte};
+ghost use Rattle.std.specs.List.{list_all};
+ghost use Rattle.tree_model.specs.Shown.{shown, shown_byte, is_plain};
 
 use std::alloc::{AllocError, Global};
 
@@ -9,11 +10,27 @@ use std::alloc::{AllocError, Global};
 pub fn shown(alloc: Global, text: &[u8]) -> Result<Vec<u8>, AllocError>
     ensures { IfOk result (λ bytes. bytes.items ≡ shown text.now) }
 {
+    if are_plain(text) {
+        return Vec::from_slice(alloc, text);
+    }
     let mut bytes = Vec::with_capacity(alloc, text.len())?;
     for byte in text {
         add_shown(&mut bytes, *byte)?;
     }
     Ok(bytes)
+}
+
+// Whether each byte is shown as it is, as those of nearly all names are.
+fn are_plain(text: &[u8]) -> bool
+    ensures { result ≡ list_all is_plain text.now }
+{
+    text.iter().all(|b| is_plain(*b))
+}
+
+fn is_plain(byte: u8) -> bool
+    ensures { result ≡ is_plain byte }
+{
+    byte != b'\\' && byte != b'"' && byte != b'\n'
 }
 
 fn add_shown(bytes: &mut Vec<u8>, byte: u8) -> Result<(), AllocError>
