@@ -19,6 +19,9 @@ use crate::{Ask, Form, Found, Setup, Visit};
 use std::alloc::{AllocError, Global};
 use tree_model::{CanonPath, Located, Tree, TreeError, locate};
 
+// Room for the texts of most candidates.
+const TEXT_ROOM: usize = 256;
+
 fn is_absolute(text: &[u8]) -> bool
     ensures { result ≡ walks.is_absolute text.now }
 {
@@ -141,7 +144,7 @@ fn search_chain<T: Tree>(
     ensures no_read { T.reads tree.new ≡ T.reads tree.old }
 {
     let root = CanonPath::root(alloc)?;
-    let mut text = Vec::new(alloc);
+    let mut text = Vec::with_capacity(alloc, TEXT_ROOM)?;
     for number in first..setup.quote().len() + setup.bracket().len() {
         put_name(&mut text, setup, directory_at(setup, number), name)?;
         let found = Found::Chain(number as u32);
