@@ -10,7 +10,7 @@ use base_types::Bytes;
 use command_line::read_body;
 use cpp_output::{LayError, Layout};
 use directive_scan::{DirectiveRef, PieceRef, Pieces};
-use macro_expand::{ExpandError, Expander, Work};
+use macro_expand::{ExpandError, Expander, Lent, Work};
 use pp_tokens::{Tokens, lex};
 use std::alloc::Global;
 use std::io::{self, Write};
@@ -163,7 +163,7 @@ fn laid_out(
     Ok(layout.finish()?)
 }
 
-// Lays out what a run becomes, token by token.
+// Lays out what a run becomes.
 fn lay_out(
     alloc: Global,
     layout: &mut Layout,
@@ -176,7 +176,7 @@ fn lay_out(
     Ok(())
 }
 
-// Lays out the next token; whether there was one. Most tokens of a text are lent.
+// Lays out what comes next; whether anything did. Most tokens of a text are lent.
 #[inline(always)]
 fn lay_next(
     stream: &mut Expander<'_>,
@@ -185,9 +185,13 @@ fn lay_next(
 ) -> Result<bool, TextError>
     ensures few { IfOk result (λ more. IsTrue more → at_hand stream.new + work.new.left < at_hand stream.old + work.old.left) }
 {
-    match stream.lend() {
-        Some(token) => {
+    match stream.lend_more() {
+        Some(Lent::Token(token)) => {
             layout.put(&token)?;
+            Ok(true)
+        }
+        Some(Lent::Stretch(tokens)) => {
+            layout.stretch(tokens)?;
             Ok(true)
         }
         None => lay_expanded(stream, layout, work),

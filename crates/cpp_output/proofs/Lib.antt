@@ -1,3 +1,4 @@
 mod Blocks
 mod Growth
 mod Lines
+mod Taken

@@ -1,15 +1,16 @@
 // The layout of preprocessed output: a text that grows token by token.
-ghost use Rattle.std.specs.Prelude.{◌≡◌, ◌<◌, ◌≤◌, ◌++◌, List, [], length, map, max, IfOk, OnOk, IsErrOf};
+ghost use Rattle.std.specs.Prelude.{◌≡◌, ◌<◌, ◌≤◌, ◌++◌, List, [], Some, length, map, max, slice_get, IfOk, IfSome, OnOk, IsErrOf, IsTrue, IsFalse};
 ghost use Rattle.base_types.specs.Limits.{text_limit};
 ghost use Rattle.pp_tokens.specs.Tokens.{rest_of, token_seen};
 ghost use Rattle.cpp_output.specs.Layout.{Event, enter, back, mark, put, pragma, marker, fresh, newlines_between, last_at, last_on_line, gap, on_line};
 ghost use Rattle.cpp_output.specs.Laid.{begun, after_event, after_events, finished};
+ghost use Rattle.cpp_output.specs.Excerpts.{before_token, behind_token, with_excerpt, TakesNext};
 ghost use Rattle.cpp_output.specs.declared.layout.LayError.TheVariants.{Memory};
 
 use crate::last::Last;
 use crate::text::Text;
 use base_types::Bytes;
-use pp_tokens::{Token, TokenRef, Tokens};
+use pp_tokens::{Excerpt, Token, TokenRef, Tokens};
 use std::alloc::{AllocError, Global};
 use std::marker::Model;
 
@@ -129,16 +130,16 @@ impl Layout {
         Ok(())
     }
 
-    /// The tokens of a stretch of a lexed file, one after another.
+    /// The tokens of a stretch of a lexed file, one after another. What stands in the file as it does in the output is copied at once.
     pub fn stretch(&mut self, tokens: Tokens<'_>) -> Result<(), LayError>
         ensures ok { OnOk result ((self.new ≡ after_events self.old (map put (rest_of tokens.entry))) × (length self.new.text ≤ text_limit)) }
         ensures full { IsErrOf result LayError.Full → text_limit < length (after_events self.old (map put (rest_of tokens.entry))).text }
     {
-        // With no tokens, the limit is kept since it was kept before.
-        let _ = &self.text;
-        for token in tokens {
-            self.put(&token)?;
+        let mut excerpt = tokens.excerpt();
+        while let Some(token) = excerpt.first() {
+            self.take(&mut excerpt, &token)?;
         }
+        self.text.append(excerpt.bytes())?;
         Ok(())
     }
 
@@ -208,6 +209,97 @@ impl Layout {
         Ok(())
     }
 
+    // Takes the first token of an excerpt that isn't written yet: it goes on with the excerpt, or the excerpt is written, with what stands
+    // between the two.
+    #[inline(always)]
+    fn take(&mut self, excerpt: &mut Excerpt<'_>, token: &TokenRef<'_>) -> Result<(), LayError>
+        requires first { slice_get excerpt.old.rest 0 ≡ Some (token_seen token.now) }
+        ensures ok { OnOk result (TakesNext self.old excerpt.old self.new excerpt.new (token_seen token.now)) }
+        ensures full { IsErrOf result LayError.Full → text_limit < length (after_event (with_excerpt self.old excerpt.old) (put (token_seen token.now))).text }
+    {
+        if self.joins(excerpt, token) {
+            return Ok(());
+        }
+        self.write(excerpt, token)
+    }
+
+    // Takes the first token of an excerpt where it stands in the file, behind what was taken before, as it does in the output.
+    #[inline(always)]
+    fn joins(&mut self, excerpt: &mut Excerpt<'_>, token: &TokenRef<'_>) -> bool
+        requires first { slice_get excerpt.old.rest 0 ≡ Some (token_seen token.now) }
+        ensures joined { IsTrue result → TakesNext self.old excerpt.old self.new excerpt.new (token_seen token.now) }
+        ensures apart { IsFalse result → (self.new ≡ self.old) × (excerpt.new ≡ excerpt.old) }
+    {
+        let next = Last::of_spelling(token.text);
+        let Some(between) = self.before_token(token, next) else {
+            return false;
+        };
+        if !excerpt.join(between) {
+            return false;
+        }
+        self.at = self.at.max(token.line.into());
+        self.last = next;
+        true
+    }
+
+    // What stands in the output before a token, where it is one byte at most.
+    #[inline(always)]
+    fn before_token(&self, token: &TokenRef<'_>, next: Last) -> Option<&'static [u8]>
+        requires { next ≡ last_on_line token.now.text.now }
+        ensures { IfSome result (λ bytes. bytes.now ≡ before_token self.now (token_seen token.now)) }
+    {
+        let line = u64::from(token.line);
+        if line <= self.at {
+            Some(if self.last.wants_space(token, next) {
+                b" "
+            } else {
+                b""
+            })
+        } else if line - self.at == 1 {
+            Some(b"\n")
+        } else {
+            None
+        }
+    }
+
+    // Writes an excerpt and what stands before its next token, with which a new one begins.
+    #[inline(never)]
+    fn write(&mut self, excerpt: &mut Excerpt<'_>, token: &TokenRef<'_>) -> Result<(), LayError>
+        requires first { slice_get excerpt.old.rest 0 ≡ Some (token_seen token.now) }
+        ensures ok { OnOk result (TakesNext self.old excerpt.old self.new excerpt.new (token_seen token.now)) }
+        ensures full { IsErrOf result LayError.Full → text_limit < length (after_event (with_excerpt self.old excerpt.old) (put (token_seen token.now))).text }
+    {
+        self.append_before(excerpt.bytes(), token)?;
+        excerpt.begin();
+        Ok(())
+    }
+
+    // Bytes on the present output line, and what stands behind them before a token, which itself is to be written behind it.
+    #[inline(always)]
+    fn append_before(&mut self, bytes: &[u8], token: &TokenRef<'_>) -> Result<(), LayError>
+        ensures ok { OnOk result (self.new ≡ behind_token (self.old.text ++ (bytes.now ++ before_token self.old (token_seen token.now))) self.old (token_seen token.now)) }
+        ensures full { IsErrOf result LayError.Full → text_limit < length (self.old.text ++ (bytes.now ++ before_token self.old (token_seen token.now))) }
+    {
+        self.text.append(bytes)?;
+        self.come_to(token.line.into())?;
+        self.append_gap(token)
+    }
+
+    // What stands before a token on the present output line; the token itself is to be written behind it.
+    #[inline(always)]
+    fn append_gap(&mut self, token: &TokenRef<'_>) -> Result<(), LayError>
+        ensures ok { OnOk result (self.new ≡ record { text = self.old.text ++ gap self.old.last (token_seen token.now); at = self.old.at; last = last_on_line token.now.text.now }) }
+        ensures within { length self.new.text ≤ text_limit }
+        ensures full { IsErrOf result LayError.Full → text_limit < length (self.old.text ++ gap self.old.last (token_seen token.now)) }
+    {
+        let next = Last::of_spelling(token.text);
+        if self.last.wants_space(token, next) {
+            self.text.append(b" ")?;
+        }
+        self.last = next;
+        Ok(())
+    }
+
     // A token on the present output line.
     #[inline(always)]
     fn append_token(&mut self, token: &TokenRef<'_>) -> Result<(), LayError>
@@ -215,12 +307,8 @@ impl Layout {
         ensures within { length self.new.text ≤ text_limit }
         ensures full { IsErrOf result LayError.Full → text_limit < length (self.old.text ++ (gap self.old.last (token_seen token.now) ++ token.now.text.now)) }
     {
-        let next = Last::of_spelling(token.text);
-        if self.last.wants_space(token, next) {
-            self.text.append(b" ")?;
-        }
+        self.append_gap(token)?;
         self.text.append(token.text)?;
-        self.last = next;
         Ok(())
     }
 

@@ -1,5 +1,5 @@
 -- Runs of text, expanded and laid out.
-use Rattle.std.proofs.Common.{◌≡◌, ℕ, ◌<◌, ◌≤◌, List, [], ◌∷◌, map, length, Some, None, Result, Ok, Err, refl, ap, sym, ◌∙◌, arith, length-append}
+use Rattle.std.proofs.Common.{◌≡◌, ℕ, ◌<◌, ◌≤◌, List, [], ◌∷◌, ◌++◌, map, length, None, Result, Ok, Err, refl, ap, sym, ◌∙◌, arith, length-append}
 use Rattle.std.proofs.lemmas.Bool.{le-leb}
 use Rattle.pp_tokens.specs.declared.token.Token.{Token}
 use Rattle.macro_expand.specs.Asking.{Failure}
@@ -42,15 +42,19 @@ pub too-long : (o : Laid) (r : Result Given Failure) → IsOkay r → text_limit
 too-long o (Ok g) okay long = omega (arith, long, grows o g.tokens)
 too-long o (Err f) okay long = absurd okay
 
-laid-before : (o : Laid) (t : Token) (r : Result Given Failure) → laid_from o (given_before (t ∷ []) r) ≡ laid_from (after_event o (put t)) r
+after-both : (o : Laid) (ts us : List Token) → after_events o (map put (ts ++ us)) ≡ after_events (after_events o (map put ts)) (map put us)
 unfolding after_events
-laid-before o t (Ok g) = refl
-laid-before o t (Err f) = refl
+after-both o [] us = refl
+after-both o (t ∷ ts) us = after-both (after_event o (put t)) ts us
 
--- one token more that was laid out
-pub lays-turn : (o : Laid) (old new : Stream) (units left : ℕ) (t : Token) → GivesNext (Some t) old units new left →
-    laid_from o (to_come old units) ≡ laid_from (after_event o (put t)) (to_come new left)
-lays-turn o old new units left t gives = ap (laid_from o) gives ∙ laid-before o t (to_come new left)
+laid-before : (o : Laid) (ts : List Token) (r : Result Given Failure) → laid_from o (given_before ts r) ≡ laid_from (after_events o (map put ts)) r
+laid-before o ts (Ok g) = ap (λ (l : Laid). let laid : Result (Laid × ℕ) Failure = Ok (l, g.units) in laid) (after-both o ts g.tokens)
+laid-before o ts (Err f) = refl
+
+-- tokens more that were laid out
+pub lays-turn : (o : Laid) (old new : Stream) (units left : ℕ) (ts : List Token) → to_come old units ≡ given_before ts (to_come new left) →
+    laid_from o (to_come old units) ≡ laid_from (after_events o (map put ts)) (to_come new left)
+lays-turn o old new units left ts gives = ap (laid_from o) gives ∙ laid-before o ts (to_come new left)
 
 -- no token more
 pub lays-end : (o : Laid) (old new : Stream) (units left : ℕ) → GivesNext None old units new left → laid_from o (to_come old units) ≡ Ok (o, left)

@@ -1,16 +1,16 @@
 // Runs of text, and the lines of directives that are expanded (ISO C 6.10.3).
 ghost use Rattle.std.specs.Prelude.{◌≡◌, ◌≤◌, ◌<◌, ◌+◌, Ok, length, map, IfOk, IfErr, OnOk, IsErrOf, IsTrue};
-ghost use Rattle.pp_tokens.specs.Tokens.{rest_of, token_seen};
+ghost use Rattle.pp_tokens.specs.Tokens.{rest_of};
 ghost use Rattle.macro_defs.specs.Table.{lookup};
 ghost use Rattle.macro_expand.specs.declared.outcome.Mode.TheVariants as mode;
 ghost use Rattle.macro_expand.specs.declared.stream.Standing.TheVariants.{Going};
 ghost use Rattle.macro_expand.specs.Replacement.{unmarked};
 ghost use Rattle.macro_expand.specs.Expansion.{expanded_by};
 ghost use Rattle.macro_expand.specs.Seen.{ReportsResult, place_of};
-ghost use Rattle.macro_expand.specs.Stream.{given, to_come, at_hand};
+ghost use Rattle.macro_expand.specs.Stream.{given, to_come, at_hand, lent_tokens};
 ghost use Rattle.base_types.specs.Limits.{text_limit};
 ghost use Rattle.cpp_output.specs.Layout.{put};
-ghost use Rattle.cpp_output.specs.Laid.{after_event};
+ghost use Rattle.cpp_output.specs.Laid.{after_events};
 ghost use Rattle.daemon_cpp.specs.Prep.{text_step, expand_line};
 ghost use Rattle.daemon_cpp.specs.parts.Showing.{Goes, Leads, here_seen, TellsError, TellsText, ReportsText, LaysNext, IsOkay, error_line, laid_from};
 
@@ -20,8 +20,8 @@ use crate::stop::{Stop, refused};
 use base_types::List;
 use cpp_output::{LayError, Layout};
 use macro_defs::MacroTable;
-use macro_expand::{ExpandError, Expander, Mode, Presumed, Run, Work, expand};
-use pp_tokens::{Token, TokenRef, Tokens};
+use macro_expand::{ExpandError, Expander, Lent, Mode, Presumed, Run, Work, expand};
+use pp_tokens::{Token, Tokens};
 use std::alloc::Global;
 
 /// Reads a run of text: it is expanded, and laid out token by token. An error of the expansion comes before the limit of the text.
@@ -155,7 +155,7 @@ fn lay_out(
     Ok(())
 }
 
-// Lays out the next token; whether there was one. Most tokens of a text are lent.
+// Lays out what comes next; whether anything did. Most tokens of a text are lent.
 #[inline(always)]
 fn lay_next(
     stream: &mut Expander<'_>,
@@ -169,8 +169,8 @@ fn lay_next(
     ensures err { IfErr result (λ e. ReportsText e (laid_from layout.old (to_come stream.old work.old.left))) }
     ensures spends { work.new.left ≤ work.old.left }
 {
-    match stream.lend() {
-        Some(token) => match put_or_end(stream, layout, work, &token) {
+    match stream.lend_more() {
+        Some(lent) => match lay_or_end(stream, layout, work, lent) {
             Ok(()) => Ok(true),
             Err(error) => Err(error),
         },
@@ -192,7 +192,7 @@ fn lay_expanded(
     ensures spends { work.new.left ≤ work.old.left }
 {
     match stream.expand_next(work) {
-        Ok(Some(token)) => match put_or_end(stream, layout, work, &token.as_ref()) {
+        Ok(Some(token)) => match lay_or_end(stream, layout, work, Lent::Token(token.as_ref())) {
             Ok(()) => Ok(true),
             Err(error) => Err(error),
         },
@@ -201,29 +201,41 @@ fn lay_expanded(
     }
 }
 
-// Lays a token out. Where the text passes its limit, the rest is expanded, since an error of it comes first.
+// Lays out what is lent. Where the text passes its limit, the rest is expanded, since an error of it comes first.
 #[inline(always)]
-fn put_or_end(
+fn lay_or_end(
     stream: &mut Expander<'_>,
     layout: &mut Layout,
     work: &mut Work,
-    token: &TokenRef<'_>,
+    lent: Lent<'_>,
 ) -> Result<(), TextError>
     requires { stream.old.standing ≡ Going }
-    ensures ok { OnOk result (layout.new ≡ after_event layout.old (put (token_seen token.now))) }
+    ensures ok { OnOk result (layout.new ≡ after_events layout.old (map put (lent_tokens lent.entry))) }
     ensures within { OnOk result (length layout.new.text ≤ text_limit) }
     ensures same { OnOk result (stream.new ≡ stream.old) }
     ensures left { OnOk result (work.new.left ≡ work.old.left) }
-    ensures err { IfErr result (λ e. ReportsText e (laid_from (after_event layout.old (put (token_seen token.now))) (to_come stream.old work.old.left))) }
+    ensures err { IfErr result (λ e. ReportsText e (laid_from (after_events layout.old (map put (lent_tokens lent.entry))) (to_come stream.old work.old.left))) }
     ensures spends { work.new.left ≤ work.old.left }
 {
-    match layout.put(token) {
+    match lay_lent(layout, lent) {
         Ok(()) => Ok(()),
         Err(LayError::Full) => match expand_rest(stream, work) {
             Ok(()) => Err(TextError::Full),
             Err(error) => Err(TextError::Expand(error)),
         },
         Err(LayError::Memory) => Err(TextError::Expand(ExpandError::Memory)),
+    }
+}
+
+#[tactic(auto, unfolding(cpp_output::specs::Laid::after_events))]
+#[inline(always)]
+fn lay_lent(layout: &mut Layout, lent: Lent<'_>) -> Result<(), LayError>
+    ensures ok { OnOk result ((layout.new ≡ after_events layout.old (map put (lent_tokens lent.entry))) × (length layout.new.text ≤ text_limit)) }
+    ensures full { IsErrOf result LayError.Full → text_limit < length (after_events layout.old (map put (lent_tokens lent.entry))).text }
+{
+    match lent {
+        Lent::Token(token) => layout.put(&token),
+        Lent::Stretch(tokens) => layout.stretch(tokens),
     }
 }
 

@@ -1,5 +1,5 @@
 -- Pending tokens as lists.
-use Rattle.std.proofs.Common.{◌≡◌, ℕ, zero, suc, ◌+◌, ◌-◌, ◌≤◌, Bool, false, List, [], ◌∷◌, ◌++◌, map, drop, length, reverse, Option, Some, None, option_to_list, refl, ap, sym, ◌∙◌, slice_get, MatchOption, arith}
+use Rattle.std.proofs.Common.{◌≡◌, ℕ, zero, suc, ◌+◌, ◌-◌, ◌≤◌, Bool, false, List, [], ◌∷◌, ◌++◌, map, take, drop, length, reverse, Option, Some, None, option_to_list, refl, ap, sym, ◌∙◌, slice_get, MatchOption, arith}
 use Rattle.std.proofs.lemmas.List.{nil_from_length, length-append, reverse-append}
 use Rattle.std.specs.Option.{option_map, option_map_or}
 use Rattle.pp_tokens.specs.declared.token.Token.{Token}
@@ -7,7 +7,10 @@ use Rattle.pp_tokens.specs.declared.token.TokenRef.{TokenRef}
 use Rattle.pp_tokens.specs.Tokens.{token_seen}
 use Rattle.macro_expand.specs.declared.marked.Marked.{Marked as Kept}
 use Rattle.pp_tokens.specs.Marks.{is_open}
+use Rattle.macro_expand.specs.declared.outcome.Mode.{Mode}
+use Rattle.macro_expand.specs.Expansion.{Table}
 use Rattle.macro_expand.specs.Replacement.{unmarked, Marked, after_open}
+use Rattle.macro_expand.specs.parts.Steps.{IsUntouched, EachUntouched, TakesEach}
 use Rattle.macro_expand.specs.parts.Reading.{holds_at}
 use Rattle.macro_expand.specs.Seen.{marked_of, kept_plain, kept_token}
 
@@ -70,3 +73,20 @@ last_taken xs ys (Some x) n k m seen taken same some =
     let is : Some m ≡ Some x = seen ∙ ap (slice_get xs) before ∙ ap (λ l. slice_get l (length ys)) taken ∙ last_of ys x in
     let m_is : m ≡ x = cc in
     ap reverse taken ∙ reverse-append ys (x ∷ []) ∙ ap (λ a. a ∷ reverse ys) (sym m_is)
+
+-- tokens at the front of a run that no macro touches
+module _ (table : Table) (mode : Mode) where
+  pub untouched_more : (xs ys : List Token) (n : ℕ) (t : Token) → EachUntouched table mode (take n xs) → drop n xs ≡ t ∷ ys → IsUntouched table mode t →
+      EachUntouched table mode (take (n + 1) xs)
+  untouched_more [] ys zero t each is here = absurd (cc)
+  untouched_more [] ys (suc n) t each is here = absurd (cc)
+  untouched_more (x ∷ xs) ys zero t each is here = let same : x ≡ t = cc in rw same (here, tt)
+  untouched_more (x ∷ xs) ys (suc n) t (first, each) is here =
+      let more : suc n + 1 ≡ suc (n + 1) = omega arith in
+      rw more (first, untouched_more xs ys n t each is here)
+
+  pub takes_stretch : (ts rest : List Token) → EachUntouched table mode ts → TakesEach table mode ts (map kept_plain (ts ++ rest)) (map kept_plain rest)
+  takes_stretch [] rest each = refl
+  takes_stretch (t ∷ ts) rest (here, each) =
+      let later = map kept_plain (ts ++ rest) in
+      (later, ((kept_plain t, (refl, (refl, here (kept_plain t) later refl))), takes_stretch ts rest each))

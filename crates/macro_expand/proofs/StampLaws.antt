@@ -1,12 +1,17 @@
 -- Tokens of lists that pass, and what their stamps say.
 use Rattle.std.proofs.Common.{◌≡◌, ℕ, zero, suc, ◌+◌, ◌<◌, ◌≤◌, Bool, true, false, if◌then◌else◌, ◌==◌, ◌&&◌, ◌||◌, bytes_eq, Vec, Global, List, [], ◌∷◌, ◌++◌, length, map, get_or, take, drop, refl, ap, sym, ◌∙◌, subst, inl, inr, arith}
-use Rattle.std.specs.Prelude.{Result, Ok, Err, IfOk}
+use Rattle.std.specs.Prelude.{Result, Ok, Err, IfOk, Option, Some, None, IfSome, IsNone}
 use Rattle.std.proofs.lemmas.List.{take_all}
 use Rattle.std.proofs.Math.Seq.{take-append_seam}
 use Rattle.std.proofs.lemmas.Bool.{ne_eqb, eq-eqb}
 use Rattle.std.proofs.Math.ListN.{set}
 use Rattle.std.proofs.lemmas.List.{take_more_set}
+use Rattle.macro_expand.specs.declared.lent.Lent.{Lent}
 use Rattle.macro_expand.specs.declared.marked.Marked.{Marked as Kept}
+use Rattle.macro_expand.specs.declared.outcome.Mode.{Mode}
+use Rattle.macro_expand.specs.Expansion.{Table}
+use Rattle.macro_expand.specs.Stream.{lent_tokens}
+use Rattle.macro_expand.specs.parts.Steps.{TakesEach}
 use Rattle.macro_expand.specs.Sets.{names_in}
 use Rattle.macro_expand.specs.Replacement.{Marked, with_name, common_names}
 use Rattle.macro_expand.specs.parts.Pieces.{spaced_from, spaced_at}
@@ -240,3 +245,16 @@ popped-stamped s t pending popped is st = (st.0, subst (AllStamped st.0 s) is st
 
 pub pending-stamped : (sets : Stamps) (s0 s : ℕ) (pending out : List Kept) → StampsAfter sets s0 s pending out → (after : Stamps) × AllStamped after s pending
 pending-stamped sets s0 s pending out st = (st.0, st.1.1.0)
+
+-- ---- what is lent ----
+
+each-taken-stamped : (sets : Stamps) (s : ℕ) (table : Table) (mode : Mode) (ts : List Token) (old new : List Kept) → TakesEach table mode ts old new → AllStamped sets s old → AllStamped sets s new
+each-taken-stamped sets s table mode [] old new same st = subst (AllStamped sets s) same st
+each-taken-stamped sets s table mode (t ∷ ts) old new (mid, (first, each)) st =
+    let front : AllStamped sets s (first.0 ∷ mid) = subst (AllStamped sets s) first.1.1.0 st in
+    each-taken-stamped sets s table mode ts mid new each front.1
+
+pub lent-stamped : (sets : Stamps) (s : ℕ) (table : Table) (mode : Mode) (o : Option Lent) (old new : List Kept) →
+    IfSome o (λ l. TakesEach table mode (lent_tokens l) old new × (0 < length (lent_tokens l))) → (IsNone o → new ≡ old) → AllStamped sets s old → AllStamped sets s new
+lent-stamped sets s table mode (Some l) old new taken none st = each-taken-stamped sets s table mode (lent_tokens l) old new taken.0 st
+lent-stamped sets s table mode None old new taken none st = subst (AllStamped sets s) (sym (none (cc))) st

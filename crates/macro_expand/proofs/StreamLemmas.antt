@@ -1,5 +1,5 @@
 -- Expansion that gives its tokens one after another, by the expansion of the whole list.
-use Rattle.std.proofs.Common.{◌≡◌, ℕ, ◌+◌, length, List, [], ◌∷◌, ◌++◌, map, inl, inr, reverse, Some, None, Option, MatchOption, option_to_list, Result, Ok, Err, refl, ap, sym, ◌∙◌, append_assoc}
+use Rattle.std.proofs.Common.{◌≡◌, ℕ, ◌+◌, length, List, [], ◌∷◌, ◌++◌, map, inl, inr, reverse, Some, None, Option, MatchOption, option_to_list, Result, Ok, Err, refl, ap, sym, ◌∙◌, append_assoc, arith}
 use Rattle.std.proofs.lemmas.List.{nil_from_length, map-append, append-nil, reverse-append, reverse-reverse}
 use Rattle.pp_tokens.specs.declared.Token.{Token}
 use Rattle.macro_expand.specs.declared.outcome.Mode.{Mode}
@@ -15,7 +15,7 @@ use Rattle.macro_expand.specs.Answered.{after_result, answered_and_then, before,
 use Rattle.macro_defs.specs.Table.{TableEntries, lookup}
 use Rattle.macro_expand.specs.Seen.{marked_of, kept_token, place_of, GivesTokens, StepKeepsResult, Stops, ReportsResult}
 use Rattle.macro_expand.specs.Stream.{Given, Stream, given, given_before, to_come, GivesNext}
-use Rattle.macro_expand.specs.parts.Steps.{StaysAsItIs, TakesUntouched, Becomes}
+use Rattle.macro_expand.specs.parts.Steps.{StaysAsItIs, TakesUntouched, TakesEach, Becomes}
 use Rattle.macro_expand.proofs.AnsweredLaws.{lifted, before-nothing, expanded_for-nil, expanded_for-ordinary, expanded_for-undefined}
 use Rattle.macro_expand.proofs.GivesLaws.{by_is, result_is, lowered-lifted}
 use Rattle.macro_expand.proofs.LoopLaws.{tokens_of_marked, Stops-is}
@@ -198,3 +198,19 @@ lent_first entries s mode ready pending later t none (m, (same, (is, stays))) un
     (sym
     (ap (λ (l : List Kept). given_before (map kept_token l) (given (expanded_by (lookup entries) (place_of s.here.now) mode 0 units (map marked_of later)))) none
     ∙ given_before-nothing (given (expanded_by (lookup entries) (place_of s.here.now) mode 0 units (map marked_of later)))))
+
+-- the same of all that are taken one after another
+pub lent_each : (entries : TableEntries) (s : TablePlace) (mode : Mode) (ready pending later : List Kept) (ts : List Token) → ready ≡ [] → TakesEach (lookup entries) mode ts pending later →
+    (units : ℕ) → given_before (map kept_token ready) (given (expanded_by (lookup entries) (place_of s.here.now) mode 0 units (map marked_of pending)))
+    ≡ given_before ts (given_before (map kept_token ready) (given (expanded_by (lookup entries) (place_of s.here.now) mode 0 units (map marked_of later))))
+lent_each entries s mode ready pending later [] none same units =
+    ap (λ (l : List Kept). given_before (map kept_token ready) (given (expanded_by (lookup entries) (place_of s.here.now) mode 0 units (map marked_of l)))) same
+    ∙ sym (given_before-nothing _)
+lent_each entries s mode ready pending later (t ∷ ts) none (mid, (first, each)) units =
+    lent_first entries s mode ready pending mid t none first units
+    ∙ ap (given_before (t ∷ [])) (lent_each entries s mode ready mid later ts none each units)
+    ∙ sym (given_before-both (t ∷ []) ts _)
+
+pub taken_length : (table : Table) (mode : Mode) (ts : List Token) (old new : List Kept) → TakesEach table mode ts old new → length new + length ts ≡ length old
+taken_length table mode [] old new same = omega (arith, ap length same)
+taken_length table mode (t ∷ ts) old new (mid, (first, each)) = omega (arith, taken_length table mode ts mid new each, ap length first.1.1.0)

@@ -1,9 +1,12 @@
 -- Expansion that gives its tokens one after another (6.10.3): what it still gives, and how it stands after a token, at the end and after an
 -- error.
-use Rattle.std.specs.Prelude.{◌≡◌, ℕ, ◌+◌, ◌⊎◌, List, [], ◌∷◌, ◌++◌, map, length, Option, Some, None, Result, Ok, Err}
+use Rattle.std.specs.Prelude.{◌≡◌, ℕ, ◌+◌, ◌<◌, ◌⊎◌, List, [], ◌∷◌, ◌++◌, map, length, Option, Some, None, Result, Ok, Err}
 use Rattle.pp_tokens.specs.declared.token.Token.{Token}
+use Rattle.pp_tokens.specs.Tokens.{token_seen, rest_of}
 use Rattle.macro_defs.specs.Table.{TableEntries, lookup}
 use Rattle.macro_expand.specs.declared.answers.Presumed.{Presumed}
+use Rattle.macro_expand.specs.declared.lent.Lent.{Lent}
+use Rattle.macro_expand.specs.declared.lent.Lent.TheVariants.{Token as Single, Stretch}
 use Rattle.macro_expand.specs.declared.marked.Marked.{Marked as Kept}
 use Rattle.macro_expand.specs.declared.outcome.Mode.{Mode}
 use Rattle.macro_expand.specs.declared.outcome.ExpandError.{ExpandError}
@@ -50,6 +53,17 @@ at_hand s = length s.ready + length s.pending
 pub record FirstReady (t : Token) (old new : Stream) : Type 0 where
   pub given : (units : ℕ) → to_come old units ≡ given_before (t ∷ []) (to_come new units)
   pub fewer : at_hand new + 1 ≡ at_hand old
+
+-- the tokens that are lent at once
+abbrev pub lent_tokens : Lent → List Token
+lent_tokens (Single t) = token_seen t ∷ []
+lent_tokens (Stretch ts) = rest_of ts
+
+-- tokens, one at least, are the first that are ready, and the others stay
+pub record FrontReady (ts : List Token) (old new : Stream) : Type 0 where
+  pub given : (units : ℕ) → to_come old units ≡ given_before ts (to_come new units)
+  pub fewer : at_hand new + length ts ≡ at_hand old
+  pub some : 0 < length ts
 
 -- a token is the first that is still to come, and none comes where nothing is left but the units
 abbrev pub GivesNext : Option Token → Stream → ℕ → Stream → ℕ → Type 0

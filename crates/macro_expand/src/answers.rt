@@ -34,7 +34,8 @@ pub trait Answers<S> {
         ensures answer { IfOk result (λ d. option_copied d ≡ ((answerer source.now).definition self.old name.now).answer) }
         ensures state { IfOk result (λ d. self.new ≡ ((answerer source.now).definition self.old name.now).state) };
 
-    /// Whether a name is known to have no definition, so that nobody asks for it: the answer would be none, and the state the same.
+    /// Whether a name is known to have no definition, so that nobody asks for it: the answer would be none, and the state the same. `false`
+    /// tells nothing.
     fn lacks(&self, source: &S, name: &[u8]) -> bool
         ensures { IsTrue result → (state : Self) → (answerer source.now).definition state name.now ≡ record { answer = None; state = state } };
 

@@ -1,20 +1,22 @@
 // The tokens that are still to be expanded.
-ghost use Rattle.std.specs.Prelude.{◌≡◌, ℕ, ◌+◌, ◌≤◌, ◌++◌, ◌∷◌, [], List, map, length, reverse, slice_get, Some, None, bytes_eq, codes, false, OnOk, IfErr, IsTrue, IsFalse, IsNone, IfSome, MatchOption};
+ghost use Rattle.std.specs.Prelude.{◌≡◌, ℕ, ◌+◌, ◌<◌, ◌≤◌, ◌++◌, ◌∷◌, [], List, map, take, length, reverse, slice_get, Some, None, bytes_eq, codes, false, OnOk, IfErr, IsTrue, IsFalse, IsNone, IfSome, MatchOption};
 ghost use Rattle.std.specs.Option.{option_map};
-ghost use Rattle.pp_tokens.specs.Tokens.{token_seen};
+ghost use Rattle.pp_tokens.specs.Tokens.{token_seen, rest_of};
 ghost use Rattle.macro_defs.specs.Table.{lookup};
 ghost use Rattle.macro_expand.specs.declared.marked.Marked.{Marked as Kept};
 ghost use Rattle.macro_expand.specs.Replacement.{after_open};
-ghost use Rattle.macro_expand.specs.parts.Steps.{StaysAsItIs, TakesUntouched};
+ghost use Rattle.macro_expand.specs.Stream.{lent_tokens};
+ghost use Rattle.macro_expand.specs.parts.Steps.{IsUntouched, EachUntouched, TakesUntouched, TakesEach};
 ghost use Rattle.macro_expand.specs.parts.Pending.{run_tokens};
 ghost use Rattle.macro_expand.specs.Seen.{marked_of, kept_plain, kept_token};
 ghost use Rattle.macro_expand.specs.parts.Stamps.{Stamps, AllStamped};
 
+use crate::lent::Lent;
 use crate::marked::Marked;
 use crate::outcome::{Mode, RunError};
 use crate::run::Run;
 use macro_defs::MacroTable;
-use pp_tokens::{TokenCow, TokenRef};
+use pp_tokens::{TokenCow, TokenRef, Tokens};
 use std::alloc::Global;
 use std::marker::Model;
 
@@ -87,6 +89,20 @@ impl<'a> Pending<'a> {
         Some(token)
     }
 
+    // Takes what no macro touches at the front and is lent at once; else nothing changes.
+    #[inline(always)]
+    pub(crate) fn lend(&mut self, table: &MacroTable, mode: Mode) -> Option<Lent<'a>>
+        ensures taken { IfSome result (λ l. TakesEach (lookup table.now) mode (lent_tokens l) self.old self.new × (0 < length (lent_tokens l))) }
+        ensures none { IsNone result → self.new ≡ self.old }
+    {
+        if !has_none(&self.made) {
+            let token = take_made(&mut self.made, table, mode)?;
+            return Some(Lent::Token(token));
+        }
+        let tokens = take_stretch(&mut self.run, table, mode)?;
+        Some(Lent::Stretch(tokens))
+    }
+
     // The token at a place; none behind the last.
     pub(crate) fn get(&self, place: usize) -> Option<TokenRef<'_>>
         ensures { option_map token_seen result ≡ option_map kept_token (slice_get self.now place) }
@@ -142,7 +158,7 @@ pub(crate) fn is_place(name: &[u8]) -> bool
 #[tactic(auto, unfolding(crate::specs::Expansion::head_role))]
 #[inline(always)]
 fn is_untouched(table: &MacroTable, mode: Mode, t: &TokenRef) -> bool
-    ensures { IsTrue result → ((m : Kept) (rest : List Kept) → m.token ≡ token_seen t.now → StaysAsItIs (lookup table.now) mode m rest) }
+    ensures { IsTrue result → IsUntouched (lookup table.now) mode (token_seen t.now) }
 {
     if !t.is_identifier() {
         return true;
@@ -154,6 +170,42 @@ fn is_untouched(table: &MacroTable, mode: Mode, t: &TokenRef) -> bool
         return false;
     }
     table.get(t.text).is_none()
+}
+
+// How many tokens at the front no macro touches.
+fn count_untouched(table: &MacroTable, mode: Mode, tokens: Tokens<'_>) -> usize
+    ensures untouched { EachUntouched (lookup table.now) mode (take result (rest_of tokens.entry)) }
+    ensures within { result ≤ length (rest_of tokens.entry) }
+{
+    let mut count = 0usize;
+    for token in tokens {
+        if !is_untouched(table, mode, &token) {
+            return count;
+        }
+        count += 1;
+    }
+    count
+}
+
+// Takes the tokens that no macro touches at the front of a run, where it lies in a file and has any; else nothing changes.
+#[inline(always)]
+fn take_stretch<'a>(run: &mut Run<'a>, table: &MacroTable, mode: Mode) -> Option<Tokens<'a>>
+    ensures taken { IfSome result (λ ts. (run_tokens run.old ≡ rest_of ts ++ run_tokens run.new) × EachUntouched (lookup table.now) mode (rest_of ts)) }
+    ensures some { IfSome result (λ ts. 0 < length (rest_of ts)) }
+    ensures none { IsNone result → run.new ≡ run.old }
+{
+    match run {
+        Run::Listed(_) => None,
+        Run::Lexed(tokens) => {
+            let count = count_untouched(table, mode, *tokens);
+            if count == 0 {
+                return None;
+            }
+            let (front, behind) = tokens.split_at(count);
+            *tokens = behind;
+            Some(front)
+        }
+    }
 }
 
 // Whether no token that was put in is left.

@@ -8,12 +8,13 @@ ghost use Rattle.macro_expand.specs.Answered.{expanded_for, table_answerer};
 ghost use Rattle.macro_expand.specs.declared.marked.Marked.{Marked as Kept};
 ghost use Rattle.macro_expand.specs.Seen.{marked_of, kept_plain, place_of, GivesTokens, Stops, ReportsResult};
 ghost use Rattle.macro_expand.specs.parts.Pending.{run_tokens};
-ghost use Rattle.macro_expand.specs.Stream.{to_come, at_hand, FirstReady, GivesNext, StandsAfter, StandsAfterAnswer};
+ghost use Rattle.macro_expand.specs.Stream.{to_come, at_hand, lent_tokens, FirstReady, FrontReady, GivesNext, StandsAfter, StandsAfterAnswer};
 ghost use Rattle.macro_expand.specs.parts.Steps.{StaysAsItIs, Becomes};
 ghost use Rattle.macro_expand.specs.parts.Stamps.{Stamps, AllStamped};
 
 use crate::answers::{Presumed, TablePlace};
 use crate::expansion::{expand_head, public_error};
+use crate::lent::Lent;
 use crate::marked::Marked;
 use crate::outcome::{ExpandError, Mode, RunError, Work};
 use crate::pending::Pending;
@@ -156,6 +157,20 @@ impl<'a> Expander<'a> {
             return None;
         }
         self.pending.take_untouched(self.table, self.mode)
+    }
+
+    /// The same for all tokens that are lent at once: `next` would give them one after another, and leave the same behind the last.
+    #[inline(always)]
+    pub fn lend_more(&mut self) -> Option<Lent<'a>>
+        ensures lends { IfSome result (λ l. FrontReady (lent_tokens l) self.old self.new) }
+        ensures none { IsNone result → self.new ≡ self.old }
+        ensures same { self.new.standing ≡ self.old.standing }
+        ensures going { IfSome result (λ l. self.old.standing ≡ Standing.Going) }
+    {
+        if !self.has_none_ready() {
+            return None;
+        }
+        self.pending.lend(self.table, self.mode)
     }
 
     // Whether the expansion goes on, and nothing that was put out is still to be given.

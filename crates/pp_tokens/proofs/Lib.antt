@@ -26,6 +26,7 @@ mod ByteTables
 mod LexSteps
 mod Places
 mod FlatPlaces
+mod ExcerptLemmas
 mod PlainTests
 mod Closing
 mod Opened

@@ -6,6 +6,7 @@
 --     DirectiveLines  the directives of a file alone
 --     Slices      where the tokens of a file stand in its text
 --     Tokens      owned and borrowed tokens
+--     Excerpts    tokens of a file on their way to a copy of its text
 --     Marks       the tests of tokens that directives and macros are read by
 --     Plain       plain bodies and simple names
 --     parts       helpers of contracts, on which none of these rests
@@ -16,6 +17,7 @@ pub mod Lines
 pub mod DirectiveLines
 pub mod Slices
 pub mod Tokens
+pub mod Excerpts
 pub mod Marks
 pub mod Plain
 pub mod parts

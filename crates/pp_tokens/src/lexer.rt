@@ -9,7 +9,7 @@
 // `gather_directives` keeps the tokens of directives alone (6.10 paragraph 2; `directives_alone` in specs/DirectiveLines.antt). It goes as
 // `gather` does up to the first token of a line of text, and from there to the end of that line by `text_line.rt`, which passes over its
 // tokens. What is left of a file from there on stands in specs/parts/TextLines.antt.
-ghost use Rattle.std.specs.Prelude.{◌≡◌, ◌≤◌, ◌<◌, ◌+◌, ◌∷◌, ℕ, true, [], None, zero, length, take, drop, get_or, IfOk, slice_get, option_map, option_and_then, take_while};
+ghost use Rattle.std.specs.Prelude.{◌≡◌, ◌≤◌, ◌<◌, ◌+◌, ◌-◌, ◌∷◌, ℕ, true, [], None, zero, length, take, drop, get_or, IfOk, slice_get, option_map, option_and_then, take_while};
 ghost use Rattle.std.specs.List.{flat_map};
 ghost use Rattle.std.specs.Option.{option_map_or};
 ghost use Rattle.base_types.specs.Limits.{body_limit};
@@ -26,6 +26,7 @@ ghost use Rattle.pp_tokens.specs.Tokens.{token_seen};
 use crate::class::is_white;
 use crate::comment::line_length;
 use crate::due::{Before, after_word, is_due};
+use crate::excerpt::Excerpt;
 use crate::part::{What, next_part};
 use crate::place::Place;
 use crate::same_source::is_source_of;
@@ -86,13 +87,13 @@ struct Gathering {
 
 impl Gathering {
     // Nothing, with room for what a text of so many bytes usually holds: in C a token and the gap behind it are some
-    // five bytes. A place that isn't taken costs no memory page.
+    // five bytes, and a line thirty. Room that isn't taken costs no memory page.
     fn with_room(alloc: Global, bytes: usize) -> Result<Gathering, AllocError>
         ensures { IfOk result (λ g. GathersNothing g) }
     {
         Ok(Gathering {
             places: Vec::with_capacity(alloc, bytes / 5)?,
-            ends: Vec::new(alloc),
+            ends: Vec::with_capacity(alloc, bytes / 30)?,
             unended: None,
             before: Before::Nothing,
             begun: false,
@@ -406,8 +407,25 @@ fn line_start(ends: &[u32], line: usize) -> usize
     }
 }
 
+// The first so many of some places.
+fn front(places: &[Place], count: usize) -> &[Place]
+    ensures { result.now ≡ take count places.now }
+{
+    let (front, _) = places.split_at(count.min(places.len()));
+    front
+}
+
+// Those behind the first so many of some places.
+fn behind(places: &[Place], count: usize) -> &[Place]
+    ensures { result.now ≡ drop count places.now }
+{
+    let (_, behind) = places.split_at(count.min(places.len()));
+    behind
+}
+
 // The token at a place of a text.
-fn token_of(text: &[u8], place: Place) -> TokenRef<'_>
+#[inline(always)]
+pub fn token_of(text: &[u8], place: Place) -> TokenRef<'_>
     requires { (place_told place).start + (place_told place).length ≤ length text.now }
     ensures { token_seen result ≡ token_of_place text.now place }
 {
@@ -497,6 +515,16 @@ impl Lexed {
             return None;
         }
         Some(token_of(&self.text, self.places[number]))
+    }
+
+    // The tokens from one number up to another, as `token_at` counts them, before the first of them is taken.
+    #[inline(always)]
+    pub(crate) fn excerpt(&self, from: usize, end: usize) -> Excerpt<'_>
+        ensures { result ≡ record { taken = []; rest = take (end - from) (drop from (all_tokens self.now)) } }
+    {
+        let all = line_start(&self.ends, self.ends.len());
+        let places = behind(front(&self.places, all), from);
+        Excerpt::over(&self.text, front(places, end.saturating_sub(from)))
     }
 
     /// How many bytes of the text lie from the start of one token to that of the last before another, as `token_at` counts them: what

@@ -4,6 +4,7 @@
 mod class;
 mod comment;
 mod due;
+mod excerpt;
 mod law;
 mod lexer;
 mod marks;
@@ -21,6 +22,7 @@ mod tokens;
 mod unpaired;
 
 pub use base_types::{Bytes, List};
+pub use excerpt::Excerpt;
 pub use law::{one_reading, tokens_are_slices};
 pub use lexer::{Lexed, lex, lex_directives};
 pub use plain::{is_plain, is_simple_name};

@@ -1,8 +1,9 @@
 // The tokens of a stretch of a lexed file, one after another.
-ghost use Rattle.std.specs.Prelude.{◌≡◌, ◌-◌, take, drop, IfOk};
+ghost use Rattle.std.specs.Prelude.{◌≡◌, ◌-◌, [], take, drop, IfOk};
 ghost use Rattle.pp_tokens.specs.Lines.{all_tokens};
 ghost use Rattle.pp_tokens.specs.Tokens.{rest_of};
 
+use crate::excerpt::Excerpt;
 use crate::lexer::Lexed;
 use crate::token::{Token, TokenRef};
 use base_types::List;
@@ -30,7 +31,31 @@ impl Lexed {
     }
 }
 
-impl Tokens<'_> {
+impl<'a> Tokens<'a> {
+    /// These tokens, before the first of them is taken to be copied.
+    pub fn excerpt(self) -> Excerpt<'a>
+        ensures { result ≡ record { taken = []; rest = rest_of self.entry } }
+    {
+        self.lexed.excerpt(self.at, self.end)
+    }
+
+    /// The first so many tokens, or all where there are fewer, and those behind them.
+    pub fn split_at(self, count: usize) -> (Tokens<'a>, Tokens<'a>)
+        ensures front { rest_of result.0 ≡ take count (rest_of self.entry) }
+        ensures behind { rest_of result.1 ≡ drop count (rest_of self.entry) }
+    {
+        let middle = if count < self.end.saturating_sub(self.at) {
+            self.at + count
+        } else {
+            self.end
+        };
+        let mut front = self;
+        front.end = middle;
+        let mut behind = self;
+        behind.at = middle;
+        (front, behind)
+    }
+
     /// A copy of the tokens that are still to come, each with its own spelling. The only error is want of memory.
     pub fn to_list(self, alloc: Global) -> Result<List<Token>, AllocError>
         ensures { IfOk result (λ ts. ts ≡ rest_of self.entry) }

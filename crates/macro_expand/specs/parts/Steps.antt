@@ -20,6 +20,19 @@ StaysAsItIs table mode t rest =
 abbrev pub TakesUntouched : Table → Mode → Token → List Kept → List Kept → Type 0
 TakesUntouched table mode t old new = (m : Kept) × ((kept_token m ≡ t) × ((old ≡ m ∷ new) × StaysAsItIs table mode m new))
 
+-- tokens are taken so one after another, until these are pending
+abbrev pub TakesEach : Table → Mode → List Token → List Kept → List Kept → Type 0
+TakesEach table mode [] old new = old ≡ new
+TakesEach table mode (t ∷ ts) old new = (mid : List Kept) × (TakesUntouched table mode t old mid × TakesEach table mode ts mid new)
+
+-- a token is put out as it is, whatever its hide set and whatever stands behind it
+abbrev pub IsUntouched : Table → Mode → Token → Type 0
+IsUntouched table mode t = (m : Kept) (rest : List Kept) → m.token ≡ t → StaysAsItIs table mode m rest
+
+abbrev pub EachUntouched : Table → Mode → List Token → Type 0
+EachUntouched table mode [] = Unit {0}
+EachUntouched table mode (t ∷ ts) = IsUntouched table mode t × EachUntouched table mode ts
+
 -- these pending tokens become those that were put out, before what the later ones become
 abbrev pub Becomes : Table → TablePlace → Mode → ℕ → List Kept → List Kept → TablePlace → ℕ → List Kept → Type 0
 Becomes table s mode units pending out u left later =
