@@ -9,7 +9,7 @@ use command_line::{FileBody, read_seen};
 use io_edges::HostFault;
 use std::fs::{self, Files};
 use std::io::{self, ErrorKind};
-use tree_model::{CanonPath, Node, Tree, TreeError, Unnamed};
+use tree_model::{CanonPath, Node, Reached, Tree, TreeError, Unnamed};
 
 /// The host's files, from the root of their tree. It doesn't tell them.
 ///
@@ -73,6 +73,12 @@ impl<R: Files + AllocGlobal> Tree for Folder<R> {
             }
         }
     }
+
+    fn recall(&self, _text: &Bytes) -> Option<&Reached> {
+        None
+    }
+
+    fn remember(&mut self, _text: Bytes, _it: Reached) {}
 
     fn read(&mut self, path: &CanonPath) -> Result<Option<Bytes>, TreeError> {
         self.reads = self.reads.saturating_add(1);

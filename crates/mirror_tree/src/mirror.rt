@@ -3,25 +3,28 @@ ghost use Rattle.std.specs.Prelude.{◌≡◌, None, Some, IfOk, IfErr, IfSome, 
 ghost use Rattle.std.proofs.lemmas.Option.{none-some};
 ghost use Rattle.base_types.specs.Causes.{HasCause, raised};
 ghost use Rattle.tree_model.specs.Entries.{bodies_fit, links_fit, makes_tree, mirror_error};
+ghost use Rattle.tree_model.specs.parts.Remembered.{walks_known, AreTrueWalks, AreTrueWalks-prop};
 ghost use Rattle.tree_model.specs.Trees.{tree_of, node_at, body_at, BodiesAreSmall, BodiesAreSmall-prop, IsBody, IsLinkAt, IsNode, IsTooLarge, IsTree, IsTree-prop, told_whole};
 
 use base_types::{Bytes, List};
 use std::alloc::Global;
 use tree_model::{
-    CanonPath, Entry, MirrorError, Node, Tree, TreeError, Unnamed, copied, entry_at,
-    fitting_bodies_are_small, judge_entries, lists_make_trees,
+    CanonPath, Entry, MirrorError, Node, Reached, Tree, TreeError, Unnamed, Walks, copied,
+    entry_at, fitting_bodies_are_small, judge_entries, lists_make_trees,
 };
 
 /// The tree of a request's entries and the root. It tells its content, has no faults, and keeps the list that it is
-/// given. Lookups are binary searches by the bytes of the path's spelling.
+/// given. Lookups are binary searches by the bytes of the path's spelling, and what walks reached is remembered.
 #[derive(Drop)]
 pub struct Mirror {
     alloc: Global,
     entries: List<(CanonPath, Entry)>,
     reads: u64,
+    walks: Walks,
     ghost made: { IsTrue (makes_tree entries) },
     ghost is_tree: { IsTree (tree_of entries) } by { IsTree-prop (tree_of entries) },
     ghost small: { BodiesAreSmall (tree_of entries) } by { BodiesAreSmall-prop (tree_of entries) },
+    ghost true_walks: { AreTrueWalks (Some (tree_of entries)) (walks_known walks) } by { AreTrueWalks-prop (Some (tree_of entries)) (walks_known walks) },
 }
 
 impl Mirror {
@@ -47,6 +50,7 @@ impl Mirror {
             alloc,
             entries,
             reads: 0,
+            walks: Walks::new(alloc),
         })
     }
 }
@@ -79,6 +83,14 @@ impl Tree for Mirror {
             None => Ok(None),
             Some(entry) => Ok(Some(entry.shown(self.alloc)?)),
         }
+    }
+
+    fn recall(&self, text: &Bytes) -> Option<&Reached> {
+        self.walks.get(text)
+    }
+
+    fn remember(&mut self, text: Bytes, it: Reached) {
+        self.walks.put(text, it);
     }
 
     fn read(&mut self, path: &CanonPath) -> Result<Option<Bytes>, TreeError>

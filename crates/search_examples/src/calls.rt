@@ -12,22 +12,22 @@ fn check_failing(rt: &impl Abort, alloc: Global, fails: u64, row: Row<'_>) {
 }
 
 const ROWS: &[(u64, Row<'static>)] = &[
-    // Faults are handed on. Beside the source one call finds that `b.h` isn't there. In the chain each directory takes a
-    // call for itself and one for the name.
+    // Faults are handed on. Beside the source one call finds that `b.h` isn't there. In the chain each directory takes a call for each
+    // name on the way to it, and one for the header's.
     (1, (Quote, Some(Primary), "b.h", "Fault")),
-    (3, (Quote, Some(Primary), "b.h", "Fault")),
-    (5, (Quote, Some(Primary), "b.h", "Fault")),
-    (7, (Quote, Some(Primary), "b.h", "Fault")),
+    (4, (Quote, Some(Primary), "b.h", "Fault")),
+    (6, (Quote, Some(Primary), "b.h", "Fault")),
+    (9, (Quote, Some(Primary), "b.h", "Fault")),
     (
-        8,
+        10,
         (Quote, Some(Primary), "b.h", "Chain(2) /w/b/b.h /w/b/b.h"),
     ),
     // A search stops at the first file.
     (1, (Quote, Some(Primary), "x.h", "Fault")),
     (2, (Quote, Some(Primary), "x.h", "Here /w/s/x.h /w/s/x.h")),
-    (2, (Angle, Some(Primary), "x.h", "Fault")),
+    (3, (Angle, Some(Primary), "x.h", "Fault")),
     (
-        3,
+        4,
         (Angle, Some(Primary), "x.h", "Chain(2) /w/b/x.h /w/b/x.h"),
     ),
 ];

@@ -12,7 +12,7 @@
 --     CutLemmas      components of texts that are cut at a `/`
 --     RememberedLemmas answers that are remembered, after one more
 --     StepLemmas     each step of a program goes on as the walk does
---     RealFronts     walks from the root along directories, and what a glance tells of them
+--     Below          what is located below a text whose walk from the root reached a directory, or none
 --     ShownLemmas    what is shown of a list, one member more
 --     WalkExamples   worked walks
 pub mod PathLemmas
@@ -28,6 +28,6 @@ pub mod WalkLeads
 pub mod CutLemmas
 pub mod StepLemmas
 pub mod RememberedLemmas
-pub mod RealFronts
+pub mod Below
 pub mod ShownLemmas
 mod WalkExamples

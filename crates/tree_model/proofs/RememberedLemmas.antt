@@ -1,39 +1,55 @@
 -- Answers that are remembered, after one more.
 use Rattle.std.proofs.Common.{◌≡◌, ◌⊎◌, inl, inr, sym, ◌∙◌, ap, subst, cond, Bool, true, false, Option, Some, Result, Ok, Err, OnOk, OnErr, IfSome, refl}
-use Rattle.std.specs.HashMap.{HashMap, Updates, IsUnchanged}
+use Rattle.std.specs.HashMap.{HashMap, Updates, IsUnchanged, get}
+use Rattle.std.specs.Bool.{Decides}
 use Rattle.std.specs.Map.{lookup}
 use Rattle.std.specs.Option.{unwrap_or}
 use Rattle.std.proofs.lemmas.Bool.{false_from_ne_true}
-use Rattle.tree_model.specs.Paths.{Path, is_same_path, is_same_path-Decides}
+use Rattle.tree_model.specs.Paths.{Text, Path}
+use Rattle.tree_model.specs.Reached.{reached}
+use Rattle.tree_model.specs.declared.reached.Reached.{Reached}
 use Rattle.tree_model.specs.Trees.{FileTree, node_at, IsNode}
-use Rattle.tree_model.specs.parts.Remembered.{RememberedNodes, known_in, IsTrueOf}
+use Rattle.tree_model.specs.parts.Remembered.{RememberedNodes, IsTrueOf, AreTrueWalks}
 use Rattle.tree_model.specs.declared.entry.Node.{Node}
 use Rattle.tree_model.proofs.StepLemmas.{node_told}
 
--- what is remembered now was remembered before, or is the answer at the path
-abbrev pub OneMore : RememberedNodes → RememberedNodes → Path → Option Node → Type 0
-OneMore before now path got = (other : Path) (answer : Option Node) → now other ≡ Some answer → (before other ≡ Some answer) ⊎ ((other ≡ path) × (answer ≡ got))
+-- what is remembered now was remembered before, or is what was put there
+abbrev pub OneMore : {K V : Type 0} → (K → Option V) → (K → Option V) → K → V → Type 0
+OneMore {K} {V} before now at got = (other : K) (answer : V) → now other ≡ Some answer → (before other ≡ Some answer) ⊎ ((other ≡ at) × (answer ≡ got))
 
--- an answer that is put into a map changes no other
-pub others_stay : {S V E : Type 0} (before now : HashMap Path (Option Node) S) (path key : Path) (copy : Option Node) (result : Result V E) → key ≡ path → OnOk result (Updates is_same_path before now key (Some copy)) → OnErr result (IsUnchanged before now) → (other : Path) → (other ≡ path → ⊥) → known_in now other ≡ known_in before other
-others_stay before now path key copy (Ok v) here put same other apart =
-    put.2 other (false_from_ne_true _ (λ yes. apart (sym ((is_same_path-Decides key other).0 yes) ∙ here)))
-others_stay before now path key copy (Err e) here put same other apart = ap (lookup (is_same_path other)) same
+-- one that is put into a map, whose keys are told apart by a test
+module _ {K V : Type 0} (test : K → K → Bool) (decides : (one other : K) → Decides (test one other) (one ≡ other)) where
+  -- changes no other
+  pub others_stay : {S W E : Type 0} (before now : HashMap K V S) (at key : K) (copy : V) (result : Result W E) → key ≡ at → OnOk result (Updates test before now key (Some copy)) → OnErr result (IsUnchanged before now) → (other : K) → (other ≡ at → ⊥) → get test now other ≡ get test before other
+  others_stay before now at key copy (Ok v) here put same other apart =
+      put.2 other (false_from_ne_true _ (λ yes. apart (sym ((decides key other).0 yes) ∙ here)))
+  others_stay before now at key copy (Err e) here put same other apart = ap (lookup (test other)) same
 
-found_or_put : (key other : Path) (copy answer : Option Node) (left : Option (Option Node)) (same : Bool) → is_same_path key other ≡ same → cond same (Some copy) left ≡ Some answer → (left ≡ Some answer) ⊎ ((other ≡ key) × (answer ≡ copy))
-found_or_put key other copy answer left true is found = inr (sym ((is_same_path-Decides key other).0 is), ap (λ a. unwrap_or a answer) (sym found))
-found_or_put key other copy answer left false is found = inl found
+  found_or_put : (key other : K) (copy answer : V) (left : Option V) (same : Bool) → test key other ≡ same → cond same (Some copy) left ≡ Some answer → (left ≡ Some answer) ⊎ ((other ≡ key) × (answer ≡ copy))
+  found_or_put key other copy answer left true is found = inr (sym ((decides key other).0 is), ap (λ a. unwrap_or a answer) (sym found))
+  found_or_put key other copy answer left false is found = inl found
 
-along : (path key other : Path) (got copy answer : Option Node) (left : Option (Option Node)) → key ≡ path → copy ≡ got → (left ≡ Some answer) ⊎ ((other ≡ key) × (answer ≡ copy)) → (left ≡ Some answer) ⊎ ((other ≡ path) × (answer ≡ got))
-along path key other got copy answer left here is (inl old) = inl old
-along path key other got copy answer left here is (inr (at, new)) = inr (at ∙ here, new ∙ is)
+  along : (at key other : K) (got copy answer : V) (left : Option V) → key ≡ at → copy ≡ got → (left ≡ Some answer) ⊎ ((other ≡ key) × (answer ≡ copy)) → (left ≡ Some answer) ⊎ ((other ≡ at) × (answer ≡ got))
+  along at key other got copy answer left here is (inl old) = inl old
+  along at key other got copy answer left here is (inr (there, new)) = inr (there ∙ here, new ∙ is)
 
-pub one_more : {S V E : Type 0} (before now : HashMap Path (Option Node) S) (path key : Path) (got copy : Option Node) (result : Result V E) → key ≡ path → copy ≡ got → OnOk result (Updates is_same_path before now key (Some copy)) → OnErr result (IsUnchanged before now) → OneMore (known_in before) (known_in now) path got
-one_more before now path key got copy (Ok v) here is put same other answer found =
-    along path key other got copy answer (known_in before other) here is
-    (found_or_put key other copy answer (known_in before other) (is_same_path key other) refl (sym (put.0 other) ∙ found))
-one_more before now path key got copy (Err e) here is put same other answer found =
-    inl (sym (ap (lookup (is_same_path other)) same) ∙ found)
+  pub one_more : {S W E : Type 0} (before now : HashMap K V S) (at key : K) (got copy : V) (result : Result W E) → key ≡ at → copy ≡ got → OnOk result (Updates test before now key (Some copy)) → OnErr result (IsUnchanged before now) → OneMore (get test before) (get test now) at got
+  one_more before now at key got copy (Ok v) here is put same other answer found =
+      along at key other got copy answer (get test before other) here is
+      (found_or_put key other copy answer (get test before other) (test key other) refl (sym (put.0 other) ∙ found))
+  one_more before now at key got copy (Err e) here is put same other answer found =
+      inl (sym (ap (lookup (test other)) same) ∙ found)
+
+-- with one true answer more of a walk, all are true
+pub walks_still_true : (told : Option FileTree) (before now : Text → Option Reached) (text : Text) (it : Reached) → OneMore before now text it → AreTrueWalks told before
+    → IfSome told (λ tree. it ≡ reached tree text) → AreTrueWalks told now
+walks_still_true told before now text it more true_of right =
+    record { same = λ other answer found. told_so other answer (more other answer found) }
+  where
+    told_so : (other : Text) (answer : Reached) → (before other ≡ Some answer) ⊎ ((other ≡ text) × (answer ≡ it)) → (tree : FileTree) → told ≡ Some tree → answer ≡ reached tree other
+    told_so other answer (inl old) tree is = true_of.same other answer old tree is
+    told_so other answer (inr (at, new)) tree is =
+        new ∙ subst (λ (o : Option FileTree). IfSome o (λ tree. it ≡ reached tree text)) is right ∙ ap (reached tree) (sym at)
 
 -- with one true answer more, all are true
 pub still_true : (told told' : Option FileTree) (before now : RememberedNodes) (path : Path) (got : Option Node) → OneMore before now path got → IsTrueOf told before → told' ≡ told → IsNode got → IfSome told (λ tree. got ≡ node_at tree path) → IsTrueOf told' now

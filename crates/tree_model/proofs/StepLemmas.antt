@@ -7,14 +7,13 @@ use Rattle.std.proofs.lemmas.List.{append-nil}
 use Rattle.base_types.specs.Ascii.{slash}
 use Rattle.tree_model.specs.Paths.{Text, Path, parent, child_of, is_canonical}
 use Rattle.tree_model.specs.Trees.{FileTree, entry_at, node_at, node_of_entry, IsTree}
-use Rattle.tree_model.specs.Walk.{Look, components, Component, Stay, Up, Down, component_of, start, End, Nowhere, AtDir, AtFile, Walked, through, walk_ended, file_end, entered, taken, walk_with, walk, but_last, last_of, first_nodes, located_at, located_in, last_looked_up, can_locate, located_by}
-use Rattle.tree_model.specs.parts.Glances.{Tells, located_behind}
+use Rattle.tree_model.specs.Walk.{Look, components, Component, Stay, Up, Down, component_of, start, root_if, is_absolute, End, Nowhere, AtDir, AtFile, Walked, through, walk_ended, file_end, entered, taken, walk_with, walk, but_last, last_of, first_nodes, located_at, located_in, last_looked_up, can_locate, located_by}
+use Rattle.tree_model.specs.parts.Glances.{located_below}
 use Rattle.tree_model.specs.parts.Steps.{GoesOn, followed, onward, end_of}
 use Rattle.tree_model.specs.declared.entry.Entry.{Entry}
 use Rattle.tree_model.specs.declared.entry.Entry.TheVariants.{Dir, File, Link}
 use Rattle.tree_model.specs.declared.entry.Node.{Node}
 use Rattle.tree_model.specs.declared.entry.Node.TheVariants as node
-use Rattle.tree_model.specs.declared.glance.Glance.{Glance}
 use Rattle.tree_model.specs.declared.walk.Located.{Located}
 use Rattle.tree_model.specs.declared.walk.Step.{Step}
 use Rattle.tree_model.specs.declared.walk.Step.TheVariants as step
@@ -343,15 +342,20 @@ begun look dir text list nodes noted begin left n b h =
     subst (λ (at : Path). GoesOn (first_nodes dir text) (walk look 40 at list) noted left) b
     (subst (λ nodes. GoesOn nodes (walk look 40 begin list) noted left) n h)
 
--- what is told of the last component behind the walk before it, is told of a text that isn't refused
-pub told_whole : (look : Look) (dir : Path) (text : Text) (list : List Text) (name : Text) (told other : Glance) → length text ≤ 4096 → (length name == 0) ≡ false
-    → list ≡ but_last (components text) → name ≡ last_of (components text) → told ≡ other
-    → Tells dir told (located_behind look dir text list name) → Tells dir other (located_by look dir text)
+from_root : (dir : Path) (text : Text) → is_absolute text ≡ true → start dir text ≡ []
+from_root dir [] e = absurd (cc)
+from_root dir (b ∷ text) e = ap (λ t. cond t [] dir) e
+
+-- a text that begins with `/` and isn't refused locates what its last component does, behind the walk of the others from the root
+pub below_whole : (look : Look) (dir : Path) (text : Text) (list : List Text) (name : Text) → length text ≤ 4096 → (length name == 0) ≡ false
+    → list ≡ but_last (components text) → name ≡ last_of (components text) → is_absolute text ≡ true
+    → located_below look (dir ∷ [] ∷ []) list name ≡ located_by look dir text
 unfolding located_by
-told_whole look dir text list name told other short some list_is name_is is h =
-    let w : Walked = walk look 40 (start dir text) (but_last (components text)) in
+below_whole look dir text list name short some list_is name_is root =
+    let front = but_last (components text) in
     let last : length (last_of (components text)) ≡ 0 → ⊥ = λ none. eqb-false (length name) 0 some (ap length name_is ∙ none) in
-    let same : located_behind look dir text list name ≡ located_by look dir text =
-    ap (λ list. located_behind look dir text list name) list_is ∙ ap (located_behind look dir text (but_last (components text))) name_is
-    ∙ ap (λ b. cond b (last_looked_up look (last_of (components text)) (first_nodes dir text ++ w.nodes) w.end) None) (sym (passes text short last)) in
-    subst (Tells dir other) same (subst (λ told. Tells dir told (located_behind look dir text list name)) is h)
+    let form : Path → Bool → Option Located =
+    λ at first. last_looked_up look (last_of (components text)) ((dir ∷ root_if first) ++ (walk look 40 at front).nodes) (walk look 40 at front).end in
+    ap (λ list. located_below look (dir ∷ [] ∷ []) list name) list_is ∙ ap (located_below look (dir ∷ [] ∷ []) front) name_is
+    ∙ ap (form []) (sym root) ∙ ap (λ at. form at (is_absolute text)) (sym (from_root dir text root))
+    ∙ ap (λ b. cond b (form (start dir text) (is_absolute text)) None) (sym (passes text short last))

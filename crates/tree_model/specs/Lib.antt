@@ -15,5 +15,6 @@ pub mod Bodies
 pub mod Shown
 pub mod Laws
 pub mod Walk
+pub mod Reached
 pub mod Frame
 pub mod parts

@@ -3,11 +3,12 @@ ghost use Rattle.std.specs.Prelude.{◌≡◌, Option, None, Some, IfOk, IfSome,
 ghost use Rattle.std.specs.Option.{ForSome};
 ghost use Rattle.base_types.specs.Causes.{HasCause, raised};
 ghost use Rattle.tree_model.specs.Paths.{Path};
-ghost use Rattle.tree_model.specs.parts.Remembered.{RememberedNodes, known_in, IsTrueOf, IsTrueOf-prop};
+ghost use Rattle.tree_model.specs.parts.Remembered.{RememberedNodes, known_in, IsTrueOf, IsTrueOf-prop, walks_known, AreTrueWalks, AreTrueWalks-prop};
+ghost use Rattle.tree_model.specs.Reached.{reached};
 ghost use Rattle.tree_model.specs.Trees.{FileTree, node_at, body_at, IsNode, IsBody, IsTooLarge};
 ghost use Rattle.tree_model.specs.declared.entry.Node.{Node};
 
-use crate::{CanonPath, Node, Tree, TreeError};
+use crate::{CanonPath, Node, Reached, Tree, TreeError, Walks};
 use base_types::Bytes;
 use std::alloc::Global;
 use std::collections::HashMap;
@@ -21,13 +22,15 @@ pub trait Remembers<T> {
     ghost known: { Self → RememberedNodes };
 }
 
-/// A tree that remembers the nodes that its inner tree answered. It asks the inner tree for a path's node only where
+/// A tree that remembers the nodes that its inner tree answered, and what the walks of texts reached. It asks the inner tree for a path's node only where
 /// it has no answer for it yet; a refusal isn't kept. Each `read` goes to the inner tree.
 #[derive(Drop)]
 pub struct Cached<T: Tree> {
     alloc: Global,
     tree: T,
     known: HashMap<CanonPath, Option<Node>>,
+    walks: Walks,
+    ghost true_walks: { AreTrueWalks (T.told tree) (walks_known walks) } by { AreTrueWalks-prop (T.told tree) (walks_known walks) },
     ghost true_of: { IsTrueOf (T.told tree) (known_in known) } by { IsTrueOf-prop (T.told tree) (known_in known) },
 }
 
@@ -44,6 +47,7 @@ impl<T: Tree> Cached<T> {
             alloc,
             tree,
             known: HashMap::new(alloc),
+            walks: Walks::new(alloc),
         }
     }
 
@@ -135,6 +139,21 @@ impl<T: Tree> Tree for Cached<T> {
         let got = self.tree.node(path)?;
         remember(self.alloc, &mut self.known, path, &got)?;
         Ok(got)
+    }
+
+    fn recall(&self, text: &Bytes) -> Option<&Reached> {
+        self.walks.get(text)
+    }
+
+    fn remember(&mut self, text: Bytes, it: Reached)
+        requires { IfSome (⟦<Cached<T> as Tree>⟧.told self.old) (λ tree. it ≡ reached tree text) }
+        ensures same { ⟦<Cached<T> as Tree>⟧.told self.new ≡ ⟦<Cached<T> as Tree>⟧.told self.old }
+        ensures no_fault { ⟦<Cached<T> as Tree>⟧.faults self.new ≡ ⟦<Cached<T> as Tree>⟧.faults self.old }
+        ensures no_read { ⟦<Cached<T> as Tree>⟧.reads self.new ≡ ⟦<Cached<T> as Tree>⟧.reads self.old }
+        ensures inner { ⟦<Cached<T> as Remembers<T>>⟧.inner self.new ≡ ⟦<Cached<T> as Remembers<T>>⟧.inner self.old }
+        ensures known { ⟦<Cached<T> as Remembers<T>>⟧.known self.new ≡ ⟦<Cached<T> as Remembers<T>>⟧.known self.old }
+    {
+        self.walks.put(text, it);
     }
 
     fn read(&mut self, path: &CanonPath) -> Result<Option<Bytes>, TreeError>

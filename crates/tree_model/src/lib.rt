@@ -11,6 +11,7 @@ mod laws;
 mod mem_tree;
 mod order;
 mod path;
+mod reached;
 mod showing;
 mod tree;
 mod walk;
@@ -26,6 +27,7 @@ pub use laws::{
 pub use mem_tree::{MemTree, MirrorError, entry_at};
 pub use order::{entry_spelled, judge_entries, judge_path};
 pub use path::CanonPath;
+pub use reached::{Reached, Walks};
 pub use showing::shown;
 pub use tree::{Frozen, Tree, TreeError, Unnamed};
 pub use walk::{Located, locate};

@@ -5,12 +5,14 @@ ghost use Rattle.std.proofs.Common.{ap};
 ghost use Rattle.base_types.specs.Calls.{FailsAsListed};
 ghost use Rattle.base_types.specs.Causes.{HasCause, raised};
 ghost use Rattle.tree_model.specs.Entries.{links_fit, makes_tree, mirror_error};
+ghost use Rattle.tree_model.specs.Reached.{reached};
+ghost use Rattle.tree_model.specs.parts.Remembered.{walks_known, AreTrueWalks, AreTrueWalks-prop};
 ghost use Rattle.tree_model.specs.Trees as trees;
 ghost use Rattle.tree_model.specs.Trees.{tree_of, node_at, body_at, IsNode, IsBody, IsTooLarge, IsTree, IsTree-prop, NamesOnly, NamesOnly-prop, told_whole};
 ghost use Rattle.tree_model.specs.declared.entry.Entry.TheVariants.{Dir};
 
 use crate::order::{entry_spelled, judge_entries};
-use crate::{CanonPath, Entry, Frozen, Node, Tree, TreeError, lists_make_trees};
+use crate::{CanonPath, Entry, Frozen, Node, Reached, Tree, TreeError, Walks, lists_make_trees};
 use base_types::{Bytes, Calls, Counted};
 use std::alloc::Global;
 use std::marker::PhantomData;
@@ -23,16 +25,19 @@ pub enum MirrorError {
     Parent,
 }
 
-/// A tree in memory. The calls of `Tree` are counted from 1, and those whose number is in `fails` answer a fault.
+/// A tree in memory. The calls of `node` and `read` are counted from 1, and those whose number is in `fails` answer a fault. What walks
+/// reached is remembered.
 #[derive(Drop)]
 pub struct MemTree<F: Frozen> {
     alloc: Global,
     entries: Vec<(CanonPath, Entry)>,
     calls: Calls,
     reads: u64,
+    walks: Walks,
     of: PhantomData<F>,
     ghost made: { IsTrue (makes_tree entries.items) },
     ghost is_tree: { IsTree (tree_of entries.items) } by { IsTree-prop (tree_of entries.items) },
+    ghost true_walks: { AreTrueWalks (Some (tree_of entries.items)) (walks_known walks) } by { AreTrueWalks-prop (Some (tree_of entries.items)) (walks_known walks) },
     ghost names_this: { NamesOnly F.named (tree_of entries.items) } by { NamesOnly-prop F.named (tree_of entries.items) },
 }
 
@@ -63,6 +68,7 @@ impl<F: Frozen> MemTree<F> {
             entries,
             calls: Calls::new(fails),
             reads: 0,
+            walks: Walks::new(alloc),
             of: PhantomData,
         })
     }
@@ -164,6 +170,21 @@ impl<F: Frozen> Tree for MemTree<F> {
             return Err(TreeError::Fault);
         }
         node_among(self.alloc, &self.entries, path)
+    }
+
+    fn recall(&self, text: &Bytes) -> Option<&Reached> {
+        self.walks.get(text)
+    }
+
+    fn remember(&mut self, text: Bytes, it: Reached)
+        requires { IfSome (⟦<MemTree<F> as Tree>⟧.told self.old) (λ tree. it ≡ reached tree text) }
+        ensures same { ⟦<MemTree<F> as Tree>⟧.told self.new ≡ ⟦<MemTree<F> as Tree>⟧.told self.old }
+        ensures no_fault { ⟦<MemTree<F> as Tree>⟧.faults self.new ≡ ⟦<MemTree<F> as Tree>⟧.faults self.old }
+        ensures no_read { ⟦<MemTree<F> as Tree>⟧.reads self.new ≡ ⟦<MemTree<F> as Tree>⟧.reads self.old }
+        ensures uncounted { ⟦<MemTree<F> as Counted>⟧.calls self.new ≡ ⟦<MemTree<F> as Counted>⟧.calls self.old }
+        ensures same_list { ⟦<MemTree<F> as Counted>⟧.fails self.new ≡ ⟦<MemTree<F> as Counted>⟧.fails self.old }
+    {
+        self.walks.put(text, it);
     }
 
     fn read(&mut self, path: &CanonPath) -> Result<Option<Bytes>, TreeError>

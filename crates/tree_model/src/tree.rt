@@ -3,7 +3,7 @@ ghost use Rattle.std.specs.Prelude.{◌≡◌, ◌≤◌, ℕ, length, IfOk, IfS
 ghost use Rattle.base_types.specs.Causes.{HasCause, raised};
 ghost use Rattle.tree_model.specs.declared.tree.TreeError.TheVariants.{Memory};
 
-use crate::{CanonPath, Node};
+use crate::{CanonPath, Node, Reached};
 use base_types::Bytes;
 use std::alloc::{AllocError, AllocFailed};
 use std::marker::Brand;
@@ -56,6 +56,7 @@ impl Frozen for Brand {
 pub trait Tree {
     type Of: Frozen;
 
+    ghost use Rattle.tree_model.specs.Reached.{reached};
     ghost use Rattle.tree_model.specs.Trees.{FileTree, IsTree, node_at, body_at, IsNode, IsBody, IsTooLarge};
 
     /// The tree that the object tells, or None where it doesn't tell.
@@ -84,6 +85,17 @@ pub trait Tree {
         ensures large { IfSome (told self.old) (λ tree. IsErrOf result TreeError.Large → IsTooLarge tree path.now) }
         ensures cause { HasCause TreeError.Fault (faults self.old) (faults self.new) result }
         ensures one_read { reads self.new ≡ raised (reads self.old) };
+
+    /// What is remembered of the walk of a text from the root; None where nothing is.
+    fn recall(&self, text: &Bytes) -> Option<&Reached>
+        ensures { IfSome (told self.now) (λ tree. IfSome result (λ it. it.now ≡ reached tree text.now)) };
+
+    /// Remembers what the walk of a text from the root reached, if the object remembers walks and there is memory for it.
+    fn remember(&mut self, text: Bytes, it: Reached)
+        requires { IfSome (told self.old) (λ tree. it ≡ reached tree text) }
+        ensures same { told self.new ≡ told self.old }
+        ensures no_fault { faults self.new ≡ faults self.old }
+        ensures no_read { reads self.new ≡ reads self.old };
 
     /// Where `Of` names a tree, the object tells that tree.
     ghost tells: { (object : Self) (tree : FileTree) → Self.Of.named ≡ Some tree → told object ≡ Some tree };

@@ -5,19 +5,22 @@
 // recursion. `locate` walks what stands before the last `/`, and then the last component: the directory in which that is looked up, with its
 // name, is the file's place. A walk takes one look at the tree and one copy of a path for each component.
 //
-// Before it walks, `locate` glances at the text (glance.rt).
+// A text that begins with `/` is walked up to its last `/` once, where the tree remembers what that reached, and then glanced at (glance.rt).
 ghost use Rattle.std.specs.Prelude.{◌≡◌, ◌≤◌, ℕ, [], ◌∷◌, ◌++◌, Some, IfOk, IfSome, OnOk, IsErrOf, ◌==◌};
 ghost use Rattle.std.specs.List.{position};
 ghost use Rattle.std.specs.Option.{option_map, ForSome};
 ghost use Rattle.base_types.specs.Causes.{HasCause};
 ghost use Rattle.base_types.specs.Ascii.{slash};
+ghost use Rattle.base_types.specs.Limits.{link_limit};
 ghost use Rattle.tree_model.specs.Trees.{FileTree, entry_at};
 ghost use Rattle.tree_model.specs.Walk as walks;
 ghost use Rattle.tree_model.specs.Walk.{Look, components, but_last, last_of, component_of, entered, located_in, walk, walk_ended, is_absolute};
+ghost use Rattle.tree_model.specs.Reached.{reached_at};
+ghost use Rattle.tree_model.specs.parts.Glances.{located_below};
 ghost use Rattle.tree_model.specs.parts.Steps.{GoesOn, components_left, asked, onward, followed, end_of};
 
-use crate::glance::{Glance, glance_at, plain_file};
-use crate::{CanonPath, Node, Tree, TreeError};
+use crate::glance::{Glanced, glance_at};
+use crate::{CanonPath, Node, Reached, Tree, TreeError};
 use base_types::limits::{LINK_LIMIT, PATH_LIMIT};
 use base_types::{Bytes, List};
 use std::alloc::{AllocError, Global};
@@ -41,7 +44,8 @@ impl Located {
     {
         let place = self.place.copy(alloc)?;
         let real = self.real.copy(alloc)?;
-        let walked = copies(alloc, self.walked.as_slice())?;
+        let mut walked = List::new(alloc);
+        push_copies(alloc, &mut walked, self.walked.as_slice())?;
         Ok(Located {
             place,
             real,
@@ -50,15 +54,18 @@ impl Located {
     }
 }
 
-// Copies of paths.
-fn copies(alloc: Global, paths: &[CanonPath]) -> Result<List<CanonPath>, AllocError>
-    ensures { IfOk result (λ copies. copies ≡ paths.now) }
+// Copies of paths behind others.
+pub(crate) fn push_copies(
+    alloc: Global,
+    paths: &mut List<CanonPath>,
+    more: &[CanonPath],
+) -> Result<(), AllocError>
+    ensures { OnOk result (paths.new ≡ paths.old ++ more.now) }
 {
-    let mut copies = List::new(alloc);
-    for path in paths {
-        copies.push(path.copy(alloc)?)?;
+    for path in more {
+        paths.push(path.copy(alloc)?)?;
     }
-    Ok(copies)
+    Ok(())
 }
 
 // What a component asks for: to stay, to go up, or to go down to a name.
@@ -350,6 +357,101 @@ fn locate_last<T: Tree>(
     }
 }
 
+// What a walk from the root with these nodes reached.
+fn reached_by(alloc: Global, stop: &Stop, nodes: &[CanonPath]) -> Result<Reached, AllocError>
+    ensures { IfOk result (λ it. it ≡ reached_at nodes.now (end_of stop.now)) }
+{
+    let Stop::Dir(dir, _) = stop else {
+        return Ok(Reached::Nowhere);
+    };
+    let mut walked = List::new(alloc);
+    push_copies(alloc, &mut walked, nodes)?;
+    Ok(Reached::Dir(dir.copy(alloc)?, walked))
+}
+
+// Walks a text from the root, and has the tree remember what that reached.
+fn walk_front<T: Tree>(
+    alloc: Global,
+    tree: &mut T,
+    text: &[u8],
+    nodes: &mut List<CanonPath>,
+) -> Result<Stop, TreeError>
+    requires { nodes.old ≡ [] }
+    ensures same { T.told tree.new ≡ T.told tree.old }
+    ensures stop { IfOk result (λ stop. ForSome (T.told tree.old) (λ told. GoesOn [] (walk (entry_at told) link_limit [] (components text.now)) nodes.new (walk_ended (end_of stop)))) }
+    ensures cause { HasCause TreeError.Fault (T.faults tree.old) (T.faults tree.new) result }
+    ensures never_large { IsErrOf result TreeError.Large → ⊥ }
+    ensures no_read { T.reads tree.new ≡ T.reads tree.old }
+{
+    let root = CanonPath::root_with_room(alloc, text.len())?;
+    let stop = walk_on(alloc, tree, root, LINK_LIMIT, Some(text), nodes)?;
+    let reached = reached_by(alloc, &stop, nodes.as_slice())?;
+    tree.remember(Bytes::copy_of(alloc, text)?, reached);
+    Ok(stop)
+}
+
+// The nodes of a walk from the root, behind the directory that the text was asked from and the root.
+fn nodes_behind(
+    alloc: Global,
+    dir: &CanonPath,
+    nodes: &[CanonPath],
+) -> Result<List<CanonPath>, AllocError>
+    ensures { IfOk result (λ walked. walked ≡ (dir.now ∷ [] ∷ []) ++ nodes.now) }
+{
+    let mut walked = List::new(alloc);
+    walked.push(dir.copy(alloc)?)?;
+    walked.push(CanonPath::root(alloc)?)?;
+    push_copies(alloc, &mut walked, nodes)?;
+    Ok(walked)
+}
+
+// The file of a last component below a text, which is walked from the root.
+fn walk_below<T: Tree>(
+    alloc: Global,
+    tree: &mut T,
+    dir: &CanonPath,
+    text: &[u8],
+    name: &[u8],
+) -> Result<Option<Located>, TreeError>
+    requires { components name.now ≡ name.now ∷ [] }
+    ensures same { T.told tree.new ≡ T.told tree.old }
+    ensures found { IfOk result (λ found. ForSome (T.told tree.old) (λ told. found ≡ located_below (entry_at told) (dir.now ∷ [] ∷ []) (components text.now) name.now)) }
+    ensures cause { HasCause TreeError.Fault (T.faults tree.old) (T.faults tree.new) result }
+    ensures never_large { IsErrOf result TreeError.Large → ⊥ }
+    ensures no_read { T.reads tree.new ≡ T.reads tree.old }
+{
+    let mut nodes = List::new(alloc);
+    match walk_front(alloc, tree, text, &mut nodes)? {
+        Stop::Dir(last, links) => {
+            let walked = nodes_behind(alloc, dir, nodes.as_slice())?;
+            locate_last(alloc, tree, last, links, name, walked)
+        }
+        _ => Ok(None),
+    }
+}
+
+// The file of a last component below a text that begins with `/`.
+fn locate_below<T: Tree>(
+    alloc: Global,
+    tree: &mut T,
+    dir: &CanonPath,
+    front: &[u8],
+    name: &[u8],
+) -> Result<Option<Located>, TreeError>
+    requires { components name.now ≡ name.now ∷ [] }
+    ensures same { T.told tree.new ≡ T.told tree.old }
+    ensures found { IfOk result (λ found. ForSome (T.told tree.old) (λ told. found ≡ located_below (entry_at told) (dir.now ∷ [] ∷ []) (components front.now) name.now)) }
+    ensures cause { HasCause TreeError.Fault (T.faults tree.old) (T.faults tree.new) result }
+    ensures never_large { IsErrOf result TreeError.Large → ⊥ }
+    ensures no_read { T.reads tree.new ≡ T.reads tree.old }
+{
+    match glance_at(alloc, tree, dir, front, name)? {
+        Glanced::Missing => Ok(None),
+        Glanced::File(located) => Ok(Some(located)),
+        Glanced::Unsure => walk_below(alloc, tree, dir, front, name),
+    }
+}
+
 /// The file that a text locates from a directory, or None exactly where it locates none: as POSIX pathname
 /// resolution goes, with at most 40 links, and for texts of at most 4,096 bytes.
 pub fn locate<T: Tree>(
@@ -368,10 +470,10 @@ pub fn locate<T: Tree>(
     if text.len() > PATH_LIMIT || name.is_empty() {
         return Ok(None);
     }
-    match glance_at(alloc, tree, text, head, name)? {
-        Glance::Missing => return Ok(None),
-        Glance::File(path) => return Ok(Some(plain_file(alloc, dir, path)?)),
-        Glance::Unsure => {}
+    if let Some(front) = head {
+        if begins_at_root(text) {
+            return locate_below(alloc, tree, dir, front, name);
+        }
     }
     let mut walked = first_nodes(alloc, dir, text)?;
     let from = begin(alloc, dir, text)?;

@@ -1,11 +1,16 @@
 -- The answers that a tree remembers of another tree within it.
-use Rattle.std.specs.Prelude.{◌≡◌, ◌⊎◌, ℕ, List, Option, None, Some, refl}
+use Rattle.std.specs.Prelude.{◌≡◌, ◌⊎◌, ℕ, nat_eq, List, Option, None, Some, refl}
 use Rattle.std.specs.HashMap.{HashMap, get}
-use Rattle.std.specs.Coded.{Coded, Coded-set, code_by, coded⊎, coded_list, coded_option, coded_ℕ}
+use Rattle.std.specs.Coded.{Coded, Coded-set, code_by, coded⊎, coded×, coded_list, coded_option, coded_ℕ}
 use base.Stored.{coded_unit}
+use lib.Pointwise.{pointwise}
 use Rattle.std.proofs.Common.{inl, inr}
 use Rattle.std.proofs.Props.{props}
-use Rattle.tree_model.specs.Paths.{Path, is_same_path}
+use Rattle.tree_model.specs.Paths.{Text, Path, is_same_path}
+use Rattle.tree_model.specs.Reached.{reached}
+use Rattle.tree_model.specs.declared.reached.Reached.{Reached}
+use Rattle.tree_model.specs.declared.reached.Reached.TheVariants as reach
+use Rattle.tree_model.specs.declared.reached.Walks.{Walks}
 use Rattle.tree_model.specs.Trees.{FileTree, node_at, IsNode, NodeFits}
 use Rattle.tree_model.specs.declared.entry.Node.{Node}
 use Rattle.tree_model.specs.declared.entry.Node.TheVariants.{Dir, File, Link}
@@ -21,6 +26,14 @@ known_in answers = get is_same_path answers
 pub record IsTrueOf (told : Option FileTree) (known : RememberedNodes) : Type 0 where
   pub form : (path : Path) (got : Option Node) → known path ≡ Some got → IsNode got
   pub same : (path : Path) (got : Option Node) → known path ≡ Some got → (tree : FileTree) → told ≡ Some tree → got ≡ node_at tree path
+
+-- what is remembered of the walk of a text, where there is something
+abbrev pub walks_known : Walks → Text → Option Reached
+walks_known walks = get (pointwise nat_eq) walks.known
+
+-- where a tree is told, it is what the walk reaches
+pub record AreTrueWalks (told : Option FileTree) (known : Text → Option Reached) : Type 0 where
+  pub same : (text : Text) (it : Reached) → known text ≡ Some it → (tree : FileTree) → told ≡ Some tree → it ≡ reached tree text
 
 -- a code of nodes, by which two of them can be told apart
 abbrev node_to : Node → Unit {0} ⊎ (Unit {0} ⊎ List ℕ)
@@ -53,3 +66,23 @@ is_node-prop (Some node) = fits-prop node
 
 pub IsTrueOf-prop : (told : Option FileTree) (known : RememberedNodes) → IsProp (IsTrueOf told known)
 IsTrueOf-prop told known = hlevel (props, Coded-set (coded_option node_code), is_node-prop)
+
+-- a code of what was reached
+abbrev reached_to : Reached → Unit {0} ⊎ (Path × List Path)
+reached_to reach.Nowhere = inl tt
+reached_to (reach.Dir path nodes) = inr (path, nodes)
+
+abbrev reached_from : Unit {0} ⊎ (Path × List Path) → Reached
+reached_from (inl _) = reach.Nowhere
+reached_from (inr (path, nodes)) = reach.Dir path nodes
+
+reached_back : (it : Reached) → reached_from (reached_to it) ≡ it
+reached_back reach.Nowhere = refl
+reached_back (reach.Dir path nodes) = refl
+
+reached_code : Coded Reached
+reached_code =
+    code_by (Unit {0} ⊎ (Path × List Path)) (coded⊎ coded_unit (coded× (coded_list (coded_list coded_ℕ)) (coded_list (coded_list (coded_list coded_ℕ))))) reached_to reached_from reached_back
+
+pub AreTrueWalks-prop : (told : Option FileTree) (known : Text → Option Reached) → IsProp (AreTrueWalks told known)
+AreTrueWalks-prop told known = hlevel (props, Coded-set reached_code)
