@@ -1,16 +1,18 @@
 // Translation phases 1 and 2 (ISO C 5.1.1.2): newlines, trigraphs and spliced lines.
-ghost use Rattle.std.specs.Prelude.{◌≡◌, ℕ, ◌+◌, ◌≤◌, ◌<◌, ◌∷◌, ◌++◌, [], length, take, drop, not, true, IfOk, IsSome};
+ghost use Rattle.std.specs.Prelude.{◌≡◌, ℕ, ◌+◌, ◌≤◌, ◌<◌, ◌∷◌, ◌++◌, ◌==◌, [], length, take, drop, not, true, IfOk, IsSome};
 ghost use Rattle.std.specs.List.{list_all};
 ghost use Rattle.base_types.specs.Ascii as ascii;
 ghost use Rattle.base_types.specs.Limits.{body_limit};
-ghost use Rattle.memchr.specs.Find.{IsFirstByte};
 ghost use Rattle.pp_tokens.specs.Lined.{lined, Rising};
 ghost use Rattle.pp_tokens.specs.Phases.{newline_ended, trigraph, source_text};
 ghost use Rattle.pp_tokens.specs.parts.Gathered.{newlines};
 ghost use Rattle.pp_tokens.specs.parts.Pieces.{newline_length, front_trigraph, front_character, is_kept, ends_line, FrontStays, IsFront};
 
-use memchr::{memchr2, memchr3};
+use crate::comment::bytes_before;
 use std::alloc::{AllocError, Global};
+
+// How far a search goes.
+const SEARCHED: usize = 1024;
 
 /// A body after phases 1 and 2: its bytes, and the places of its splices in rising order. A splice is kept as the offset in
 /// the text at which the next byte stands.
@@ -37,17 +39,6 @@ pub fn without_last_newline(body: &[u8]) -> &[u8]
 {
     let (front, last) = body.split_at(body.len() - 1);
     if last[0] == b'\n' { front } else { body }
-}
-
-// Where the next byte stands that may be other than a byte of the text.
-fn find_special(rest: &[u8], trigraphs: bool) -> Option<usize>
-    ensures { IsFirstByte (λ b. not (is_kept trigraphs b)) rest.now result }
-{
-    if trigraphs {
-        memchr3(b'\r', b'\\', b'?', rest)
-    } else {
-        memchr2(b'\r', b'\\', rest)
-    }
 }
 
 // Whether phases 1 and 2 leave a byte as it is, whatever stands behind it.
@@ -86,15 +77,30 @@ fn short_run(rest: &[u8], bound: usize, trigraphs: bool) -> usize
     bound
 }
 
-// The same, by a search.
+// The same, by searches for single bytes, which are faster than one for several of them. They end at a bound, so that in a body with
+// many of one byte the next of another isn't searched for again and again.
 fn long_run(rest: &[u8], trigraphs: bool) -> usize
     ensures within { result ≤ length rest.now }
     ensures kept { list_all (is_kept trigraphs) (take result rest.now) ≡ true }
 {
-    match find_special(rest, trigraphs) {
-        Some(length) => length,
-        None => rest.len(),
+    let bound = rest.len().min(SEARCHED);
+    let lines = run_without(b'\\', rest, bound);
+    let run = run_without(b'\r', rest, lines);
+    if trigraphs {
+        run_without(b'?', rest, run)
+    } else {
+        run
     }
+}
+
+// How many bytes at the front, of at most so many, stand before the first that is `stop`.
+fn run_without(stop: u8, rest: &[u8], bound: usize) -> usize
+    requires { bound ≤ length rest.now }
+    ensures within { result ≤ bound }
+    ensures clear { list_all (λ b. not (b == stop)) (take result rest.now) ≡ true }
+{
+    let (near, _) = rest.split_at(bound);
+    bytes_before(stop, near)
 }
 
 // How many bytes at the front are sure to be bytes of the text. The start of a search costs more than a look at a few bytes.
