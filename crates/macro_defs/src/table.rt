@@ -25,6 +25,10 @@ pub struct MacroTable {
 // How many marks a table has once it has a name.
 const MARKS: usize = 8192;
 
+// For how many names a table has room before it grows: what a unit defines with the headers of a C library. Room that isn't
+// taken costs no memory page.
+const NAMES: usize = 2048;
+
 impl Model for MacroTable {
     ghost use Rattle.macro_defs.specs.Table.{TableEntries, names_ever_defined};
     ghost use Rattle.macro_defs.specs.parts.NameMarks.{AreMarked};
@@ -47,7 +51,7 @@ impl MacroTable {
         ensures { IfOk result (λ t. t ≡ initial_entries) }
     {
         let mut table = MacroTable {
-            entries: IndexMap::new(alloc),
+            entries: IndexMap::with_capacity(alloc, NAMES)?,
             marks: Vec::new(alloc),
         };
         table.add(alloc, b"__STDC__", Kind::Number, b"1")?;
