@@ -1,14 +1,14 @@
 // The controlling expression of a condition's line, read token by token as the line is expanded (ISO C 6.10.1).
-ghost use Rattle.std.specs.Prelude.{◌≡◌, ◌≤◌, ◌<◌, ◌+◌, [], Ok, None, Some, false, map, IfOk, IfErr, OnOk, IsTrue};
+ghost use Rattle.std.specs.Prelude.{◌≡◌, ◌≤◌, ◌<◌, ◌+◌, [], Ok, None, Some, false, map, IfOk, IfErr, IfSome, OnOk, IsTrue, IsNone};
 ghost use Rattle.pp_tokens.specs.Tokens.{token_seen};
 ghost use Rattle.macro_defs.specs.Table.{lookup};
 ghost use Rattle.macro_expand.specs.declared.stream.Standing.TheVariants.{Going};
 ghost use Rattle.macro_expand.specs.Seen.{ReportsResult};
-ghost use Rattle.macro_expand.specs.Stream.{to_come, at_hand};
+ghost use Rattle.macro_expand.specs.Stream.{to_come, at_hand, DefinedReady};
 ghost use Rattle.cond_eval.specs.declared.lexeme.Lexeme.{Lexeme};
 ghost use Rattle.cond_eval.specs.Value.{RefusesCondition, value_read};
 ghost use Rattle.daemon_cpp.specs.Prep.{is_defined};
-ghost use Rattle.daemon_cpp.specs.parts.Controlling.{at_first, is_outside, stage_told, with_token, with_outside, with_named, with_inside, with_closing, with_lexeme, read_from, ReadsNext, answer};
+ghost use Rattle.daemon_cpp.specs.parts.Controlling.{at_first, outside, is_outside, stage_told, with_token, with_outside, with_named, with_inside, with_closing, with_lexeme, read_from, ReadsNext, answer};
 
 use cond_eval::{CondError, Lexeme, Num, lexeme_of, value_of_lexemes};
 use macro_defs::MacroTable;
@@ -92,8 +92,42 @@ fn read_next(
             Ok(()) => Ok(true),
             Err(_) => Err(ExpandError::Memory),
         },
+        None => read_unlent(stream, macros, work, line),
+    }
+}
+
+// Reads the next token of an expansion that lends none alone: most often it is a `defined`, which is lent with its operand.
+fn read_unlent(
+    stream: &mut Expander<'_>,
+    macros: &MacroTable,
+    work: &mut Work,
+    line: &mut Controlling,
+) -> Result<bool, ExpandError>
+    requires { stream.old.standing ≡ Going }
+    ensures ok { IfOk result (λ more. ReadsNext (is_defined (lookup macros.now)) more (read_from (is_defined (lookup macros.now)) line.old (to_come stream.old work.old.left)) line.new stream.new work.new.left) }
+    ensures few { IfOk result (λ more. IsTrue more → at_hand stream.new + work.new.left < at_hand stream.old + work.old.left) }
+    ensures err { IfErr result (λ e. ReportsResult e (to_come stream.old work.old.left)) }
+    ensures spends { work.new.left ≤ work.old.left }
+{
+    match next_defined(stream, line) {
+        Some(name) => match line.answer(macros.is_defined(name.text)) {
+            Ok(()) => Ok(true),
+            Err(_) => Err(ExpandError::Memory),
+        },
         None => read_replaced(stream, macros, work, line),
     }
+}
+
+// The name of a `defined` that comes next with its operand, where the operand of none is being read.
+fn next_defined<'a>(stream: &mut Expander<'a>, line: &Controlling) -> Option<TokenRef<'a>>
+    ensures lends { IfSome result (λ name. DefinedReady (token_seen name) stream.old stream.new × (line.now.stage ≡ outside)) }
+    ensures none { IsNone result → stream.new ≡ stream.old }
+    ensures same { stream.new.standing ≡ stream.old.standing }
+{
+    if !line.is_whole() {
+        return None;
+    }
+    stream.lend_defined()
 }
 
 // Reads the next token of an expansion that lends none.

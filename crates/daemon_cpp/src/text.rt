@@ -24,7 +24,7 @@ use macro_expand::{ExpandError, Expander, Lent, Mode, Presumed, Run, Work, expan
 use pp_tokens::{Token, Tokens};
 use std::alloc::Global;
 
-/// Reads a run of text: it is expanded, and laid out token by token. An error of the expansion comes before the limit of the text.
+/// Reads a run of text: it is expanded, and laid out as it is. An error of the expansion comes before the limit of the text.
 pub fn run_text(
     alloc: Global,
     kept: &mut Kept,
@@ -134,7 +134,7 @@ fn text_stop(alloc: Global, places: Places<'_>, error: &TextError) -> Stop
     }
 }
 
-// Lays out what a run becomes, token by token.
+// Lays out what a run becomes, part by part: a token, or a stretch of the file that no macro touches.
 fn lay_out(
     alloc: Global,
     layout: &mut Layout,

@@ -11,13 +11,15 @@ use Rattle.macro_expand.specs.declared.marked.Marked.{Marked as Kept}
 use Rattle.macro_expand.specs.declared.outcome.Mode.{Mode}
 use Rattle.macro_expand.specs.Expansion.{Table}
 use Rattle.macro_expand.specs.Stream.{lent_tokens}
-use Rattle.macro_expand.specs.parts.Steps.{TakesEach}
+use Rattle.macro_expand.specs.parts.Steps.{TakesEach, TakesDefined}
 use Rattle.macro_expand.specs.Sets.{names_in}
 use Rattle.macro_expand.specs.Replacement.{Marked, with_name, common_names}
 use Rattle.macro_expand.specs.parts.Pieces.{spaced_from, spaced_at}
 use Rattle.macro_expand.specs.parts.Stamps.{All, Each, Stamps, Stamped, AllStamped, EachStamped, KeepsStamps, StampsAfter, Alike, Within, Fresh, ArePutIn, stamp_of}
 use Rattle.macro_expand.specs.Seen.{kept_plain}
 use Rattle.pp_tokens.specs.declared.Token.{Token}
+use Rattle.pp_tokens.specs.declared.token.TokenRef.{TokenRef}
+use Rattle.pp_tokens.specs.Tokens.{token_seen}
 
 module _ (P : Kept → Type 0) where
   pub all-append : (a b : List Kept) → All P a → All P b → All P (a ++ b)
@@ -258,3 +260,8 @@ pub lent-stamped : (sets : Stamps) (s : ℕ) (table : Table) (mode : Mode) (o : 
     IfSome o (λ l. TakesEach table mode (lent_tokens l) old new × (0 < length (lent_tokens l))) → (IsNone o → new ≡ old) → AllStamped sets s old → AllStamped sets s new
 lent-stamped sets s table mode (Some l) old new taken none st = each-taken-stamped sets s table mode (lent_tokens l) old new taken.0 st
 lent-stamped sets s table mode None old new taken none st = subst (AllStamped sets s) (sym (none (cc))) st
+
+pub defined-stamped : (sets : Stamps) (s : ℕ) (o : Option TokenRef) (old new : List Kept) →
+    IfSome o (λ name. TakesDefined (token_seen name) old new) → (IsNone o → new ≡ old) → AllStamped sets s old → AllStamped sets s new
+defined-stamped sets s (Some name) old new (word, (operand, (both, is))) none st = all-back (Stamped sets s) (map kept_plain (word ∷ operand)) new (subst (AllStamped sets s) is st)
+defined-stamped sets s None old new taken none st = subst (AllStamped sets s) (sym (none (cc))) st

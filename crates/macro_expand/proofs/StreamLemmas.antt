@@ -1,7 +1,10 @@
 -- Expansion that gives its tokens one after another, by the expansion of the whole list.
-use Rattle.std.proofs.Common.{◌≡◌, ℕ, ◌+◌, length, List, [], ◌∷◌, ◌++◌, map, inl, inr, reverse, Some, None, Option, MatchOption, option_to_list, Result, Ok, Err, refl, ap, sym, ◌∙◌, append_assoc, arith}
+use Rattle.std.proofs.Common.{◌≡◌, ℕ, suc, true, false, ◌+◌, length, List, [], ◌∷◌, ◌++◌, map, inl, inr, reverse, Some, None, Option, MatchOption, option_to_list, Result, Ok, Err, refl, ap, sym, ◌∙◌, append_assoc, arith}
 use Rattle.std.proofs.lemmas.List.{nil_from_length, map-append, append-nil, reverse-append, reverse-reverse}
+use Rattle.std.specs.Prelude.{codes, bytes_eq}
+use Rattle.std.proofs.lemmas.Bool.{and_parts}
 use Rattle.pp_tokens.specs.declared.Token.{Token}
+use Rattle.pp_tokens.specs.Marks.{is_identifier, is_open, is_close, is_word}
 use Rattle.macro_expand.specs.declared.outcome.Mode.{Mode}
 use Rattle.macro_expand.specs.declared.marked.Marked.{Marked as Kept}
 use Rattle.macro_expand.specs.declared.answers.TablePlace.{TablePlace}
@@ -10,13 +13,15 @@ use Rattle.macro_expand.specs.declared.outcome.ExpandError.{ExpandError}
 use Rattle.macro_expand.specs.declared.outcome.ExpandError.TheVariants.{Count as PublicCount, Unclosed as PublicUnclosed, Paste as PublicPaste, Deep as PublicDeep, Work as PublicWork, Memory as PublicMemory}
 use Rattle.macro_expand.specs.Asking.{Failure}
 use Rattle.macro_expand.specs.Replacement.{Marked}
-use Rattle.macro_expand.specs.Expansion.{Expanded, Table, Place, expanded_by}
-use Rattle.macro_expand.specs.Answered.{after_result, answered_and_then, before, expanded_for, table_answerer}
+use Rattle.macro_expand.specs.declared.outcome.Mode.TheVariants.{Condition}
+use Rattle.macro_expand.specs.declared.marked.Role.TheVariants.{Defined}
+use Rattle.macro_expand.specs.Expansion.{Expanded, Table, Place, expanded_by, head_role, has_operand, operand_of_defined, is_some_tokens}
+use Rattle.macro_expand.specs.Answered.{Answerer, after_result, answered_and_then, before, expanded_for, table_answerer}
 use Rattle.macro_defs.specs.Table.{TableEntries, lookup}
-use Rattle.macro_expand.specs.Seen.{marked_of, kept_token, place_of, GivesTokens, StepKeepsResult, Stops, ReportsResult}
-use Rattle.macro_expand.specs.Stream.{Given, Stream, given, given_before, to_come, GivesNext}
-use Rattle.macro_expand.specs.parts.Steps.{StaysAsItIs, TakesUntouched, TakesEach, Becomes}
-use Rattle.macro_expand.proofs.AnsweredLaws.{lifted, before-nothing, expanded_for-nil, expanded_for-ordinary, expanded_for-undefined}
+use Rattle.macro_expand.specs.Seen.{marked_of, kept_plain, kept_token, place_of, GivesTokens, StepKeepsResult, Stops, ReportsResult}
+use Rattle.macro_expand.specs.Stream.{Given, Stream, given, given_before, to_come, GivesNext, IsOperand}
+use Rattle.macro_expand.specs.parts.Steps.{StaysAsItIs, TakesUntouched, TakesEach, TakesDefined, Becomes}
+use Rattle.macro_expand.proofs.AnsweredLaws.{lifted, before-nothing, expanded_for-nil, expanded_for-ordinary, expanded_for-undefined, expanded_for-defined}
 use Rattle.macro_expand.proofs.GivesLaws.{by_is, result_is, lowered-lifted}
 use Rattle.macro_expand.proofs.LoopLaws.{tokens_of_marked, Stops-is}
 
@@ -214,3 +219,75 @@ lent_each entries s mode ready pending later (t ∷ ts) none (mid, (first, each)
 pub taken_length : (table : Table) (mode : Mode) (ts : List Token) (old new : List Kept) → TakesEach table mode ts old new → length new + length ts ≡ length old
 taken_length table mode [] old new same = omega (arith, ap length same)
 taken_length table mode (t ∷ ts) old new (mid, (first, each)) = omega (arith, taken_length table mode ts mid new each, ap length first.1.1.0)
+
+-- A `DEFINED` WITH ITS OPERAND
+
+plain_tokens : (ts : List Token) → map kept_token (map kept_plain ts) ≡ ts
+plain_tokens [] = refl
+plain_tokens (t ∷ ts) = ap (λ (l : List Token). t ∷ l) (plain_tokens ts)
+
+plain_length : (ts : List Token) (later : List Kept) → length (map kept_plain ts ++ later) ≡ length ts + length later
+plain_length [] later = omega arith
+plain_length (t ∷ ts) later = omega (arith, plain_length ts later)
+
+name_alone : (n : Marked) (later : List Marked) → is_identifier n.token ≡ true → operand_of_defined (n ∷ later) ≡ (n ∷ [], later)
+name_alone n [] id = rw id refl
+name_alone n (x ∷ []) id = rw id refl
+name_alone n (x ∷ y ∷ zs) id = rw id refl
+
+name_between : (a n b : Marked) (later : List Marked) → is_identifier a.token ≡ false → is_open a.token ≡ true → is_identifier n.token ≡ true → is_close b.token ≡ true →
+    operand_of_defined (a ∷ n ∷ b ∷ later) ≡ (a ∷ n ∷ b ∷ [], later)
+name_between a n b later other opens id closes = rw (other, opens, id, closes) refl
+
+-- an operand is what a `defined` before it takes along
+operand_taken : (name : Token) (operand : List Token) (later : List Kept) → IsOperand name operand →
+    operand_of_defined (map marked_of (map kept_plain operand ++ later)) ≡ (map marked_of (map kept_plain operand), map marked_of later)
+operand_taken name operand later (id, inl is) = rw is (name_alone (marked_of (kept_plain name)) (map marked_of later) id)
+operand_taken name operand later (id, inr (a, (b, (marks, is)))) =
+    rw is (name_between (marked_of (kept_plain a)) (marked_of (kept_plain name)) (marked_of (kept_plain b)) (map marked_of later) marks.0 marks.1.0 id marks.1.1)
+
+some_operand : (name : Token) (operand : List Token) → IsOperand name operand → is_some_tokens (map marked_of (map kept_plain operand)) ≡ true
+some_operand name operand (id, inl is) = rw is refl
+some_operand name operand (id, inr (a, (b, (marks, is)))) = rw is refl
+
+role_defined : (mode : Mode) (t : Marked) (rest : List Marked) → mode ≡ Condition → is_word (codes "defined") t.token ≡ true → has_operand rest ≡ true → head_role mode t rest ≡ Defined
+unfolding head_role
+role_defined mode t rest condition word some =
+    let both = and_parts (is_identifier t.token) (bytes_eq t.token.text (codes "defined")) word in
+    rw (condition, both.0, both.1, some) refl
+
+-- a `defined` and its operand at the front of what is pending come first whatever the units
+pub defined_first : (entries : TableEntries) (s : TablePlace) (mode : Mode) (ready pending later : List Kept) (name : Token) → mode ≡ Condition → ready ≡ [] →
+    (taken : TakesDefined name pending later) → (units : ℕ) →
+    given_before (map kept_token ready) (given (expanded_by (lookup entries) (place_of s.here.now) mode 0 units (map marked_of pending)))
+    ≡ given_before (taken.0 ∷ taken.1.0) (given_before (map kept_token ready) (given (expanded_by (lookup entries) (place_of s.here.now) mode 0 units (map marked_of later))))
+defined_first entries s mode ready pending later name condition none (word, (operand, ((is_defined, is_operand), is))) units =
+    stream_turn (lookup entries) (λ (p : TablePlace). place_of p.here.now) mode s s units units pending out later ready out none refl step
+    ∙ ap (λ (l : List Token). given_before l (given (expanded_by (lookup entries) (place_of s.here.now) mode 0 units (map marked_of later)))) (plain_tokens (word ∷ operand))
+    ∙ ap (given_before (word ∷ operand))
+    (sym
+    (ap (λ (l : List Kept). given_before (map kept_token l) (given (expanded_by (lookup entries) (place_of s.here.now) mode 0 units (map marked_of later)))) none
+    ∙ given_before-nothing (given (expanded_by (lookup entries) (place_of s.here.now) mode 0 units (map marked_of later)))))
+  where
+    out : List Kept
+    out = map kept_plain (word ∷ operand)
+
+    behind : List Marked
+    behind = map marked_of (map kept_plain operand ++ later)
+
+    answers : Answerer TablePlace
+    answers = table_answerer (λ (_ : TablePlace). lookup entries) (λ (p : TablePlace). place_of p.here.now)
+
+    role : head_role mode (marked_of (kept_plain word)) behind ≡ Defined
+    role =
+        role_defined mode (marked_of (kept_plain word)) behind condition is_defined
+        (ap (λ (p : List Marked × List Marked). is_some_tokens p.0) (operand_taken name operand later is_operand) ∙ some_operand name operand is_operand)
+
+    step : expanded_for answers s mode 0 units (map marked_of pending) ≡ before (map marked_of out) (expanded_for answers s mode 0 units (map marked_of later))
+    step =
+        ap (λ (l : List Kept). expanded_for answers s mode 0 units (map marked_of l)) is
+        ∙ expanded_for-defined answers s mode 0 units (marked_of (kept_plain word)) behind role
+        ∙ ap (λ (p : List Marked × List Marked). before (marked_of (kept_plain word) ∷ p.0) (expanded_for answers s mode 0 units p.1)) (operand_taken name operand later is_operand)
+
+pub defined_length : (name : Token) (old new : List Kept) → (taken : TakesDefined name old new) → length new + length (taken.0 ∷ taken.1.0) ≡ length old
+defined_length name old new (word, (operand, (both, is))) = omega (arith, ap length is, plain_length (word ∷ operand) new)

@@ -1,7 +1,8 @@
 -- Expansion that gives its tokens one after another (6.10.3): what it still gives, and how it stands after a token, at the end and after an
 -- error.
-use Rattle.std.specs.Prelude.{◌≡◌, ℕ, ◌+◌, ◌<◌, ◌⊎◌, List, [], ◌∷◌, ◌++◌, map, length, Option, Some, None, Result, Ok, Err}
+use Rattle.std.specs.Prelude.{◌≡◌, ℕ, ◌+◌, ◌<◌, ◌⊎◌, true, false, List, [], ◌∷◌, ◌++◌, map, length, codes, Option, Some, None, Result, Ok, Err}
 use Rattle.pp_tokens.specs.declared.token.Token.{Token}
+use Rattle.pp_tokens.specs.Marks.{is_identifier, is_open, is_close, is_word}
 use Rattle.pp_tokens.specs.Tokens.{token_seen, rest_of}
 use Rattle.macro_defs.specs.Table.{TableEntries, lookup}
 use Rattle.macro_expand.specs.declared.answers.Presumed.{Presumed}
@@ -49,11 +50,6 @@ to_come s units = given_before (map kept_token s.ready) (given (expanded_by (loo
 abbrev pub at_hand : Stream → ℕ
 at_hand s = length s.ready + length s.pending
 
--- a token is the first of those that are ready, and the others stay
-pub record FirstReady (t : Token) (old new : Stream) : Type 0 where
-  pub given : (units : ℕ) → to_come old units ≡ given_before (t ∷ []) (to_come new units)
-  pub fewer : at_hand new + 1 ≡ at_hand old
-
 -- the tokens that are lent at once
 abbrev pub lent_tokens : Lent → List Token
 lent_tokens (Single t) = token_seen t ∷ []
@@ -64,6 +60,22 @@ pub record FrontReady (ts : List Token) (old new : Stream) : Type 0 where
   pub given : (units : ℕ) → to_come old units ≡ given_before ts (to_come new units)
   pub fewer : at_hand new + length ts ≡ at_hand old
   pub some : 0 < length ts
+
+-- the operand of a `defined` with this name: the name, or it in parentheses (6.10.1)
+abbrev pub IsOperand : Token → List Token → Type 0
+IsOperand name ts =
+    (is_identifier name ≡ true)
+    × ((ts ≡ name ∷ [])
+    ⊎ ((before : Token) × ((behind : Token) × (((is_identifier before ≡ false) × ((is_open before ≡ true) × (is_close behind ≡ true)))
+    × (ts ≡ before ∷ name ∷ behind ∷ [])))))
+
+-- a `defined` and an operand with this name are the first that are ready, and the others stay
+pub record DefinedReady (name : Token) (old new : Stream) : Type 0 where
+  pub word : Token
+  pub operand : List Token
+  pub is_defined : is_word (codes "defined") word ≡ true
+  pub is_operand : IsOperand name operand
+  pub ready : FrontReady (word ∷ operand) old new
 
 -- a token is the first that is still to come, and none comes where nothing is left but the units
 abbrev pub GivesNext : Option Token → Stream → ℕ → Stream → ℕ → Type 0

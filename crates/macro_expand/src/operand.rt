@@ -1,7 +1,11 @@
 // The operand of `defined` in a condition (ISO C 6.10.1).
-ghost use Rattle.std.specs.Prelude.{◌≡◌, ℕ, ◌+◌, ◌≤◌, ◌++◌, ◌∷◌, [], map, length, take, drop, IfOk, IfErr, OnOk};
+ghost use Rattle.std.specs.Prelude.{◌≡◌, ℕ, ◌+◌, ◌≤◌, ◌++◌, ◌∷◌, [], List, map, length, take, drop, true, codes, IfOk, IfErr, IfSome, OnOk};
 ghost use Rattle.macro_expand.specs.declared.marked.Role.TheVariants.{Defined};
-ghost use Rattle.pp_tokens.specs.Marks.{is_identifier, is_mark};
+ghost use Rattle.pp_tokens.specs.declared.token.Token.{Token};
+ghost use Rattle.pp_tokens.specs.Marks.{is_identifier, is_mark, is_close, is_word};
+ghost use Rattle.pp_tokens.specs.Tokens.{token_seen};
+ghost use Rattle.macro_expand.specs.Stream.{IsOperand};
+ghost use Rattle.macro_expand.specs.parts.Pending.{run_tokens};
 ghost use Rattle.macro_expand.specs.parts.Reading.{holds_at, begins_with_name_in_parentheses};
 ghost use Rattle.macro_expand.specs.Expansion as spec;
 ghost use Rattle.macro_expand.specs.Expansion.{head_role, operand_of_defined};
@@ -14,6 +18,54 @@ use crate::expansion::put;
 use crate::marked::Marked;
 use crate::outcome::{Mode, RunError, Work};
 use crate::pending::Pending;
+use crate::run::Run;
+use pp_tokens::TokenRef;
+
+// Takes a `defined` and its operand from the front of a run, and answers the name; where they don't stand there, the run isn't told.
+pub(crate) fn defined_name<'a>(run: &mut Run<'a>) -> Option<TokenRef<'a>>
+    ensures { IfSome result (λ name. (word : Token) × ((operand : List Token) × (((is_word (codes "defined") word ≡ true) × IsOperand (token_seen name) operand)
+        × (run_tokens run.old ≡ word ∷ operand ++ run_tokens run.new)))) }
+{
+    let word = run.next()?;
+    if !is_defined(&word) {
+        return None;
+    }
+    operand_name(run)
+}
+
+fn is_defined(token: &TokenRef) -> bool
+    ensures { result ≡ is_word (codes "defined") (token_seen token.now) }
+{
+    token.is_identifier() && token.text == b"defined".as_slice()
+}
+
+// The same for the operand alone.
+fn operand_name<'a>(run: &mut Run<'a>) -> Option<TokenRef<'a>>
+    ensures { IfSome result (λ name. (operand : List Token) × (IsOperand (token_seen name) operand × (run_tokens run.old ≡ operand ++ run_tokens run.new))) }
+{
+    let first = run.next()?;
+    if first.is_identifier() {
+        return Some(first);
+    }
+    if !first.is_mark(b"(") {
+        return None;
+    }
+    name_before_close(run)
+}
+
+// The same for a name and the `)` behind it.
+fn name_before_close<'a>(run: &mut Run<'a>) -> Option<TokenRef<'a>>
+    ensures { IfSome result (λ name. (is_identifier (token_seen name) ≡ true) × ((close : Token) × ((is_close close ≡ true)
+        × (run_tokens run.old ≡ token_seen name ∷ close ∷ run_tokens run.new)))) }
+{
+    let name = run.next()?;
+    let close = run.next()?;
+    if name.is_identifier() && close.is_mark(b")") {
+        Some(name)
+    } else {
+        None
+    }
+}
 
 // Whether an operand of `defined` stands first.
 pub(crate) fn has_operand(rest: &Pending) -> bool

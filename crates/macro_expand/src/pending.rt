@@ -6,13 +6,14 @@ ghost use Rattle.macro_defs.specs.Table.{lookup};
 ghost use Rattle.macro_expand.specs.declared.marked.Marked.{Marked as Kept};
 ghost use Rattle.macro_expand.specs.Replacement.{after_open};
 ghost use Rattle.macro_expand.specs.Stream.{lent_tokens};
-ghost use Rattle.macro_expand.specs.parts.Steps.{IsUntouched, EachUntouched, TakesUntouched, TakesEach};
+ghost use Rattle.macro_expand.specs.parts.Steps.{IsUntouched, EachUntouched, TakesUntouched, TakesEach, TakesDefined};
 ghost use Rattle.macro_expand.specs.parts.Pending.{run_tokens};
 ghost use Rattle.macro_expand.specs.Seen.{marked_of, kept_plain, kept_token};
 ghost use Rattle.macro_expand.specs.parts.Stamps.{Stamps, AllStamped};
 
 use crate::lent::Lent;
 use crate::marked::Marked;
+use crate::operand::defined_name;
 use crate::outcome::{Mode, RunError};
 use crate::run::Run;
 use macro_defs::MacroTable;
@@ -101,6 +102,20 @@ impl<'a> Pending<'a> {
         }
         let tokens = take_stretch(&mut self.run, table, mode)?;
         Some(Lent::Stretch(tokens))
+    }
+
+    // Takes a `defined` and its operand, where they stand first in the run, and answers the name; else nothing changes.
+    pub(crate) fn take_defined(&mut self) -> Option<TokenRef<'a>>
+        ensures taken { IfSome result (λ name. TakesDefined (token_seen name) self.old self.new) }
+        ensures none { IsNone result → self.new ≡ self.old }
+    {
+        if !has_none(&self.made) {
+            return None;
+        }
+        let mut behind = self.run;
+        let name = defined_name(&mut behind)?;
+        self.run = behind;
+        Some(name)
     }
 
     // The token at a place; none behind the last.

@@ -8,7 +8,7 @@ ghost use Rattle.macro_expand.specs.Answered.{expanded_for, table_answerer};
 ghost use Rattle.macro_expand.specs.declared.marked.Marked.{Marked as Kept};
 ghost use Rattle.macro_expand.specs.Seen.{marked_of, kept_plain, place_of, GivesTokens, Stops, ReportsResult};
 ghost use Rattle.macro_expand.specs.parts.Pending.{run_tokens};
-ghost use Rattle.macro_expand.specs.Stream.{to_come, at_hand, lent_tokens, FirstReady, FrontReady, GivesNext, StandsAfter, StandsAfterAnswer};
+ghost use Rattle.macro_expand.specs.Stream.{to_come, at_hand, lent_tokens, FrontReady, DefinedReady, GivesNext, StandsAfter, StandsAfterAnswer};
 ghost use Rattle.macro_expand.specs.parts.Steps.{StaysAsItIs, Becomes};
 ghost use Rattle.macro_expand.specs.parts.Stamps.{Stamps, AllStamped};
 
@@ -148,7 +148,7 @@ impl<'a> Expander<'a> {
     /// memory and no unit of work. `None` leaves everything as it is, and doesn't tell whether a token is to come.
     #[inline(always)]
     pub fn lend(&mut self) -> Option<TokenRef<'a>>
-        ensures lends { IfSome result (λ t. FirstReady (token_seen t) self.old self.new) }
+        ensures lends { IfSome result (λ t. FrontReady (token_seen t ∷ []) self.old self.new) }
         ensures none { IsNone result → self.new ≡ self.old }
         ensures same { self.new.standing ≡ self.old.standing }
         ensures going { IfSome result (λ t. self.old.standing ≡ Standing.Going) }
@@ -171,6 +171,20 @@ impl<'a> Expander<'a> {
             return None;
         }
         self.pending.lend(self.table, self.mode)
+    }
+
+    /// The name of a `defined` in a condition, where it and its operand are lent next: `next` would give their tokens one after another, and
+    /// leave the same behind them (6.10.1 paragraph 4). `None` leaves everything as it is, and doesn't tell what is to come.
+    pub fn lend_defined(&mut self) -> Option<TokenRef<'a>>
+        ensures lends { IfSome result (λ name. DefinedReady (token_seen name) self.old self.new) }
+        ensures none { IsNone result → self.new ≡ self.old }
+        ensures same { self.new.standing ≡ self.old.standing }
+        ensures going { IfSome result (λ name. self.old.standing ≡ Standing.Going) }
+    {
+        if !self.has_none_ready() || !is_condition(self.mode) {
+            return None;
+        }
+        self.pending.take_defined()
     }
 
     // Whether the expansion goes on, and nothing that was put out is still to be given.
@@ -229,6 +243,12 @@ impl<'a> Expander<'a> {
             }
         }
     }
+}
+
+fn is_condition(mode: Mode) -> bool
+    ensures { IsTrue result → mode ≡ Mode.Condition }
+{
+    matches!(mode, Mode::Condition)
 }
 
 // Whether a token is put out as it is, whatever its table: it is no identifier.

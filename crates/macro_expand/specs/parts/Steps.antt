@@ -1,6 +1,7 @@
 -- Steps of an expansion under a table: what of the pending tokens was put out, and what is to come (6.10.3).
-use Rattle.std.specs.Prelude.{◌≡◌, ℕ, ◌⊎◌, List, [], ◌∷◌, map, None}
+use Rattle.std.specs.Prelude.{◌≡◌, ℕ, ◌⊎◌, true, List, [], ◌∷◌, ◌++◌, map, codes, None}
 use Rattle.pp_tokens.specs.declared.token.Token.{Token}
+use Rattle.pp_tokens.specs.Marks.{is_word}
 use Rattle.macro_expand.specs.declared.answers.TablePlace.{TablePlace}
 use Rattle.macro_expand.specs.declared.marked.Marked.{Marked as Kept}
 use Rattle.macro_expand.specs.declared.marked.Role.TheVariants.{Name, Ordinary}
@@ -8,7 +9,8 @@ use Rattle.macro_expand.specs.declared.outcome.Mode.{Mode}
 use Rattle.macro_expand.specs.Expansion.{Table, head_role}
 use Rattle.macro_expand.specs.Replacement.{Marked}
 use Rattle.macro_expand.specs.Answered.{Answerer, before, expanded_for, table_answerer}
-use Rattle.macro_expand.specs.Seen.{marked_of, kept_token, place_of}
+use Rattle.macro_expand.specs.Seen.{marked_of, kept_plain, kept_token, place_of}
+use Rattle.macro_expand.specs.Stream.{IsOperand}
 
 -- a token is put out as it is: an ordinary one, or a name without a definition
 abbrev pub StaysAsItIs : Table → Mode → Kept → List Kept → Type 0
@@ -24,6 +26,12 @@ TakesUntouched table mode t old new = (m : Kept) × ((kept_token m ≡ t) × ((o
 abbrev pub TakesEach : Table → Mode → List Token → List Kept → List Kept → Type 0
 TakesEach table mode [] old new = old ≡ new
 TakesEach table mode (t ∷ ts) old new = (mid : List Kept) × (TakesUntouched table mode t old mid × TakesEach table mode ts mid new)
+
+-- a `defined` and an operand with this name are taken from the front of what is pending
+abbrev pub TakesDefined : Token → List Kept → List Kept → Type 0
+TakesDefined name old new =
+    (word : Token) × ((operand : List Token) × (((is_word (codes "defined") word ≡ true) × IsOperand name operand)
+    × (old ≡ map kept_plain (word ∷ operand) ++ new)))
 
 -- a token is put out as it is, whatever its hide set and whatever stands behind it
 abbrev pub IsUntouched : Table → Mode → Token → Type 0

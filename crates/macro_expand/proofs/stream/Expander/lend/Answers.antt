@@ -14,4 +14,5 @@ returns-clause-lends c =
       given = lent_first _ c.self.inside.answers c.self.inside.mode (reverse c.self.inside.ready.items) c.self.inside.pending c.take_untouched.new.self _
           (ap (λ (s : Stream). s.ready) c.self.view_is ∙ stands.1) taken;
       fewer = omega (arith, ap length taken.1.1.0);
+      some = omega arith;
     }))
