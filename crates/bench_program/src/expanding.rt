@@ -11,7 +11,7 @@ use command_line::read_body;
 use cpp_output::{LayError, Layout};
 use directive_scan::{DirectiveRef, PieceRef, Pieces};
 use macro_expand::{ExpandError, Expander, Lent, Work};
-use pp_tokens::{Tokens, lex};
+use pp_tokens::{Tokens, lex_body};
 use std::alloc::Global;
 use std::io::{self, Write};
 use std::rt::Files;
@@ -34,7 +34,7 @@ pub fn print_text<R: Files + AllocGlobal + Print + Eprint>(rt: &R, file: &str) -
 
 fn pieces_of<R: Files + AllocGlobal>(rt: &R, file: &str) -> Result<Pieces> {
     let body = read_body(rt, file)?;
-    Ok(Pieces::of(rt.alloc(), lex(rt.alloc(), &body, false)?)?)
+    Ok(Pieces::of(rt.alloc(), lex_body(rt.alloc(), body, false)?)?)
 }
 
 // Prints the counts of a file's pieces; whether it has no error.

@@ -4,7 +4,7 @@ use crate::tokens::{Difference, first_difference, joined};
 use anyhow::{Result, ensure};
 use base_types::limits::BODY_LIMIT;
 use command_line::read_body;
-use pp_tokens::{Lexed, TokenRef, lex};
+use pp_tokens::{Lexed, TokenRef, lex_body};
 use std::alloc::Global;
 use std::io;
 use std::rt::Files;
@@ -24,8 +24,9 @@ pub fn count<R: Files + AllocGlobal + Print + Eprint>(rt: &R, file: &str) -> io:
 // How many bytes a file has, and its tokens.
 fn length_and_tokens<R: Files + AllocGlobal>(rt: &R, file: &str) -> Result<(usize, Lexed)> {
     let body = read_body(rt, file)?;
-    let lexed = lex(rt.alloc(), &body, false)?;
-    Ok((body.len(), lexed))
+    let bytes = body.len();
+    let lexed = lex_body(rt.alloc(), body, false)?;
+    Ok((bytes, lexed))
 }
 
 fn print_counts<R: Print>(rt: &R, file: &str, bytes: usize, lexed: &Lexed) -> io::Result<()> {
@@ -64,7 +65,7 @@ fn lex_again(alloc: Global, file: &Lexed) -> Result<Lexed> {
         text.len() <= BODY_LIMIT,
         "its tokens take more than {BODY_LIMIT} bytes"
     );
-    Ok(lex(alloc, &text, false)?)
+    Ok(lex_body(alloc, text, false)?)
 }
 
 // Whether two lexings of a file have the same tokens. It prints that, or what first differs.

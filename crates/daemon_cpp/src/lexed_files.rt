@@ -6,8 +6,9 @@ ghost use Rattle.pp_tokens.specs.Lines.{lexed};
 ghost use Rattle.daemon_cpp.specs.parts.Reading.{token_count};
 ghost use Rattle.daemon_cpp.specs.parts.FileTexts.{IsTextOf, HasFewPieces};
 
+use base_types::Bytes;
 use directive_scan::Pieces;
-use pp_tokens::{Lexed, lex};
+use pp_tokens::{Lexed, lex_body};
 use std::alloc::{AllocError, Global};
 use std::collections::HashMap;
 use std::marker::Model;
@@ -27,11 +28,11 @@ pub struct FileText {
 
 impl FileText {
     // That of a body.
-    fn of_body(alloc: Global, body: &[u8], trigraphs: bool) -> Result<FileText, AllocError>
-        requires { length body.now ≤ body_limit }
-        ensures text { IfOk result (IsTextOf (lexed trigraphs body.now)) }
+    fn of_body(alloc: Global, body: Bytes, trigraphs: bool) -> Result<FileText, AllocError>
+        requires { length body ≤ body_limit }
+        ensures text { IfOk result (IsTextOf (lexed trigraphs body)) }
     {
-        let lexed = lex(alloc, body, trigraphs)?;
+        let lexed = lex_body(alloc, body.into_vec()?, trigraphs)?;
         let tokens = count_tokens(&lexed);
         let open_comment = lexed.open_comment();
         Ok(FileText {
@@ -94,21 +95,22 @@ impl LexedFiles {
         &mut self,
         alloc: Global,
         path: &CanonPath,
-        body: &[u8],
+        body: Bytes,
         trigraphs: bool,
     ) -> Result<FileText, AllocError>
-        requires { length body.now ≤ body_limit }
-        ensures text { IfOk result (IsTextOf (lexed trigraphs body.now)) }
+        requires { length body ≤ body_limit }
+        ensures text { IfOk result (IsTextOf (lexed trigraphs body)) }
         ensures few { IfOk result HasFewPieces }
     {
         if let Some(known) = self.known.get(path) {
-            if let Some(text) = known_text(known, body, trigraphs)? {
+            if let Some(text) = known_text(known, body.as_slice(), trigraphs)? {
                 return Ok(text);
             }
         }
+        let size = body.len();
         let text = FileText::of_body(alloc, body, trigraphs)?;
-        if body.len() <= self.room {
-            self.keep(alloc, path, body.len(), &text.pieces)?;
+        if size <= self.room {
+            self.keep(alloc, path, size, &text.pieces)?;
         }
         Ok(text)
     }

@@ -74,7 +74,7 @@ fn open_body(
     let (visit, located) = found;
     let text = kept
         .lexed
-        .text_of(alloc, &located.real, body.as_slice(), setup.trigraphs())?;
+        .text_of(alloc, &located.real, body, setup.trigraphs())?;
     match pay(text.tokens, kept.work.left) {
         Some(left) => {
             kept.work.left = left;

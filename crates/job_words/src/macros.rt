@@ -12,7 +12,7 @@ ghost use Rattle.macro_defs.specs.Defining.{defined_by};
 use crate::{MacroWord, WordError};
 use base_types::{Bytes, List};
 use macro_defs::{DefineError, names_macro, read_define};
-use pp_tokens::{Lexed, Token, lex};
+use pp_tokens::{Lexed, Token, lex_body};
 use std::alloc::{AllocError, Global};
 
 // What a `-D` says.
@@ -23,7 +23,7 @@ pub fn define_word(alloc: Global, text: &[u8]) -> Result<MacroWord, WordError>
     ensures why { IfErr result (λ e. IsNoMacro e (define_word text.now)) }
 {
     let line = define_line(alloc, text)?;
-    let tokens = line_tokens(alloc, &line)?;
+    let tokens = line_tokens(alloc, line)?;
     defined(alloc, tokens)
 }
 
@@ -34,7 +34,7 @@ pub fn undef_word(alloc: Global, text: &[u8]) -> Result<MacroWord, WordError>
     ensures macros { IfOk result (λ word. undef_word text.now ≡ Some word) }
     ensures why { IfErr result (λ e. IsNoMacro e (undef_word text.now)) }
 {
-    let tokens = line_tokens(alloc, text)?;
+    let tokens = line_tokens(alloc, text.to_vec(alloc)?)?;
     undefined(alloc, tokens.as_slice())
 }
 
@@ -43,12 +43,21 @@ fn define_line(alloc: Global, text: &[u8]) -> Result<Vec<u8>, AllocError>
     ensures line { IfOk result (λ line. line.items ≡ define_line text.now) }
     ensures short { IfOk result (λ line. length line.items ≤ length text.now + 2) }
 {
-    let mut line = Vec::from_slice(alloc, text)?;
+    let mut line = roomy(alloc, text)?;
     match first_equals(text) {
         Some(place) => line[place] = b' ',
         None => line.extend_from_slice(b" 1")?,
     }
     Ok(line)
+}
+
+// A copy with room for ` 1` behind it and for the newline that ends the line.
+fn roomy(alloc: Global, text: &[u8]) -> Result<Vec<u8>, AllocError>
+    ensures { IfOk result (λ copy. copy.items ≡ text.now) }
+{
+    let mut copy = Vec::with_capacity(alloc, text.len() + 3)?;
+    copy.extend_from_slice(text)?;
+    Ok(copy)
 }
 
 // The first `=` of a text.
@@ -60,15 +69,15 @@ fn first_equals(text: &[u8]) -> Option<usize>
 
 // The tokens of a text that is one line, without a comment that never ends.
 #[tactic(auto, unfolding(crate::specs::Macros::tokens_of_line))]
-fn line_tokens(alloc: Global, text: &[u8]) -> Result<List<Token>, WordError>
-    requires { length text.now ≤ body_limit }
-    ensures line { IfOk result (λ tokens. tokens_of_line text.now ≡ Some tokens) }
-    ensures why { IfErr result (λ e. IsNoMacro e (tokens_of_line text.now)) }
+fn line_tokens(alloc: Global, text: Vec<u8>) -> Result<List<Token>, WordError>
+    requires { length text.items ≤ body_limit }
+    ensures line { IfOk result (λ tokens. tokens_of_line text.items ≡ Some tokens) }
+    ensures why { IfErr result (λ e. IsNoMacro e (tokens_of_line text.items)) }
 {
-    if has_newline(text) {
+    if has_newline(&text) {
         return Err(WordError::BadMacro);
     }
-    let lexed = lex(alloc, text, false)?;
+    let lexed = lex_body(alloc, text, false)?;
     if lexed.open_comment().is_some() {
         return Err(WordError::BadMacro);
     }

@@ -33,6 +33,7 @@ mod Opened
 mod Prefixes
 mod Fronts
 mod LinedText
+mod LastNewlines
 mod FrontPieces
 mod SourceSteps
 mod NewlineLengths

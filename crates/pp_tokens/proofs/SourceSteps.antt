@@ -75,6 +75,18 @@ empty_source true [] none = refl
 empty_source false [] none = refl
 empty_source trigraphs (b ∷ bs) none = absurd (omega arith)
 
+-- a run of bytes at the front of the rest
+pub source_front : (trigraphs : Bool) (body text splices rest : List ℕ) (n : ℕ) → Ascends 0 splices (length text) → FrontStays trigraphs rest n
+    → SourceState trigraphs body text splices rest → SourceState trigraphs body (text ++ take n rest) splices (drop n rest)
+source_front trigraphs body text splices rest n ascends stays state =
+    source_run trigraphs body text splices (take n rest) (drop n rest) ascends (λ line. ap (source_from trigraphs line) (take-append-drop n rest) ∙ stays line)
+    (subst (SourceState trigraphs body text splices) (sym (take-append-drop n rest)) state)
+
+-- what is left of a body that ends with a newline
+pub rest_lines : (body lines : List ℕ) (at : ℕ) → body ≡ lines ++ (10 ∷ []) → at < length body → drop at body ≡ drop at lines ++ (10 ∷ [])
+rest_lines body lines at is before =
+    ap (drop at) is ∙ drop-append-le at lines (10 ∷ []) (omega (arith, ap length is, length-append lines (10 ∷ [])))
+
 -- PLACES IN THE LINES, BEHIND WHICH THE LAST NEWLINE STANDS
 
 -- a run of bytes at a place

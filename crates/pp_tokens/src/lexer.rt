@@ -336,6 +336,24 @@ pub fn lex(alloc: Global, body: &[u8], trigraphs: bool) -> Result<Lexed, AllocEr
     requires small { length body.now ≤ body_limit }
     ensures { IfOk result (λ l. l ≡ lexed trigraphs body.now) }
 {
+    let copy = copy_of(alloc, body)?;
+    lex_body(alloc, copy, trigraphs)
+}
+
+// A copy of a body, with room for a last newline.
+fn copy_of(alloc: Global, body: &[u8]) -> Result<Vec<u8>, AllocError>
+    ensures { IfOk result (λ copy. copy.items ≡ body.now) }
+{
+    let mut copy = Vec::with_capacity(alloc, body.len() + 1)?;
+    copy.extend_from_slice(body)?;
+    Ok(copy)
+}
+
+/// The same of a body that is given away. Its memory becomes that of the spellings.
+pub fn lex_body(alloc: Global, body: Vec<u8>, trigraphs: bool) -> Result<Lexed, AllocError>
+    requires small { length body.items ≤ body_limit }
+    ensures { IfOk result (λ l. l ≡ lexed trigraphs body.items) }
+{
     let SourceText { text, splices } = read_source(alloc, body, trigraphs)?;
     let gathering = gather(alloc, &text, &splices)?;
     Ok(finished(text, Some(splices), gathering))
@@ -390,7 +408,8 @@ pub fn lex_directives(alloc: Global, body: &[u8], trigraphs: bool) -> Result<Lex
     requires small { length body.now ≤ body_limit }
     ensures { IfOk result (λ l. l ≡ directives_alone (lexed trigraphs body.now)) }
 {
-    let SourceText { text, splices } = read_source(alloc, body, trigraphs)?;
+    let copy = copy_of(alloc, body)?;
+    let SourceText { text, splices } = read_source(alloc, copy, trigraphs)?;
     let gathering = gather_directives(alloc, &text, &splices)?;
     Ok(finished(text, None, gathering))
 }

@@ -24,7 +24,7 @@ mod unpaired;
 pub use base_types::{Bytes, List};
 pub use excerpt::Excerpt;
 pub use law::{one_reading, tokens_are_slices};
-pub use lexer::{Lexed, lex, lex_directives};
+pub use lexer::{Lexed, lex, lex_body, lex_directives};
 pub use plain::{is_plain, is_simple_name};
 pub use single::{goes_on, single_token};
 pub use token::{Kind, Token, TokenRef};

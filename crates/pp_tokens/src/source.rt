@@ -1,6 +1,7 @@
 // Translation phases 1 and 2 (ISO C 5.1.1.2): newlines, trigraphs and spliced lines.
-ghost use Rattle.std.specs.Prelude.{◌≡◌, ℕ, ◌+◌, ◌≤◌, ◌<◌, ◌∷◌, ◌++◌, ◌==◌, [], length, take, drop, not, true, IfOk, IsSome};
+ghost use Rattle.std.specs.Prelude.{◌≡◌, ℕ, List, ◌+◌, ◌≤◌, ◌<◌, ◌∷◌, ◌++◌, ◌==◌, [], length, take, drop, not, true, IfOk, IsSome};
 ghost use Rattle.std.specs.List.{list_all};
+ghost use lib.Seq.{paste};
 ghost use Rattle.base_types.specs.Ascii as ascii;
 ghost use Rattle.base_types.specs.Limits.{body_limit};
 ghost use Rattle.pp_tokens.specs.Lined.{lined, Rising};
@@ -11,8 +12,13 @@ ghost use Rattle.pp_tokens.specs.parts.Pieces.{newline_length, front_trigraph, f
 use crate::comment::bytes_before;
 use std::alloc::{AllocError, Global};
 
-// How far a search goes.
+// How many bytes are looked at one after another, and how far a search goes behind them.
+const NEAR: usize = 16;
+
 const SEARCHED: usize = 1024;
+
+// How long a run may be.
+const RUN: usize = 1040;
 
 /// A body after phases 1 and 2: its bytes, and the places of its splices in rising order. A splice is kept as the offset in
 /// the text at which the next byte stands.
@@ -81,6 +87,7 @@ fn short_run(rest: &[u8], bound: usize, trigraphs: bool) -> usize
 // many of one byte the next of another isn't searched for again and again.
 fn long_run(rest: &[u8], trigraphs: bool) -> usize
     ensures within { result ≤ length rest.now }
+    ensures short { result ≤ 1024 }
     ensures kept { list_all (is_kept trigraphs) (take result rest.now) ≡ true }
 {
     let bound = rest.len().min(SEARCHED);
@@ -106,9 +113,10 @@ fn run_without(stop: u8, rest: &[u8], bound: usize) -> usize
 // How many bytes at the front are sure to be bytes of the text. The start of a search costs more than a look at a few bytes.
 pub fn run_length(rest: &[u8], trigraphs: bool) -> usize
     ensures within { result ≤ length rest.now }
+    ensures short { result ≤ 1040 }
     ensures run { FrontStays trigraphs (rest.now ++ (ascii.newline ∷ [])) result }
 {
-    let bound = rest.len().min(16);
+    let bound = rest.len().min(NEAR);
     let run = short_run(rest, bound, trigraphs);
     if run < bound {
         return run;
@@ -196,37 +204,115 @@ pub fn front_piece(rest: &[u8], trigraphs: bool) -> (Piece, usize)
     (Piece::Byte(character), length)
 }
 
-/// Reads a body of at most 16 MiB, with trigraphs replaced where that is asked for. A missing last newline is added. Time is
-/// linear in the body; the only error is want of memory.
-pub fn read_source(alloc: Global, body: &[u8], trigraphs: bool) -> Result<SourceText, AllocError>
-    requires { length body.now ≤ body_limit }
-    ensures source { IfOk result (λ s. lined s.splices.items 0 1 s.text.items ≡ source_text trigraphs body.now) }
+// Ends the last line with a newline, where none does.
+fn end_last_line(body: &mut Vec<u8>) -> Result<(), AllocError>
+    requires { 0 < length body.old.items }
+    ensures { IfOk result (λ u. body.new.items ≡ newline_ended body.old.items) }
+{
+    if body[body.len() - 1] == b'\n' {
+        return Ok(());
+    }
+    body.push(b'\n')?;
+    Ok(())
+}
+
+// What stands first in the rest of a body: bytes that are sure to be bytes of the text, and the piece behind them with the bytes that it has.
+#[derive(Clone, Copy, Drop)]
+struct Front {
+    run: usize,
+    piece: Piece,
+    length: usize,
+}
+
+// What stands first in the rest of a body that ends with a newline.
+#[inline(always)]
+fn front_of(rest: &[u8], trigraphs: bool) -> Front
+    requires { 0 < length rest.now }
+    ensures short { result.run ≤ 1040 }
+    ensures within { result.run + result.length ≤ length rest.now }
+    ensures moves { 0 < result.length }
+    ensures run { (lines : List ℕ) → rest.now ≡ lines ++ (ascii.newline ∷ []) → FrontStays trigraphs rest.now result.run }
+    ensures front { (lines : List ℕ) (line : ℕ) → rest.now ≡ lines ++ (ascii.newline ∷ []) → IsFront trigraphs line (drop result.run rest.now) result.piece result.length }
+    ensures last { result.run + result.length ≡ length rest.now → ends_line result.piece ≡ true }
+{
+    let (lines, _) = rest.split_at(rest.len() - 1);
+    let run = run_length(lines, trigraphs);
+    let (_, behind) = lines.split_at(run);
+    let (piece, length) = front_piece(behind, trigraphs);
+    Front { run, piece, length }
+}
+
+// Moves a run of bytes from a place down to another.
+#[inline(always)]
+fn move_down(text: &mut [u8], at: usize, run: usize, to: usize)
+    requires short { run ≤ 1040 }
+    requires within { at + run ≤ length text.old }
+    requires down { to ≤ at }
+    ensures size { length text.new ≡ length text.old }
+    ensures front { take (to + run) text.new ≡ take to text.old ++ take run (drop at text.old) }
+    ensures behind { drop (at + run) text.new ≡ drop (at + run) text.old }
+{
+    if to < at {
+        move_over(text, at, run, to);
+    }
+}
+
+// The same by a copy of them, since the two places may overlap.
+fn move_over(text: &mut [u8], at: usize, run: usize, to: usize)
+    requires short { run ≤ 1040 }
+    requires within { at + run ≤ length text.old }
+    requires down { to ≤ at }
+    ensures { text.new ≡ paste text.old to (drop at text.old) run }
+{
+    let mut copy = [0u8; RUN];
+    copy[..run].copy_from_slice(&text[at..at + run]);
+    text[to..to + run].copy_from_slice(&copy[..run]);
+}
+
+// Writes a byte at a place.
+#[inline(always)]
+fn put(text: &mut [u8], to: usize, byte: u8)
+    requires { to < length text.old }
+    ensures size { length text.new ≡ length text.old }
+    ensures front { take (to + 1) text.new ≡ take to text.old ++ byte ∷ [] }
+    ensures behind { (k : ℕ) → to < k → drop k text.new ≡ drop k text.old }
+{
+    text[to] = byte;
+}
+
+/// Reads a body of at most 16 MiB, with trigraphs replaced where that is asked for. A missing last newline is added. The text stands in the
+/// body's memory: what is read is moved to its front, and nothing before the first splice. Time is linear in the body; the only error is want
+/// of memory.
+pub fn read_source(alloc: Global, body: Vec<u8>, trigraphs: bool) -> Result<SourceText, AllocError>
+    requires { length body.items ≤ body_limit }
+    ensures source { IfOk result (λ s. lined s.splices.items 0 1 s.text.items ≡ source_text trigraphs body.items) }
     ensures rising { IfOk result (λ s. Rising 0 s.splices.items) }
     ensures small { IfOk result (λ s. length s.text.items + length s.splices.items ≤ body_limit + 1) }
     ensures short { IfOk result (λ s. length s.text.items ≤ body_limit + newlines s.text.items) }
 {
     let mut splices = Vec::new(alloc);
-    if body.is_empty() {
-        return Ok(SourceText {
-            text: Vec::new(alloc),
-            splices,
-        });
+    let mut text = body;
+    if text.is_empty() {
+        return Ok(SourceText { text, splices });
     }
-    let mut text = Vec::with_capacity(alloc, body.len() + 1)?;
-    let lines = without_last_newline(body);
+    end_last_line(&mut text)?;
+    // What is read of the body goes to the front of its memory: `to` bytes, never beyond what is read.
     let mut at = 0usize;
-    // The newline that ends the body stands behind the lines, where the last turn reads it.
-    while at <= lines.len() {
-        let (_, rest) = lines.split_at(at);
-        let run = run_length(rest, trigraphs);
-        let (kept, behind) = rest.split_at(run);
-        text.extend_from_slice(kept)?;
-        let (piece, length) = front_piece(behind, trigraphs);
+    let mut to = 0usize;
+    while at < text.len() {
+        let (_, rest) = text.split_at(at);
+        let Front { run, piece, length } = front_of(rest, trigraphs);
+        move_down(&mut text, at, run, to);
+        to += run;
         match piece {
-            Piece::Byte(byte) => text.push(byte)?,
-            Piece::Splice => splices.push(text.len() as u32)?,
+            Piece::Byte(byte) => {
+                put(&mut text, to, byte);
+                to += 1;
+            }
+            Piece::Splice => splices.push(to as u32)?,
         }
         at += run + length;
     }
+    text.truncate(to);
     Ok(SourceText { text, splices })
 }

@@ -1,4 +1,4 @@
-use Rattle.std.proofs.Common.{◌≡◌, ◌≤◌, ℕ, zero, suc, ◌∷◌, ◌==◌, ◌||◌, ◌&&◌, [], List, length, take, not, refl, arith, true, false, Bool}
+use Rattle.std.proofs.Common.{◌≡◌, ◌≤◌, ℕ, zero, suc, ◌∷◌, ◌==◌, ◌||◌, ◌&&◌, [], List, take, not, refl, arith, true, false, Bool}
 use Rattle.std.specs.List.{list_all}
 use Rattle.std.specs.Cmp.Derive.{both_true}
 use Rattle.std.proofs.lemmas.Bool.{and_parts}
