@@ -23,9 +23,9 @@ pub enum Kind {
 /// space stands before it or it is the first of its logical line.
 #[derive(Debug, Drop)]
 pub struct Token {
-    pub kind: Kind,
     pub text: Bytes,
     pub line: u32,
+    pub kind: Kind,
     pub space: bool,
 }
 
