@@ -109,6 +109,7 @@ impl Layout {
 
     /// A token of text: on the present output line, or on a later one where its line is later.
     #[tactic(auto, unfolding(crate::specs::Laid::after_event, crate::specs::Layout::written, crate::specs::Layout::line_after, crate::specs::Layout::last_after))]
+    #[inline(always)]
     pub fn put(&mut self, token: &TokenRef<'_>) -> Result<(), LayError>
         ensures ok { OnOk result ((self.new ≡ after_event self.old (put (token_seen token.now))) × (length self.new.text ≤ text_limit)) }
         ensures full { IsErrOf result LayError.Full → text_limit < length (after_event self.old (put (token_seen token.now))).text }
@@ -263,7 +264,7 @@ impl Layout {
     }
 
     // Writes an excerpt and what stands before its next token, with which a new one begins.
-    #[inline(never)]
+    #[inline(always)]
     fn write(&mut self, excerpt: &mut Excerpt<'_>, token: &TokenRef<'_>) -> Result<(), LayError>
         requires first { slice_get excerpt.old.rest 0 ≡ Some (token_seen token.now) }
         ensures ok { OnOk result (TakesNext self.old excerpt.old self.new excerpt.new (token_seen token.now)) }

@@ -45,6 +45,7 @@ impl Text {
         let _ = self.bytes.reserve(more.min(TEXT_LIMIT));
     }
 
+    #[inline(always)]
     pub fn append(&mut self, more: &[u8]) -> Result<(), LayError>
         ensures ok { OnOk result (self.new ≡ self.old ++ more.now) }
         ensures within { length self.new ≤ text_limit }

@@ -51,6 +51,7 @@ impl Definition {
     /// out a `#` that no parameter follows and a `##` that stands first or last (ISO C 6.10.3.2 paragraph 1, 6.10.3.3 paragraph 1).
     /// The tokens of a macro with parameters are looked up among these here, once: time is linear in both lists, on average. No
     /// memory is taken where there are no parameters. The only error is want of memory, which is also what more than 2^32 parameters give.
+    #[inline(always)]
     pub fn new(alloc: Global, shape: Shape, body: List<Token>) -> Result<Definition, AllocError>
         ensures { IfOk result (λ d. d ≡ definition_from shape body) }
     {

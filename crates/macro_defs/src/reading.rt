@@ -14,6 +14,7 @@ use std::alloc::{AllocError, Global};
 
 /// Whether a token may name a macro, in `#define` and in `#undef` (ISO C 6.10.8 paragraph 4): an identifier other than
 /// `defined`, `__FILE__`, `__LINE__`, `__VA_ARGS__` and `__has_include`.
+#[inline(always)]
 pub fn names_macro(token: &Token) -> bool
     ensures { result ≡ spec.names_macro token.now }
 {

@@ -11,6 +11,7 @@ use pp_tokens::Token;
 use std::alloc::{AllocError, Global};
 
 // A macro of this form with this replacement list, where a parameter follows each `#`.
+#[inline(always)]
 pub(crate) fn with_body(
     alloc: Global,
     shape: Shape,

@@ -61,6 +61,7 @@ impl<'a> Pending<'a> {
     }
 
     // Takes the first token.
+    #[inline(always)]
     pub(crate) fn pop(&mut self) -> Option<Marked<'a>>
         ensures first { MatchOption result ((self.old ≡ []) × (self.new ≡ [])) (λ t. self.old ≡ t ∷ self.new) }
         ensures len { IfSome result (λ t. length self.new + 1 ≡ length self.old) }
@@ -149,6 +150,7 @@ impl<'a> Pending<'a> {
     }
 
     // Puts tokens before the others.
+    #[inline(always)]
     pub(crate) fn put_back(&mut self, made: Vec<Marked<'a>>) -> Result<(), RunError>
         ensures ok { OnOk result (self.new ≡ made.entry.items ++ self.old) }
         ensures err { IfErr result (λ e. e ≡ RunError.Memory) }

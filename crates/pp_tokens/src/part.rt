@@ -31,8 +31,8 @@ fn last_length(bytes: &[u8]) -> usize
     bytes.iter().take_while(|b| is_identifier_byte(**b)).count()
 }
 
-/// The same, four by four, since most identifiers are short.
-#[inline(always)]
+/// The same, four by four, since most identifiers are short. It is compiled by itself, where its loop has registers enough.
+#[inline(never)]
 pub fn word_length(bytes: &[u8]) -> usize
     ensures run { result ≡ length (take_while is_identifier_byte bytes.now) }
     ensures within { result ≤ length bytes.now }
