@@ -166,7 +166,8 @@ fn catch_up(
 {
     begin(alloc, naming, job)?;
     while naming.told < sheets.len() {
-        naming.grown.add_all(alloc, sheets[naming.told].1.defs())?;
+        let defs = sheets[naming.told].1.defs(alloc)?;
+        naming.grown.add_all(alloc, defs.as_slice())?;
         naming.told += 1;
     }
     Ok(())

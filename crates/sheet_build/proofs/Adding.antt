@@ -1,7 +1,7 @@
 -- How sheets grow.
 use Rattle.std.proofs.Common.{◌≡◌, ◌<◌, ◌+◌, ◌++◌, ◌∷◌, [], ℕ, Bool, true, false, ◌||◌, List, length, take, get_or, map, Option, Some, refl, sym, ap, ◌∙◌, append_assoc, if◌then◌else◌}
 use Rattle.std.specs.Prelude.{codes, bytes_eq}
-use Rattle.std.specs.List.{filter_map, flat_map}
+use Rattle.std.specs.List.{filter_map, flat_map, cons_option}
 use Rattle.std.specs.Option.{option_map}
 use Rattle.std.proofs.Math.Bool.{or-false}
 use Rattle.std.proofs.lemmas.List.{append-nil, map-append, take_more}
@@ -26,8 +26,8 @@ use Rattle.search_path.specs.Search.{Hit}
 use Rattle.search_path.specs.declared.asking.Ask.{Ask}
 use Rattle.search_path.specs.declared.asking.Visit.{Visit}
 use Rattle.tree_model.specs.declared.walk.Located.{Located}
-use Rattle.sheet_build.specs.Sheet.{empty_sheet, SheetData, ComputedAsk, AskedTarget, asked_so, plain_hit, computed_of, includes_in, probes_in, probes_for, definition_in, is_line, sheet_from}
-use Rattle.sheet_build.specs.parts.Stored.{AddsNothing, joined_sheets, with_includes, with_probes}
+use Rattle.sheet_build.specs.Sheet.{empty_sheet, SheetData, ComputedAsk, AskedTarget, asked_so, plain_hit, computed_of, includes_in, probes_in, probes_for, definition_in, is_line}
+use Rattle.sheet_build.specs.parts.Stored.{AddsNothing, asked_from, joined_sheets, with_includes, with_probes}
 
 abbrev sheet_made : List Named → List Hit → List Located → List ComputedAsk → Bool → SheetData
 sheet_made defs plain probes computed has_line = record { defs = defs; plain = plain; probes = probes; computed = computed; has_line = has_line }
@@ -35,6 +35,10 @@ sheet_made defs plain probes computed has_line = record { defs = defs; plain = p
 same_sheet : (d d' : List Named) (p p' : List Hit) (q q' : List Located) (c c' : List ComputedAsk) (b b' : Bool) → d ≡ d' → p ≡ p' → q ≡ q' → c ≡ c' → b ≡ b' →
     sheet_made d p q c b ≡ sheet_made d' p' q' c' b'
 same_sheet d d' p p' q q' c c' b b' ds ps qs cs bs = λ i. sheet_made (ds i) (ps i) (qs i) (cs i) (bs i)
+
+-- a sheet with other definitions
+abbrev pub with_defs : List Named → SheetData → SheetData
+with_defs defs s = sheet_made defs s.plain s.probes s.computed s.has_line
 
 abbrev hits : (Ask → Option Hit) → Visit → List AskedTarget → List Hit
 hits find visit asks = filter_map (plain_hit find visit) asks
@@ -95,13 +99,13 @@ hits-append find visit f ps qs =
     ap (λ (xs : List AskedTarget). hits find visit xs) (flat_map-append f ps qs) ∙ filter_map-append (plain_hit find visit) (flat_map f ps) (flat_map f qs)
 
 -- the sheet of pieces one behind the other
-pub sheet-append : (find : Ask → Option Hit) (visit : Visit) (ps qs : List Piece) → sheet_from find visit (ps ++ qs) ≡ joined_sheets (sheet_from find visit ps) (sheet_from find visit qs)
+pub sheet-append : (find : Ask → Option Hit) (visit : Visit) (ps qs : List Piece) → asked_from find visit (ps ++ qs) ≡ joined_sheets (asked_from find visit ps) (asked_from find visit qs)
 sheet-append find visit ps qs =
-    let a = sheet_from find visit ps in
-    let b = sheet_from find visit qs in
-    let w = sheet_from find visit (ps ++ qs) in
+    let a = asked_from find visit ps in
+    let b = asked_from find visit qs in
+    let w = asked_from find visit (ps ++ qs) in
     same_sheet w.defs (a.defs ++ b.defs) w.plain (a.plain ++ b.plain) w.probes (a.probes ++ b.probes) w.computed (a.computed ++ b.computed) w.has_line (a.has_line || b.has_line)
-    (filter_map-append definition_in ps qs)
+    refl
     (hits-append find visit includes_in ps qs)
     (ap (λ (hs : List Hit). map (λ hit. hit.1) hs) (hits-append find visit probes_in ps qs) ∙ map-append (λ (hit : Hit). hit.1) (hits find visit (flat_map probes_in ps)) (hits find visit (flat_map probes_in qs)))
     (ap (λ (xs : List AskedTarget). filter_map computed_of xs) (flat_map-append asks_in ps qs) ∙ filter_map-append computed_of (flat_map asks_in ps) (flat_map asks_in qs))
@@ -109,18 +113,28 @@ sheet-append find visit ps qs =
 
 -- one piece more was read
 pub pieces-next : (find : Ask → Option Hit) (visit : Visit) (ps : List Piece) (i : ℕ) (p : Piece) (old new : SheetData) → i < length ps → p ≡ get_or ps i p →
-    old ≡ sheet_from find visit (take i ps) → new ≡ joined_sheets old (sheet_from find visit (p ∷ [])) → new ≡ sheet_from find visit (take (i + 1) ps)
+    old ≡ asked_from find visit (take i ps) → new ≡ joined_sheets old (asked_from find visit (p ∷ [])) → new ≡ asked_from find visit (take (i + 1) ps)
 pieces-next find visit ps i p old new below is before added =
     added
-    ∙ ap (λ (s : SheetData). joined_sheets s (sheet_from find visit (p ∷ []))) before
+    ∙ ap (λ (s : SheetData). joined_sheets s (asked_from find visit (p ∷ []))) before
     ∙ sym (sheet-append find visit (take i ps) (p ∷ []))
-    ∙ ap (λ (q : Piece). sheet_from find visit (take i ps ++ q ∷ [])) is
-    ∙ ap (λ (qs : List Piece). sheet_from find visit qs) (sym (take_more ps i p below))
+    ∙ ap (λ (q : Piece). asked_from find visit (take i ps ++ q ∷ [])) is
+    ∙ ap (λ (qs : List Piece). asked_from find visit qs) (sym (take_more ps i p below))
+
+-- the definitions of one piece more
+pub definitions-next : (ps : List Piece) (i : ℕ) (p : Piece) (old new : List Named) → i < length ps → p ≡ get_or ps i p → old ≡ filter_map definition_in (take i ps)
+    → new ≡ old ++ cons_option (definition_in p) [] → new ≡ filter_map definition_in (take (i + 1) ps)
+definitions-next ps i p old new below is before added =
+    added
+    ∙ ap (λ (defs : List Named). defs ++ cons_option (definition_in p) []) before
+    ∙ sym (filter_map-append definition_in (take i ps) (p ∷ []))
+    ∙ ap (λ (q : Piece). filter_map definition_in (take i ps ++ q ∷ [])) is
+    ∙ ap (λ (qs : List Piece). filter_map definition_in qs) (sym (take_more ps i p below))
 
 -- ---- what a directive adds ----
 
 abbrev sheet_on : (Ask → Option Hit) → Visit → ℕ → Directive → SheetData
-sheet_on find visit at what = sheet_from find visit (Line at what ∷ [])
+sheet_on find visit at what = asked_from find visit (Line at what ∷ [])
 
 -- what a sheet becomes with a directive that is this one
 pub on-line : (find : Ask → Option Hit) (visit : Visit) (at : ℕ) (what shown : Directive) (s : SheetData) {n : SheetData} → what ≡ shown →
@@ -196,29 +210,29 @@ pragma-empty find visit at (t ∷ ts) = by (bytes_eq t.text (codes "once"))
     by false = refl
 
 others-empty : (find : Ask → Option Hit) (visit : Visit) (at : ℕ) (n : DirectiveName) (ts : List Token) →
-    (n ≡ name.Include → ⊥) → (n ≡ name.Next → ⊥) → (n ≡ name.Define → ⊥) → (n ≡ name.Line → ⊥) → (n ≡ name.If → ⊥) → (n ≡ name.Elif → ⊥) → empty_sheet ≡ sheet_on find visit at (directive_told n ts)
-others-empty find visit at name.Include ts a b c d e f = absurd (a refl)
-others-empty find visit at name.Next ts a b c d e f = absurd (b refl)
-others-empty find visit at name.Define ts a b c d e f = absurd (c refl)
-others-empty find visit at name.Line ts a b c d e f = absurd (d refl)
-others-empty find visit at name.If ts a b c d e f = absurd (e refl)
-others-empty find visit at name.Elif ts a b c d e f = absurd (f refl)
-others-empty find visit at name.Undef ts a b c d e f = refl
-others-empty find visit at name.Ifdef ts a b c d e f = refl
-others-empty find visit at name.Ifndef ts a b c d e f = refl
-others-empty find visit at name.Else ts a b c d e f = refl
-others-empty find visit at name.Endif ts a b c d e f = refl
-others-empty find visit at name.Error ts a b c d e f = refl
-others-empty find visit at name.Warning ts a b c d e f = refl
-others-empty find visit at name.Pragma ts a b c d e f = pragma-empty find visit at ts
-others-empty find visit at name.Null ts a b c d e f = refl
-others-empty find visit at name.Unknown ts a b c d e f = refl
+    (n ≡ name.Include → ⊥) → (n ≡ name.Next → ⊥) → (n ≡ name.Line → ⊥) → (n ≡ name.If → ⊥) → (n ≡ name.Elif → ⊥) → empty_sheet ≡ sheet_on find visit at (directive_told n ts)
+others-empty find visit at name.Include ts a b c d e = absurd (a refl)
+others-empty find visit at name.Next ts a b c d e = absurd (b refl)
+others-empty find visit at name.Define ts a b c d e = refl
+others-empty find visit at name.Line ts a b c d e = absurd (c refl)
+others-empty find visit at name.If ts a b c d e = absurd (d refl)
+others-empty find visit at name.Elif ts a b c d e = absurd (e refl)
+others-empty find visit at name.Undef ts a b c d e = refl
+others-empty find visit at name.Ifdef ts a b c d e = refl
+others-empty find visit at name.Ifndef ts a b c d e = refl
+others-empty find visit at name.Else ts a b c d e = refl
+others-empty find visit at name.Endif ts a b c d e = refl
+others-empty find visit at name.Error ts a b c d e = refl
+others-empty find visit at name.Warning ts a b c d e = refl
+others-empty find visit at name.Pragma ts a b c d e = pragma-empty find visit at ts
+others-empty find visit at name.Null ts a b c d e = refl
+others-empty find visit at name.Unknown ts a b c d e = refl
 
 -- a name that tells so
 pub others-add-nothing : (what : Directive) (n : DirectiveName) (ts : List Token) → what ≡ directive_told n ts →
-    (n ≡ name.Include → ⊥) → (n ≡ name.Next → ⊥) → (n ≡ name.Define → ⊥) → (n ≡ name.Line → ⊥) → (n ≡ name.If → ⊥) → (n ≡ name.Elif → ⊥) → AddsNothing what
-others-add-nothing what n ts is a b c d e f find visit at s =
-    on-line find visit at what (directive_told n ts) s is (joined-empty s ∙ ap (joined_sheets s) (others-empty find visit at n ts a b c d e f))
+    (n ≡ name.Include → ⊥) → (n ≡ name.Next → ⊥) → (n ≡ name.Line → ⊥) → (n ≡ name.If → ⊥) → (n ≡ name.Elif → ⊥) → AddsNothing what
+others-add-nothing what n ts is a b c d e find visit at s =
+    on-line find visit at what (directive_told n ts) s is (joined-empty s ∙ ap (joined_sheets s) (others-empty find visit at n ts a b c d e))
 
 -- a condition that asks for no file
 pub if-adds-nothing : (what : Directive) (ts : List Token) → what ≡ named.If ts → parts_of ts ≡ Some (map Written ts) → AddsNothing what

@@ -8,7 +8,7 @@ ghost use Rattle.tree_model.specs.Bodies.{body_within};
 ghost use Rattle.base_types.specs.Limits.{body_limit};
 ghost use Rattle.search_path.specs.Search.{search};
 ghost use Rattle.sheet_build.specs.Sheet.{sheet_of, sheet_from, body_of_place, IsLargeAt};
-ghost use Rattle.sheet_build.specs.parts.Stored.{sheet_of_parts};
+ghost use Rattle.sheet_build.specs.parts.Stored.{sheet_of_parts, asked_from};
 
 use crate::directives::add_piece;
 use crate::sheets::{Parts, Sheet};
@@ -37,8 +37,7 @@ pub fn sheet<T: Tree>(
     let Some(body) = body_at(alloc, tree, &visit.place)? else {
         return Err(TreeError::Large);
     };
-    let parts = parts_of_body(alloc, tree, setup, visit, body.as_slice())?;
-    Ok(Sheet::new(alloc, parts)?)
+    sheet_of_body(alloc, tree, setup, visit, body.as_slice())
 }
 
 // The bytes of the file that a place leads to, none where there is none; None where they are too many.
@@ -61,17 +60,17 @@ fn body_at<T: Tree>(
     }
 }
 
-// What is kept of a file with these bytes.
-fn parts_of_body<T: Tree>(
+// The sheet of a file with these bytes.
+fn sheet_of_body<T: Tree>(
     alloc: Global,
     tree: &mut T,
     setup: &Setup,
     visit: &Visit,
     body: &[u8],
-) -> Result<Parts, TreeError>
+) -> Result<Sheet, TreeError>
     requires { length body.now ≤ body_limit }
     ensures same { T.told tree.new ≡ T.told tree.old }
-    ensures parts { ForSome (T.told tree.old) (λ told. IfOk result (λ parts. sheet_of_parts parts ≡ sheet_from (search told setup.now) visit.now (scanning.pieces (lexed setup.now.trigraphs body.now).lines))) }
+    ensures sheet { ForSome (T.told tree.old) (λ told. IfOk result (λ sheet. sheet ≡ sheet_from (search told setup.now) visit.now (scanning.pieces (lexed setup.now.trigraphs body.now).lines))) }
     ensures cause { HasCause TreeError.Fault (T.faults tree.old) (T.faults tree.new) result }
     ensures never_large { IsErrOf result TreeError.Large → ⊥ }
     ensures no_read { T.reads tree.new ≡ T.reads tree.old }
@@ -79,10 +78,11 @@ fn parts_of_body<T: Tree>(
     directives_stand_alone();
     let lexed = lex_directives(alloc, body, setup.trigraphs())?;
     let pieces = Pieces::of(alloc, lexed)?;
-    parts_of_pieces(alloc, tree, setup, visit, &pieces)
+    let parts = parts_of_pieces(alloc, tree, setup, visit, &pieces)?;
+    Ok(Sheet::new(alloc, pieces, parts, body.len())?)
 }
 
-// What is kept of a file with these pieces.
+// What the sheet of a file with these pieces has but for its definitions.
 fn parts_of_pieces<T: Tree>(
     alloc: Global,
     tree: &mut T,
@@ -91,7 +91,7 @@ fn parts_of_pieces<T: Tree>(
     pieces: &Pieces,
 ) -> Result<Parts, TreeError>
     ensures same { T.told tree.new ≡ T.told tree.old }
-    ensures parts { ForSome (T.told tree.old) (λ told. IfOk result (λ parts. sheet_of_parts parts ≡ sheet_from (search told setup.now) visit.now pieces.now)) }
+    ensures parts { ForSome (T.told tree.old) (λ told. IfOk result (λ parts. sheet_of_parts parts ≡ asked_from (search told setup.now) visit.now pieces.now)) }
     ensures cause { HasCause TreeError.Fault (T.faults tree.old) (T.faults tree.new) result }
     ensures never_large { IsErrOf result TreeError.Large → ⊥ }
     ensures no_read { T.reads tree.new ≡ T.reads tree.old }

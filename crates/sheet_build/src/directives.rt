@@ -1,20 +1,14 @@
-// What directives add to a sheet (ISO C 6.10).
+// What directives add to a sheet but for definitions (ISO C 6.10).
 ghost use Rattle.std.specs.Prelude.{◌≡◌, false, ℕ, ◌∷◌, [], OnOk, IsErrOf};
-ghost use Rattle.std.specs.List.{cons_option};
 ghost use Rattle.std.specs.Option.{ForSome};
 ghost use Rattle.base_types.specs.Causes.{HasCause};
 ghost use Rattle.directive_scan.specs.Spots.{piece_seen, directive_seen};
 ghost use Rattle.directive_scan.specs.declared.Piece.TheVariants.{Line};
-ghost use Rattle.macro_defs.specs.Defining.{defined_by};
-ghost use Rattle.sheet_build.specs.Sheet.{accepted};
-ghost use Rattle.sheet_build.specs.parts.Stored.{sheet_of_parts, with_definitions, Adds, AddsNothing};
+ghost use Rattle.sheet_build.specs.parts.Stored.{Adds, AddsNothing};
 
 use crate::sheets::Parts;
 use crate::targets::{add_include, add_probes};
-use base_types::List;
 use directive_scan::{Directive, DirectiveName, DirectiveRef, PieceRef, parts_without_probe};
-use macro_defs::{DefineError, read_define};
-use pp_tokens::Token;
 use search_path::{Setup, Visit};
 use std::alloc::Global;
 use tree_model::{Tree, TreeError};
@@ -46,7 +40,7 @@ pub fn add_piece<T: Tree>(
     }
 }
 
-// Whether a directive may add something to a sheet, as far as its name tells it, and as a condition asks for a file.
+// Whether a directive may add something, as far as its name tells it, and as a condition asks for a file.
 fn may_add(line: DirectiveRef<'_>) -> bool
     ensures { result ≡ false → AddsNothing (directive_seen line.entry) }
 {
@@ -54,7 +48,6 @@ fn may_add(line: DirectiveRef<'_>) -> bool
     match line.name() {
         DirectiveName::Include => true,
         DirectiveName::Next => true,
-        DirectiveName::Define => true,
         DirectiveName::Line => true,
         DirectiveName::If => line.has_probe(),
         DirectiveName::Elif => line.has_probe(),
@@ -80,7 +73,6 @@ fn add_directive<T: Tree>(
     match what {
         Directive::Include(target) => add_include(alloc, tree, setup, visit, false, target, parts),
         Directive::Next(target) => add_include(alloc, tree, setup, visit, true, target, parts),
-        Directive::Define(tokens) => add_definition(alloc, tokens, parts),
         Directive::If(tokens) => add_probes(alloc, tree, setup, visit, tokens.as_slice(), parts),
         Directive::Elif(tokens) => add_probes(alloc, tree, setup, visit, tokens.as_slice(), parts),
         Directive::Line(_) => {
@@ -88,21 +80,5 @@ fn add_directive<T: Tree>(
             Ok(())
         }
         _ => Ok(()),
-    }
-}
-
-// A `#define`: one that is refused adds nothing.
-fn add_definition(alloc: Global, tokens: List<Token>, parts: &mut Parts) -> Result<(), TreeError>
-    ensures adds { OnOk result (sheet_of_parts parts.new ≡ with_definitions (cons_option (accepted (defined_by tokens)) []) (sheet_of_parts parts.old)) }
-    ensures no_fault { IsErrOf result TreeError.Fault → ⊥ }
-    ensures never_large { IsErrOf result TreeError.Large → ⊥ }
-{
-    match read_define(alloc, tokens) {
-        Ok(definition) => {
-            parts.defs.push(definition)?;
-            Ok(())
-        }
-        Err(DefineError::Memory) => Err(TreeError::Memory),
-        Err(_) => Ok(()),
     }
 }

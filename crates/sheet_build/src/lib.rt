@@ -3,6 +3,7 @@
 
 mod building;
 mod computed;
+mod definitions;
 mod directives;
 mod keys;
 mod laws;

@@ -1,9 +1,15 @@
 // Sheets.
-ghost use Rattle.std.specs.Prelude.{◌≡◌, ◌-◌, ◌^◌, length, min, sum_by, IfOk};
-ghost use Rattle.sheet_build.specs.parts.Stored.{sheet_of_parts};
+ghost use Rattle.std.specs.Prelude.{◌≡◌, ◌-◌, ◌^◌, List, length, min, sum_by, IfOk};
+ghost use Rattle.std.specs.List.{filter_map};
+ghost use Rattle.macro_defs.specs.Defining.{Named};
+ghost use Rattle.sheet_build.specs.Sheet.{definition_in};
+ghost use Rattle.sheet_build.specs.Weights.{tokens_defined, sheet_weight};
+ghost use Rattle.sheet_build.specs.parts.Stored.{defs_seen, sheet_with};
 
 use crate::computed::Computed;
+use crate::definitions::{copies, count_tokens, definitions_in};
 use base_types::{Bytes, List};
+use directive_scan::Pieces;
 use macro_defs::Definition;
 use search_path::Visit;
 use std::alloc::{AllocError, Global};
@@ -14,13 +20,27 @@ use tree_model::Located;
 /// What a file may define and ask for, whatever its conditionals say. Copies share what they hold.
 #[derive(Drop)]
 pub struct Sheet {
-    parts: Arc<Parts, Global>,
+    contents: Arc<Contents, Global>,
 }
 
-// What a sheet and its copies hold.
+// What a sheet and its copies hold. `tokens` is how many tokens its definitions have, up to 2^64 - 1.
+#[derive(Drop)]
+struct Contents {
+    defs: Defs,
+    tokens: u64,
+    parts: Parts,
+}
+
+// The definitions of a file: as they are, or the file, from which they are read where they are asked for.
+#[derive(Drop)]
+pub enum Defs {
+    Read(List<(Bytes, Definition)>),
+    Unread(Pieces),
+}
+
+// What a sheet has but for its definitions.
 #[derive(Drop)]
 pub struct Parts {
-    pub defs: List<(Bytes, Definition)>,
     pub plain: List<(Visit, Located)>,
     pub probes: List<Located>,
     pub computed: List<Computed>,
@@ -37,7 +57,6 @@ impl Parts {
         ensures { sheet_of_parts result ≡ empty_sheet }
     {
         Parts {
-            defs: List::new(alloc),
             plain: List::new(alloc),
             probes: List::new(alloc),
             computed: List::new(alloc),
@@ -49,24 +68,43 @@ impl Parts {
 impl Model for Sheet {
     ghost use Rattle.std.specs.Arc.{arc_value};
     ghost use Rattle.sheet_build.specs.Sheet.{SheetData};
-    ghost use Rattle.sheet_build.specs.parts.Stored.{sheet_of_parts};
+    ghost use Rattle.std.specs.Prelude.{◌≡◌, ◌-◌, ◌^◌, min};
+    ghost use Rattle.sheet_build.specs.Weights.{tokens_defined};
+    ghost use Rattle.sheet_build.specs.parts.Stored.{defs_seen, sheet_with};
 
     ghost Value = { SheetData };
 
-    ghost view = { λ s. sheet_of_parts (arc_value s.parts) };
+    ghost view = { λ s. sheet_with (defs_seen (arc_value s.contents).defs) (arc_value s.contents).parts };
+
+    ghost invariant = { λ s. (arc_value s.contents).tokens ≡ min (2 ^ 64 - 1) (tokens_defined (defs_seen (arc_value s.contents).defs)) };
 }
 
 impl Sheet {
-    ghost use Rattle.std.specs.Prelude.{map};
-    ghost use Rattle.sheet_build.specs.Sheet.{named_pair};
+    ghost use Rattle.std.specs.Prelude.{◌≡◌, map, IfOk};
+    ghost use Rattle.std.specs.List.{filter_map};
+    ghost use Rattle.sheet_build.specs.Sheet.{named_pair, definition_in};
     ghost use Rattle.sheet_build.specs.Weights.{sheet_weight};
+    ghost use Rattle.sheet_build.specs.parts.Stored.{sheet_with};
 
-    // A sheet of these parts.
-    pub(crate) fn new(alloc: Global, parts: Parts) -> Result<Sheet, AllocError>
-        ensures { IfOk result (λ sheet. sheet ≡ sheet_of_parts parts) }
+    // The sheet of a file of so many bytes: the definitions in its pieces, and these parts.
+    pub(crate) fn new(
+        alloc: Global,
+        pieces: Pieces,
+        parts: Parts,
+        bytes: usize,
+    ) -> Result<Sheet, AllocError>
+        ensures { IfOk result (λ sheet. sheet ≡ sheet_with (filter_map definition_in pieces) parts) }
     {
+        let tokens = count_tokens(alloc, pieces.lexed())?;
+        let weight = weight_of(tokens, &parts);
+        let defs = kept_defs(alloc, pieces, bytes, weight)?;
+        let contents = Contents {
+            defs,
+            tokens,
+            parts,
+        };
         Ok(Sheet {
-            parts: Arc::new(alloc, parts)?,
+            contents: Arc::new(alloc, contents)?,
         })
     }
 
@@ -75,7 +113,7 @@ impl Sheet {
         ensures { IfOk result (λ copy. copy ≡ self.now) }
     {
         Ok(Sheet {
-            parts: Arc::try_clone(&self.parts)?,
+            contents: Arc::try_clone(&self.contents)?,
         })
     }
 
@@ -84,57 +122,75 @@ impl Sheet {
     pub fn weight(&self) -> u64
         ensures { result ≡ sheet_weight self.now }
     {
-        let tokens = definition_tokens(self.defs());
-        let tokens = tokens.saturating_add(computed_tokens(self.computed()));
-        let nodes = plain_nodes(self.plain()).saturating_add(probe_nodes(self.probes()));
-        tokens.saturating_add(nodes).saturating_add(1)
+        weight_of(self.contents.tokens, &self.contents.parts)
     }
 
-    /// The definitions of its `#define` lines that are well formed, in order (ISO C 6.10.3).
-    pub fn defs(&self) -> &[(Bytes, Definition)]
-        ensures { map named_pair result.now ≡ self.now.defs }
+    /// The definitions of its `#define` lines that are well formed, in order (ISO C 6.10.3). The only error is want of memory.
+    pub fn defs(&self, alloc: Global) -> Result<List<(Bytes, Definition)>, AllocError>
+        ensures { IfOk result (λ defs. map named_pair defs ≡ self.now.defs) }
     {
-        self.parts.defs.as_slice()
+        match &self.contents.defs {
+            Defs::Read(defs) => copies(alloc, defs.as_slice()),
+            Defs::Unread(pieces) => definitions_in(alloc, pieces),
+        }
     }
 
     /// The files found by its includes whose names are written, in order.
     pub fn plain(&self) -> &[(Visit, Located)]
         ensures { result.now ≡ self.now.plain }
     {
-        self.parts.plain.as_slice()
+        self.contents.parts.plain.as_slice()
     }
 
     /// The files found by operands of `__has_include` whose names are written, in order.
     pub fn probes(&self) -> &[Located]
         ensures { result.now ≡ self.now.probes }
     {
-        self.parts.probes.as_slice()
+        self.contents.parts.probes.as_slice()
     }
 
     /// Its computed targets, in order.
     pub fn computed(&self) -> &[Computed]
         ensures { result.now ≡ self.now.computed }
     {
-        self.parts.computed.as_slice()
+        self.contents.parts.computed.as_slice()
     }
 
     /// Whether a `#line` stands in the file, so that its presumed name may change (ISO C 6.10.4).
     pub fn has_line(&self) -> bool
         ensures { result ≡ self.now.has_line }
     {
-        self.parts.has_line
+        self.contents.parts.has_line
     }
 }
 
-// The tokens of definitions, up to 2^64 - 1.
-fn definition_tokens(defs: &[(Bytes, Definition)]) -> u64
-    ensures { result ≡ min (2 ^ 64 - 1) (sum_by (λ named. length named.1.body) defs.now) }
+// What a sheet weighs, by the tokens of its definitions, up to 2^64 - 1, and by its parts.
+fn weight_of(tokens: u64, parts: &Parts) -> u64
+    ensures { (defs : List Named) → tokens ≡ min (2 ^ 64 - 1) (tokens_defined defs) → result ≡ sheet_weight (sheet_with defs parts.now) }
 {
-    let mut tokens: u64 = 0;
-    for named in defs {
-        tokens = tokens.saturating_add(named.1.body().len() as u64);
+    let tokens = tokens.saturating_add(computed_tokens(parts.computed.as_slice()));
+    let plain = plain_nodes(parts.plain.as_slice());
+    let nodes = plain.saturating_add(probe_nodes(parts.probes.as_slice()));
+    tokens.saturating_add(nodes).saturating_add(1)
+}
+
+// The definitions of a file of so many bytes, as a sheet of this weight keeps them. A file that is long beside the weight isn't kept.
+fn kept_defs(alloc: Global, pieces: Pieces, bytes: usize, weight: u64) -> Result<Defs, AllocError>
+    ensures { IfOk result (λ defs. defs_seen defs ≡ filter_map definition_in pieces) }
+{
+    if is_kept(bytes, weight) {
+        return Ok(Defs::Unread(pieces));
     }
-    tokens
+    let defs = definitions_in(alloc, &pieces)?;
+    Ok(Defs::Read(defs))
+}
+
+// How many bytes of a file a sheet may keep for each unit of its weight.
+const KEPT: u64 = 128;
+
+// Whether a file of so many bytes may be kept in a sheet of this weight.
+fn is_kept(bytes: usize, weight: u64) -> bool {
+    bytes as u64 <= weight.saturating_mul(KEPT)
 }
 
 // The tokens of computed targets, up to 2^64 - 1.

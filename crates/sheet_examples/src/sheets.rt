@@ -187,7 +187,8 @@ fn add_place(
 // A sheet, a line for each thing that it has.
 fn shown(alloc: Global, sheet: &Sheet) -> Result<String, AllocError> {
     let mut out = String::new(alloc);
-    for (name, _) in sheet.defs() {
+    let defs = sheet.defs(alloc)?;
+    for (name, _) in defs.as_slice() {
         add_line(&mut out, "define ", name.as_slice())?;
     }
     add_files(&mut out, sheet)?;

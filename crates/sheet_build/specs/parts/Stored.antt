@@ -1,6 +1,6 @@
 -- What code keeps of a sheet, and how it grows piece by piece.
 use Rattle.std.specs.Prelude.{◌≡◌, ℕ, List, [], ◌∷◌, ◌++◌, ◌||◌, Option, map}
-use Rattle.std.specs.List.{filter_map}
+use Rattle.std.specs.List.{filter_map, flat_map, list_any}
 use Rattle.directive_scan.specs.declared.Directive.{Directive}
 use Rattle.directive_scan.specs.declared.Piece.{Piece}
 use Rattle.directive_scan.specs.declared.Piece.TheVariants.{Line}
@@ -10,12 +10,33 @@ use Rattle.search_path.specs.Search.{Hit, search}
 use Rattle.search_path.specs.declared.asking.Ask.{Ask}
 use Rattle.search_path.specs.declared.asking.Visit.{Visit}
 use Rattle.tree_model.specs.Trees.{FileTree}
-use Rattle.sheet_build.specs.Sheet.{SheetData, AskedTarget, plain_hit, computed_of, sheet_from, named_pair}
+use Rattle.sheet_build.specs.Sheet.{SheetData, AskedTarget, plain_hit, computed_of, includes_in, probes_in, definition_in, is_line, named_pair}
 use Rattle.sheet_build.specs.declared.sheets.Parts.{Parts}
+use Rattle.sheet_build.specs.declared.sheets.Defs.{Defs}
+use Rattle.sheet_build.specs.declared.sheets.Defs.TheVariants.{Read, Unread}
 
--- the sheet of these parts
+-- the definitions that are kept so
+abbrev pub defs_seen : Defs → List Named
+defs_seen (Read defs) = map named_pair defs
+defs_seen (Unread ps) = filter_map definition_in ps
+
+-- the sheet of these definitions and parts
+abbrev pub sheet_with : List Named → Parts → SheetData
+sheet_with defs p = record { defs = defs; plain = p.plain; probes = p.probes; computed = p.computed; has_line = p.has_line }
+
+-- that of these parts, without definitions
 abbrev pub sheet_of_parts : Parts → SheetData
-sheet_of_parts p = record { defs = map named_pair p.defs; plain = p.plain; probes = p.probes; computed = p.computed; has_line = p.has_line }
+sheet_of_parts = sheet_with []
+
+-- the sheet of a file with these pieces, but for its definitions
+abbrev pub asked_from : (Ask → Option Hit) → Visit → List Piece → SheetData
+asked_from find visit ps = record {
+  defs = [];
+  plain = filter_map (plain_hit find visit) (flat_map includes_in ps);
+  probes = map (λ hit. hit.1) (filter_map (plain_hit find visit) (flat_map probes_in ps));
+  computed = filter_map computed_of (flat_map (λ p. includes_in p ++ probes_in p) ps);
+  has_line = list_any is_line ps;
+}
 
 -- the sheet of some pieces with that of the pieces behind them
 abbrev pub joined_sheets : SheetData → SheetData → SheetData
@@ -29,15 +50,11 @@ joined_sheets s t = record {
 
 -- what some pieces add to parts
 abbrev pub Adds : FileTree → SetupData → Visit → List Piece → Parts → Parts → Type 0
-Adds told setup visit ps old new = sheet_of_parts new ≡ joined_sheets (sheet_of_parts old) (sheet_from (search told setup) visit ps)
+Adds told setup visit ps old new = sheet_of_parts new ≡ joined_sheets (sheet_of_parts old) (asked_from (search told setup) visit ps)
 
 -- a directive adds nothing, on whatever line
 abbrev pub AddsNothing : Directive → Type 0
-AddsNothing d = (find : Ask → Option Hit) (visit : Visit) (at : ℕ) (s : SheetData) → s ≡ joined_sheets s (sheet_from find visit (Line at d ∷ []))
-
--- a sheet with more definitions
-abbrev pub with_definitions : List Named → SheetData → SheetData
-with_definitions defs s = record { defs = s.defs ++ defs; plain = s.plain; probes = s.probes; computed = s.computed; has_line = s.has_line }
+AddsNothing d = (find : Ask → Option Hit) (visit : Visit) (at : ℕ) (s : SheetData) → s ≡ joined_sheets s (asked_from find visit (Line at d ∷ []))
 
 -- a sheet with what includes ask for
 abbrev pub with_includes : (Ask → Option Hit) → Visit → List AskedTarget → SheetData → SheetData

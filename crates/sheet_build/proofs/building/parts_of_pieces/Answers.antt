@@ -3,8 +3,7 @@ use Rattle.std.proofs.lemmas.List.{take_all}
 use Rattle.directive_scan.specs.declared.Piece.{Piece}
 use Rattle.directive_scan.specs.Spots.{piece_seen}
 use Rattle.search_path.specs.Search.{search}
-use Rattle.sheet_build.specs.Sheet.{sheet_from}
-use Rattle.sheet_build.specs.parts.Stored.{sheet_of_parts}
+use Rattle.sheet_build.specs.parts.Stored.{sheet_of_parts, asked_from}
 use Rattle.sheet_build.proofs.Adding.{pieces-next}
 use Rattle.sheet_build.proofs.building.parts_of_pieces.Goals as goal
 
@@ -23,4 +22,4 @@ loop-number-preserved g c =
 pub returns-clause-parts : goal.returns-clause-parts
 returns-clause-parts g c = λ told is.
     c.loop-number.invariant.parts told is
-    ∙ ap (λ (ps : List Piece). sheet_from (search told c.args.setup.now) c.args.visit.now ps) (take_all c.loop-number.number c.args.pieces.now (omega arith))
+    ∙ ap (λ (ps : List Piece). asked_from (search told c.args.setup.now) c.args.visit.now ps) (take_all c.loop-number.number c.args.pieces.now (omega arith))

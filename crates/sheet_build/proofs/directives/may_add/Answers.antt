@@ -1,6 +1,5 @@
-use Rattle.std.proofs.Common.{sym, ap, ◌∙◌}
-use Rattle.directive_scan.specs.declared.DirectiveName.{DirectiveName}
-use Rattle.directive_scan.specs.Names.{directive_told, tokens_behind}
+use Rattle.std.proofs.Common.{sym, ◌∙◌}
+use Rattle.directive_scan.specs.Names.{tokens_behind}
 use Rattle.directive_scan.specs.Spots.{directive_seen}
 use Rattle.sheet_build.proofs.Adding.{others-add-nothing, if-adds-nothing, elif-adds-nothing}
 use Rattle.sheet_build.proofs.directives.may_add.Goals as goal
@@ -18,4 +17,4 @@ returns-in-Elif c none =
 pub returns-in_default : goal.returns-in_default
 returns-in_default c none =
     others-add-nothing (directive_seen c.args.line) c.name.result (tokens_behind c.args.line) c.name.ensures
-    c.in_default.not-Include c.in_default.not-Next c.in_default.not-Define c.in_default.not-Line c.in_default.not-If c.in_default.not-Elif
+    c.in_default.not-Include c.in_default.not-Next c.in_default.not-Line c.in_default.not-If c.in_default.not-Elif

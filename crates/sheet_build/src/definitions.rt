@@ -1,0 +1,338 @@
+// The definitions of a file's `#define` lines (ISO C 6.10.3): their tokens are counted where a sheet is built, and they are read where
+// they are asked for.
+ghost use Rattle.std.specs.Prelude.{◌≡◌, ◌∷◌, [], ◌++◌, ◌<◌, ◌≤◌, ◌&&◌, ◌+◌, ◌-◌, ◌^◌, ℕ, List, not, length, drop, map, min, None, false, IfOk, OnOk, IfSome};
+ghost use Rattle.std.specs.List.{cons_option, filter_map, list_any};
+ghost use Rattle.pp_tokens.specs.Lines as lexing;
+ghost use Rattle.pp_tokens.specs.Tokens.{token_seen, rest_of};
+ghost use Rattle.pp_tokens.specs.Marks as marks;
+ghost use Rattle.directive_scan.specs.Directives.{pieces};
+ghost use Rattle.directive_scan.specs.Gathered.{tokens_at_line};
+ghost use Rattle.directive_scan.specs.Spots.{piece_seen, directive_seen, tokens_before};
+ghost use Rattle.macro_defs.specs.Defining as spec;
+ghost use Rattle.sheet_build.specs.Sheet.{named_pair, accepted, definition_in, definition_of};
+ghost use Rattle.sheet_build.specs.Weights.{tokens_defined};
+ghost use Rattle.sheet_build.specs.parts.Counted as counted;
+
+use base_types::{Bytes, List};
+use directive_scan::{Directive, DirectiveName, DirectiveRef, PieceRef, Pieces};
+use macro_defs::{DefineError, Definition, read_define};
+use pp_tokens::{Lexed, Token, TokenRef, Tokens};
+use std::alloc::{AllocError, Global};
+
+// Reading.
+
+// The definitions of the `#define` lines that are well formed, in order.
+pub fn definitions_in(
+    alloc: Global,
+    pieces: &Pieces,
+) -> Result<List<(Bytes, Definition)>, AllocError>
+    ensures { IfOk result (λ defs. map named_pair defs ≡ filter_map definition_in pieces.now) }
+{
+    let mut defs = List::new(alloc);
+    for number in 0..pieces.len() {
+        add_piece(alloc, pieces.piece(number), &mut defs)?;
+    }
+    Ok(defs)
+}
+
+// Adds the definition of a piece, if it has one.
+fn add_piece(
+    alloc: Global,
+    piece: PieceRef<'_>,
+    defs: &mut List<(Bytes, Definition)>,
+) -> Result<(), AllocError>
+    ensures { OnOk result (map named_pair defs.new ≡ map named_pair defs.old ++ cons_option (definition_in (piece_seen piece.entry)) []) }
+{
+    match piece {
+        PieceRef::Run(_) => Ok(()),
+        PieceRef::Line { at: _, what } => {
+            if !may_define(what) {
+                return Ok(());
+            }
+            let what = what.read(alloc)?;
+            add_directive(alloc, what, defs)
+        }
+    }
+}
+
+// Whether a directive may define a macro, as far as its name tells it.
+fn may_define(line: DirectiveRef<'_>) -> bool
+    ensures { result ≡ false → definition_of (directive_seen line.entry) ≡ None }
+{
+    match line.name() {
+        DirectiveName::Define => true,
+        _ => false,
+    }
+}
+
+// Adds the definition of a directive, if it has one.
+fn add_directive(
+    alloc: Global,
+    what: Directive,
+    defs: &mut List<(Bytes, Definition)>,
+) -> Result<(), AllocError>
+    ensures { OnOk result (map named_pair defs.new ≡ map named_pair defs.old ++ cons_option (definition_of what) []) }
+{
+    match what {
+        Directive::Define(tokens) => add_definition(alloc, tokens, defs),
+        _ => Ok(()),
+    }
+}
+
+// Adds the definition that the tokens behind `#define` give: one that is refused adds nothing.
+fn add_definition(
+    alloc: Global,
+    tokens: List<Token>,
+    defs: &mut List<(Bytes, Definition)>,
+) -> Result<(), AllocError>
+    ensures { OnOk result (map named_pair defs.new ≡ map named_pair defs.old ++ cons_option (accepted (spec.defined_by tokens)) []) }
+{
+    match read_define(alloc, tokens) {
+        Ok(definition) => {
+            defs.push(definition)?;
+            Ok(())
+        }
+        Err(DefineError::Memory) => Err(AllocError),
+        Err(_) => Ok(()),
+    }
+}
+
+// Copies of definitions.
+pub fn copies(
+    alloc: Global,
+    defs: &[(Bytes, Definition)],
+) -> Result<List<(Bytes, Definition)>, AllocError>
+    ensures { IfOk result (λ copies. copies ≡ defs.now) }
+{
+    let mut copies = List::new(alloc);
+    for (name, definition) in defs {
+        let name = Bytes::copy_of(alloc, name.as_slice())?;
+        let definition = definition.copy(alloc)?;
+        copies.push((name, definition))?;
+    }
+    Ok(copies)
+}
+
+// Counting.
+
+// The tokens of the definitions of a file's `#define` lines that are well formed, up to 2^64 - 1. Few tokens are copied.
+pub fn count_tokens(alloc: Global, file: &Lexed) -> Result<u64, AllocError>
+    ensures { IfOk result (λ tokens. tokens ≡ min (2 ^ 64 - 1) (tokens_defined (filter_map definition_in (pieces file.now.lines)))) }
+{
+    let mut tokens: u64 = 0;
+    for line in 0..file.line_count() {
+        tokens = tokens.saturating_add(line_tokens(alloc, file, line)?);
+    }
+    Ok(tokens)
+}
+
+// The tokens of the definition on a line, none where there is none.
+fn line_tokens(alloc: Global, file: &Lexed, line: usize) -> Result<u64, AllocError>
+    requires below { line < length file.now.lines }
+    requires few { line + 1 ≤ 18446744073709551615 }
+    ensures { IfOk result (λ tokens. tokens ≡ counted.line_tokens (tokens_at_line file.now line)) }
+{
+    if !is_define(file, line) {
+        return Ok(0);
+    }
+    let end = file.tokens_before(line + 1);
+    let tokens = behind_name(file, line, end);
+    defined_tokens(alloc, tokens, file.token_count(line) - 2)
+}
+
+// The tokens of a line behind its `#` and the directive's name. As many as `end` stand up to the line's end.
+fn behind_name(file: &Lexed, line: usize, end: usize) -> Tokens<'_>
+    requires below { line < length file.now.lines }
+    requires named { 2 ≤ length (tokens_at_line file.now line) }
+    requires ends { end ≡ tokens_before file.now (line + 1) }
+    ensures { rest_of result ≡ drop 2 (tokens_at_line file.now line) }
+{
+    let from = file.tokens_before(line) + 2;
+    file.tokens(from, end)
+}
+
+// Whether a line is a `#define`.
+fn is_define(file: &Lexed, line: usize) -> bool
+    ensures { result ≡ counted.is_define (tokens_at_line file.now line) }
+{
+    let Some(hash) = file.token(line, 0) else {
+        return false;
+    };
+    let Some(name) = file.token(line, 1) else {
+        return false;
+    };
+    spells_hash(hash.text) && name.text == b"define".as_slice()
+}
+
+// Whether this is the spelling of a `#`.
+fn spells_hash(text: &[u8]) -> bool
+    ensures { result ≡ lexing.spells_hash text.now }
+{
+    text == b"#".as_slice() || text == b"%:".as_slice()
+}
+
+// The tokens of the definition that so many tokens behind `#define` give, none where it is refused.
+fn defined_tokens(alloc: Global, tokens: Tokens<'_>, count: usize) -> Result<u64, AllocError>
+    requires { count ≡ length (rest_of tokens) }
+    ensures { IfOk result (λ n. n ≡ counted.defined_tokens (rest_of tokens.entry)) }
+{
+    let mut behind = tokens;
+    let Some(name) = behind.next() else {
+        return Ok(0);
+    };
+    if !names_macro(&name) {
+        return Ok(0);
+    }
+    let body = behind;
+    let Some(first) = behind.next() else {
+        return Ok(0);
+    };
+    if !begins_parameters(&first) {
+        return Ok(object_tokens(body, count - 1));
+    }
+    match function_tokens(behind, count - 2) {
+        Some(n) => Ok(n),
+        None => read_tokens(alloc, tokens),
+    }
+}
+
+// Whether a token may name a macro.
+fn names_macro(token: &TokenRef<'_>) -> bool
+    ensures { result ≡ spec.names_macro (token_seen token.now) }
+{
+    token.is_identifier() && !is_reserved(token.text)
+}
+
+// Whether an identifier names no macro of a program.
+fn is_reserved(name: &[u8]) -> bool
+    ensures { result ≡ spec.is_reserved_name name.now }
+{
+    name == b"defined".as_slice()
+        || name == b"__FILE__".as_slice()
+        || name == b"__LINE__".as_slice()
+        || name == b"__VA_ARGS__".as_slice()
+        || name == b"__has_include".as_slice()
+}
+
+// Whether the token behind a macro's name begins parameters: a `(` without white space before it.
+fn begins_parameters(token: &TokenRef<'_>) -> bool
+    ensures { result ≡ (marks.is_open (token_seen token.now) && not token.now.space) }
+{
+    token.is_mark(b"(") && !token.space
+}
+
+// The tokens of an object-like macro whose replacement list is so many tokens: none where `##` stands first or last (ISO C 6.10.3.3
+// paragraph 1).
+fn object_tokens(body: Tokens<'_>, count: usize) -> u64
+    requires { count ≡ length (rest_of body) }
+    ensures { result ≡ counted.object_tokens (rest_of body.entry) }
+{
+    if begins_with_pasting(body) {
+        return 0;
+    }
+    let (_, last) = body.split_at(count.saturating_sub(1));
+    if begins_with_pasting(last) {
+        return 0;
+    }
+    count as u64
+}
+
+fn begins_with_pasting(tokens: Tokens<'_>) -> bool
+    ensures { result ≡ spec.begins_with_pasting (rest_of tokens.entry) }
+{
+    let mut tokens = tokens;
+    match tokens.next() {
+        Some(first) => is_pasting(&first),
+        None => false,
+    }
+}
+
+// Whether a token is `##`.
+fn is_pasting(token: &TokenRef<'_>) -> bool
+    ensures { result ≡ marks.is_pasting (token_seen token.now) }
+{
+    token.is_mark(b"##") || token.is_mark(b"%:%:")
+}
+
+// The tokens of a function-like macro, of which so many tokens stand behind the `(`. None where that isn't plain: more than two
+// parameters, or a `#`.
+fn function_tokens(inside: Tokens<'_>, count: usize) -> Option<u64>
+    requires { count ≡ length (rest_of inside) }
+    ensures { IfSome result (λ n. (name : List ℕ) → n ≡ counted.enclosed_tokens name (rest_of inside.entry)) }
+{
+    let listed = parameters_listed(inside)?;
+    let (_, body) = inside.split_at(listed);
+    if has_hash(body) {
+        return None;
+    }
+    Some(object_tokens(body, count - listed))
+}
+
+// How many tokens behind a `(` list parameters up to the `)`, where these are at most two names.
+fn parameters_listed(inside: Tokens<'_>) -> Option<usize>
+    ensures within { IfSome result (λ n. n ≤ length (rest_of inside.entry)) }
+    ensures listed { IfSome result (λ n. counted.IsListed n (rest_of inside.entry)) }
+{
+    let mut tokens = inside;
+    let first = tokens.next()?;
+    if first.is_mark(b")") {
+        return Some(1);
+    }
+    if !is_parameter(&first) {
+        return None;
+    }
+    let mark = tokens.next()?;
+    if mark.is_mark(b")") {
+        return Some(2);
+    }
+    if !mark.is_mark(b",") {
+        return None;
+    }
+    let second = tokens.next()?;
+    if !is_parameter(&second) || first.text == second.text {
+        return None;
+    }
+    let close = tokens.next()?;
+    if !close.is_mark(b")") {
+        return None;
+    }
+    Some(4)
+}
+
+// Whether a token may be the name of a parameter, as it is written.
+fn is_parameter(token: &TokenRef<'_>) -> bool
+    ensures { result ≡ counted.is_parameter (token_seen token.now) }
+{
+    token.is_identifier() && token.text != b"__VA_ARGS__".as_slice()
+}
+
+// Whether a `#` stands among tokens.
+fn has_hash(tokens: Tokens<'_>) -> bool
+    ensures { result ≡ list_any marks.is_hash (rest_of tokens.entry) }
+{
+    for token in tokens {
+        if is_hash(&token) {
+            return true;
+        }
+    }
+    false
+}
+
+// Whether a token is `#`.
+fn is_hash(token: &TokenRef<'_>) -> bool
+    ensures { result ≡ marks.is_hash (token_seen token.now) }
+{
+    token.is_mark(b"#") || token.is_mark(b"%:")
+}
+
+// The tokens of a definition that is read.
+fn read_tokens(alloc: Global, tokens: Tokens<'_>) -> Result<u64, AllocError>
+    ensures { IfOk result (λ n. n ≡ counted.defined_tokens (rest_of tokens.entry)) }
+{
+    let tokens = tokens.to_list(alloc)?;
+    match read_define(alloc, tokens) {
+        Ok((_, definition)) => Ok(definition.body().len() as u64),
+        Err(DefineError::Memory) => Err(AllocError),
+        Err(_) => Ok(0),
+    }
+}
