@@ -404,12 +404,11 @@ fn gather_directives(alloc: Global, text: &[u8], splices: &[u32]) -> Result<Gath
 
 /// The directives of a file's body, of at most 16 MiB: its logical lines as `lex` gives them, but those that begin with no `#`
 /// are empty (ISO C 6.10 paragraph 2). Time is linear in the body, and less than `lex` takes; the only error is want of memory.
-pub fn lex_directives(alloc: Global, body: &[u8], trigraphs: bool) -> Result<Lexed, AllocError>
-    requires small { length body.now ≤ body_limit }
-    ensures { IfOk result (λ l. l ≡ directives_alone (lexed trigraphs body.now)) }
+pub fn lex_directives(alloc: Global, body: Vec<u8>, trigraphs: bool) -> Result<Lexed, AllocError>
+    requires small { length body.items ≤ body_limit }
+    ensures { IfOk result (λ l. l ≡ directives_alone (lexed trigraphs body.items)) }
 {
-    let copy = copy_of(alloc, body)?;
-    let SourceText { text, splices } = read_source(alloc, copy, trigraphs)?;
+    let SourceText { text, splices } = read_source(alloc, body, trigraphs)?;
     let gathering = gather_directives(alloc, &text, &splices)?;
     Ok(finished(text, None, gathering))
 }

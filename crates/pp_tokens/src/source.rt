@@ -244,7 +244,7 @@ fn front_of(rest: &[u8], trigraphs: bool) -> Front
 
 // Moves a run of bytes from a place down to another.
 #[inline(always)]
-fn move_down(text: &mut [u8], at: usize, run: usize, to: usize)
+fn move_down(text: &mut [u8], at: usize, run: usize, to: usize, copy: &mut [u8; 1040])
     requires short { run ≤ 1040 }
     requires within { at + run ≤ length text.old }
     requires down { to ≤ at }
@@ -253,18 +253,17 @@ fn move_down(text: &mut [u8], at: usize, run: usize, to: usize)
     ensures behind { drop (at + run) text.new ≡ drop (at + run) text.old }
 {
     if to < at {
-        move_over(text, at, run, to);
+        move_over(text, at, run, to, copy);
     }
 }
 
 // The same by a copy of them, since the two places may overlap.
-fn move_over(text: &mut [u8], at: usize, run: usize, to: usize)
+fn move_over(text: &mut [u8], at: usize, run: usize, to: usize, copy: &mut [u8; 1040])
     requires short { run ≤ 1040 }
     requires within { at + run ≤ length text.old }
     requires down { to ≤ at }
     ensures { text.new ≡ paste text.old to (drop at text.old) run }
 {
-    let mut copy = [0u8; RUN];
     copy[..run].copy_from_slice(&text[at..at + run]);
     text[to..to + run].copy_from_slice(&copy[..run]);
 }
@@ -297,12 +296,13 @@ pub fn read_source(alloc: Global, body: Vec<u8>, trigraphs: bool) -> Result<Sour
     }
     end_last_line(&mut text)?;
     // What is read of the body goes to the front of its memory: `to` bytes, never beyond what is read.
+    let mut copy = [0u8; RUN];
     let mut at = 0usize;
     let mut to = 0usize;
     while at < text.len() {
         let (_, rest) = text.split_at(at);
         let Front { run, piece, length } = front_of(rest, trigraphs);
-        move_down(&mut text, at, run, to);
+        move_down(&mut text, at, run, to, &mut copy);
         to += run;
         match piece {
             Piece::Byte(byte) => {

@@ -37,7 +37,7 @@ pub fn sheet<T: Tree>(
     let Some(body) = body_at(alloc, tree, &visit.place)? else {
         return Err(TreeError::Large);
     };
-    sheet_of_body(alloc, tree, setup, visit, body.as_slice())
+    sheet_of_body(alloc, tree, setup, visit, body)
 }
 
 // The bytes of the file that a place leads to, none where there is none; None where they are too many.
@@ -66,20 +66,21 @@ fn sheet_of_body<T: Tree>(
     tree: &mut T,
     setup: &Setup,
     visit: &Visit,
-    body: &[u8],
+    body: Bytes,
 ) -> Result<Sheet, TreeError>
-    requires { length body.now ≤ body_limit }
+    requires { length body ≤ body_limit }
     ensures same { T.told tree.new ≡ T.told tree.old }
-    ensures sheet { ForSome (T.told tree.old) (λ told. IfOk result (λ sheet. sheet ≡ sheet_from (search told setup.now) visit.now (scanning.pieces (lexed setup.now.trigraphs body.now).lines))) }
+    ensures sheet { ForSome (T.told tree.old) (λ told. IfOk result (λ sheet. sheet ≡ sheet_from (search told setup.now) visit.now (scanning.pieces (lexed setup.now.trigraphs body).lines))) }
     ensures cause { HasCause TreeError.Fault (T.faults tree.old) (T.faults tree.new) result }
     ensures never_large { IsErrOf result TreeError.Large → ⊥ }
     ensures no_read { T.reads tree.new ≡ T.reads tree.old }
 {
     directives_stand_alone();
-    let lexed = lex_directives(alloc, body, setup.trigraphs())?;
+    let bytes = body.len();
+    let lexed = lex_directives(alloc, body.into_vec()?, setup.trigraphs())?;
     let pieces = Pieces::of(alloc, lexed)?;
     let parts = parts_of_pieces(alloc, tree, setup, visit, &pieces)?;
-    Ok(Sheet::new(alloc, pieces, parts, body.len())?)
+    Ok(Sheet::new(alloc, pieces, parts, bytes)?)
 }
 
 // What the sheet of a file with these pieces has but for its definitions.

@@ -1,5 +1,5 @@
 use Rattle.std.proofs.Common.{◌∙◌, ap, sym, List, [], ℕ, zero}
-use Rattle.pp_tokens.specs.Phases.{Cell, source_text}
+use Rattle.pp_tokens.specs.Phases.{Cell}
 use Rattle.pp_tokens.specs.Lined.{lined}
 use Rattle.pp_tokens.specs.Lines.{elements, file_of, lexed}
 use Rattle.pp_tokens.specs.DirectiveLines.{directives_alone}
@@ -15,4 +15,3 @@ returns c =
     ∙ c.in_ok-gathering.ensures.file
     ∙ (λ i. directives_alone (file_of (elements zero [] (lined (c.deref-2.ensures.value i) 0 1 (c.deref.ensures.value i)))))
     ∙ ap (λ (cells : List Cell). directives_alone (file_of (elements zero [] cells))) c.in_ok-text.ensures.source
-    ∙ ap (λ (body : List ℕ). directives_alone (file_of (elements zero [] (source_text c.args.trigraphs body)))) c.in_ok-copy.ensures

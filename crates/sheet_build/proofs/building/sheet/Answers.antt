@@ -16,11 +16,10 @@ returns-clause-sheet g c = λ told is.
     let visit = c.args.visit.now in
     let trigraphs = c.args.setup.now.trigraphs in
     IfOk-weaker c.sheet_of_body.result
-    (λ sheet. sheet ≡ sheet_from find visit (pieces (lexed trigraphs c.as_slice.result.now).lines))
+    (λ sheet. sheet ≡ sheet_from find visit (pieces (lexed trigraphs c.in-Some.body).lines))
     (λ sheet. sheet ≡ sheet_of told c.args.setup.now visit)
     (λ sheet e.
     e
-    ∙ ap (λ (b : Text). sheet_from find visit (pieces (lexed trigraphs b).lines)) c.as_slice.ensures
     ∙ sheet-body told c.args.setup.now visit c.in-Some.body (sym c.in-Some.is ∙ c.in_ok-body.ensures.body told is))
     (c.sheet_of_body.ensures.sheet told (c.in_ok-body.ensures.same ∙ is))
 
@@ -28,7 +27,7 @@ pub returns-clause-small : goal.returns-clause-small
 returns-clause-small g c = λ told is.
     let visit = c.args.visit.now in
     IfOk-weaker c.sheet_of_body.result
-    (λ sheet. sheet ≡ sheet_from (search told c.args.setup.now) visit (pieces (lexed c.args.setup.now.trigraphs c.as_slice.result.now).lines))
+    (λ sheet. sheet ≡ sheet_from (search told c.args.setup.now) visit (pieces (lexed c.args.setup.now.trigraphs c.in-Some.body).lines))
     (λ _. nat_le (length (body_of_place told visit.place)) body_limit ≡ true)
     (λ _ _. small-body told visit c.in-Some.body (sym c.in-Some.is ∙ c.in_ok-body.ensures.body told is))
     (c.sheet_of_body.ensures.sheet told (c.in_ok-body.ensures.same ∙ is))
