@@ -63,12 +63,13 @@ abbrev pub piece_seen : PieceRef → Piece
 piece_seen (lent.Run tokens) = piece.Run (rest_of tokens)
 piece_seen (lent.Line at line) = piece.Line at (directive_seen line)
 
--- a directive that is no condition's line
+-- a directive that is no condition's line and no definition
 abbrev pub AsksNothing : Directive → Type 0
 AsksNothing (directive.If tokens) = ⊥
 AsksNothing (directive.Elif tokens) = ⊥
 AsksNothing (directive.Ifdef tokens) = ⊥
 AsksNothing (directive.Ifndef tokens) = ⊥
+AsksNothing (directive.Define tokens) = ⊥
 AsksNothing _ = Unit {0}
 
 -- what a directive asks (6.10.1)
@@ -77,6 +78,7 @@ AsksOf (asked.If tokens) what = what ≡ directive.If (rest_of tokens)
 AsksOf (asked.Elif tokens) what = what ≡ directive.Elif (rest_of tokens)
 AsksOf (asked.Ifdef tokens) what = what ≡ directive.Ifdef (rest_of tokens)
 AsksOf (asked.Ifndef tokens) what = what ≡ directive.Ifndef (rest_of tokens)
+AsksOf (asked.Define tokens) what = what ≡ directive.Define (rest_of tokens)
 AsksOf asked.Nothing what = AsksNothing what
 
 -- the pieces of a file: those of the spots so far, a run that goes on from a token up to a line, and those of the other lines

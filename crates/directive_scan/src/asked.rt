@@ -1,4 +1,4 @@
-// What the lines of conditionals ask, lent from the lexed file.
+// What the lines of conditionals ask and what definitions say, lent from the lexed file.
 ghost use Rattle.std.specs.Prelude.{◌≡◌, ◌<◌, ◌≤◌, ◌+◌, drop, length};
 ghost use Rattle.pp_tokens.specs.Tokens.{rest_of};
 ghost use Rattle.directive_scan.specs.Gathered.{tokens_at_line};
@@ -8,14 +8,15 @@ ghost use Rattle.directive_scan.specs.Spots.{AsksOf, directive_on, tokens_before
 use crate::name::{DirectiveName, name_at};
 use pp_tokens::{Lexed, Tokens};
 
-/// What the line of a conditional asks (ISO C 6.10.1), with the tokens behind the directive's name as they lie in the file.
-/// `Nothing` is any other directive.
+/// What the line of a conditional asks (ISO C 6.10.1), or a `#define` defines (6.10.3), with the tokens behind the directive's name as they
+/// lie in the file. `Nothing` is any other directive.
 #[derive(Clone, Copy, Drop)]
 pub enum Asked<'a> {
     If(Tokens<'a>),
     Elif(Tokens<'a>),
     Ifdef(Tokens<'a>),
     Ifndef(Tokens<'a>),
+    Define(Tokens<'a>),
     Nothing,
 }
 
@@ -51,6 +52,7 @@ fn asked_by(name: DirectiveName, tokens: Tokens<'_>) -> Asked<'_>
         DirectiveName::Elif => Asked::Elif(tokens),
         DirectiveName::Ifdef => Asked::Ifdef(tokens),
         DirectiveName::Ifndef => Asked::Ifndef(tokens),
+        DirectiveName::Define => Asked::Define(tokens),
         _ => Asked::Nothing,
     }
 }

@@ -1,5 +1,5 @@
 // The tokens of a stretch of a lexed file, one after another.
-ghost use Rattle.std.specs.Prelude.{◌≡◌, ◌-◌, [], take, drop, IfOk};
+ghost use Rattle.std.specs.Prelude.{◌≡◌, ◌-◌, [], length, take, drop, IfOk};
 ghost use Rattle.pp_tokens.specs.Lines.{all_tokens};
 ghost use Rattle.pp_tokens.specs.Tokens.{rest_of};
 
@@ -39,6 +39,14 @@ impl<'a> Tokens<'a> {
         self.lexed.excerpt(self.at, self.end)
     }
 
+    /// How many there are.
+    pub fn len(&self) -> usize
+        ensures { result ≡ length (rest_of self.now) }
+    {
+        let all = self.lexed.tokens_before(self.lexed.line_count());
+        self.end.min(all).saturating_sub(self.at)
+    }
+
     /// The first so many tokens, or all where there are fewer, and those behind them.
     pub fn split_at(self, count: usize) -> (Tokens<'a>, Tokens<'a>)
         ensures front { rest_of result.0 ≡ take count (rest_of self.entry) }
@@ -60,11 +68,11 @@ impl<'a> Tokens<'a> {
     pub fn to_list(self, alloc: Global) -> Result<List<Token>, AllocError>
         ensures { IfOk result (λ ts. ts ≡ rest_of self.entry) }
     {
-        let mut tokens = List::new(alloc);
+        let mut tokens = Vec::with_capacity(alloc, self.len())?;
         for token in self {
             tokens.push(token.to_token(alloc)?)?;
         }
-        Ok(tokens)
+        Ok(List::of(tokens))
     }
 }
 
