@@ -4,8 +4,8 @@ ghost use Rattle.pp_tokens.specs.Tokens.{rest_of};
 ghost use Rattle.macro_expand.specs.declared.outcome.Mode.TheVariants.{Text};
 ghost use Rattle.macro_expand.specs.Seen.{kept_plain};
 
-use base_types::{Bytes, List};
-use directive_scan::{Directive, DirectiveRef};
+use base_types::Bytes;
+use directive_scan::{Asked, Directive, DirectiveRef};
 use macro_defs::{DefineError, MacroTable, names_macro, read_define};
 use macro_expand::{Expander, Mode, Presumed, Run, Standing};
 use pp_tokens::{Token, Tokens};
@@ -57,18 +57,22 @@ impl Unit {
 
     /// A directive is obeyed where it is `#define` or `#undef`.
     pub fn obey(&mut self, alloc: Global, line: DirectiveRef<'_>) -> Result<(), AllocError> {
-        match line.read(alloc)? {
-            Directive::Define(rest) => self.define(alloc, rest),
-            Directive::Undef(rest) => {
-                self.undefine(rest.as_slice());
-                Ok(())
-            }
+        match line.asked() {
+            Asked::Define(rest) => self.define(alloc, rest),
+            Asked::Nothing => self.obey_other(alloc, line),
             _ => Ok(()),
         }
     }
 
+    fn obey_other(&mut self, alloc: Global, line: DirectiveRef<'_>) -> Result<(), AllocError> {
+        if let Directive::Undef(rest) = line.read(alloc)? {
+            self.undefine(rest.as_slice());
+        }
+        Ok(())
+    }
+
     // Defines what a line defines; one that defines nothing is counted and passed over.
-    fn define(&mut self, alloc: Global, rest: List<Token>) -> Result<(), AllocError> {
+    fn define(&mut self, alloc: Global, rest: Tokens<'_>) -> Result<(), AllocError> {
         match read_define(alloc, rest) {
             Ok((name, definition)) => self.table.define(name, definition),
             Err(DefineError::Memory) => Err(AllocError),
@@ -81,7 +85,7 @@ impl Unit {
 
     fn undefine(&mut self, rest: &[Token]) {
         if let Some(name) = rest.first() {
-            if names_macro(name) {
+            if names_macro(&name.as_ref()) {
                 self.table.undef(name.text.as_slice());
             }
         }

@@ -1,11 +1,11 @@
 // What a text may name.
 ghost use Rattle.std.specs.Prelude.{◌≤◌, length};
 
-use base_types::{Bytes, List};
+use base_types::Bytes;
 use case_texts::{Texts, Wrong, spelled};
-use directive_scan::{Directive, HeaderName, Piece, scan};
+use directive_scan::{Asked, HeaderName, PieceRef, Pieces};
 use macro_defs::{DefineError, MacroTable, read_define};
-use pp_tokens::{Token, lex};
+use pp_tokens::{Token, Tokens, lex};
 use std::alloc::{AllocError, Global};
 use symbolic_expand::{DefSets, Names, SymError, names};
 
@@ -73,17 +73,17 @@ fn choices_of(alloc: Global, way: Way, body: &[u8]) -> Result<String, AllocError
     requires { length body.now ≤ 16777216 }
 {
     let pieces = pieces_of(alloc, body)?;
-    choices_of_pieces(alloc, way, pieces)
+    choices_of_pieces(alloc, way, &pieces)
 }
 
-fn pieces_of(alloc: Global, body: &[u8]) -> Result<List<Piece>, AllocError>
+fn pieces_of(alloc: Global, body: &[u8]) -> Result<Pieces, AllocError>
     requires { length body.now ≤ 16777216 }
 {
     let lexed = lex(alloc, body, false)?;
-    scan(alloc, &lexed)
+    Pieces::of(alloc, lexed)
 }
 
-fn choices_of_pieces(alloc: Global, way: Way, pieces: List<Piece>) -> Result<String, AllocError> {
+fn choices_of_pieces(alloc: Global, way: Way, pieces: &Pieces) -> Result<String, AllocError> {
     let mut reading = Reading {
         way,
         sets: way.sets(alloc)?,
@@ -102,24 +102,24 @@ struct Reading {
 }
 
 impl Reading {
-    fn add_pieces(&mut self, alloc: Global, pieces: List<Piece>) -> Result<(), AllocError> {
-        for piece in pieces.into_vec() {
-            self.add_piece(alloc, piece)?;
+    fn add_pieces(&mut self, alloc: Global, pieces: &Pieces) -> Result<(), AllocError> {
+        for number in 0..pieces.len() {
+            self.add_piece(alloc, pieces.piece(number))?;
         }
         Ok(())
     }
 
-    fn add_piece(&mut self, alloc: Global, piece: Piece) -> Result<(), AllocError> {
+    fn add_piece(&mut self, alloc: Global, piece: PieceRef<'_>) -> Result<(), AllocError> {
         match piece {
-            Piece::Run { tokens } => self.add_run(alloc, tokens.as_slice()),
-            Piece::Line { what, .. } => match what {
-                Directive::Define(rest) => self.define(alloc, rest),
+            PieceRef::Run(tokens) => self.add_run(alloc, tokens.to_list(alloc)?.as_slice()),
+            PieceRef::Line { what, .. } => match what.asked() {
+                Asked::Define(rest) => self.define(alloc, rest),
                 _ => Ok(()),
             },
         }
     }
 
-    fn define(&mut self, alloc: Global, rest: List<Token>) -> Result<(), AllocError> {
+    fn define(&mut self, alloc: Global, rest: Tokens<'_>) -> Result<(), AllocError> {
         match read_define(alloc, rest) {
             Ok((name, definition)) => {
                 self.sets.add(alloc, name.as_slice(), &definition)?;

@@ -74,7 +74,7 @@ fn test_directive_ref<T: Tree>(
         Asked::Elif(tokens) => condition(alloc, tree, kept, places, at, tokens),
         Asked::Ifdef(tokens) => name_condition(alloc, kept, places, at, true, tokens),
         Asked::Ifndef(tokens) => name_condition(alloc, kept, places, at, false, tokens),
-        Asked::Nothing => Ok(true),
+        Asked::Define(_) | Asked::Nothing => Ok(true),
     }
 }
 

@@ -1,5 +1,6 @@
 // Definitions (ISO C 6.10.3).
 ghost use Rattle.std.specs.Prelude.{◌≡◌, ◌≤◌, Some, OnOk, IfErr, IsErrOf};
+ghost use Rattle.pp_tokens.specs.Tokens.{rest_of};
 ghost use Rattle.macro_defs.specs.Defining.{defined_by};
 ghost use Rattle.macro_defs.specs.Table.{SetsDefinition};
 ghost use Rattle.daemon_cpp.specs.Prep.{define_step, undef_step};
@@ -8,9 +9,9 @@ ghost use Rattle.daemon_cpp.specs.parts.Showing.{Goes, here_seen, TellsDefinitio
 use crate::diagnostic::Problem;
 use crate::kept::{Kept, Places};
 use crate::stop::{Stop, refused};
-use base_types::{Bytes, List};
+use base_types::Bytes;
 use macro_defs::{DefineError, Definition, MacroTable, names_macro, read_define};
-use pp_tokens::Token;
+use pp_tokens::{Token, Tokens};
 use std::alloc::Global;
 
 /// A `#define`.
@@ -19,9 +20,9 @@ pub fn define(
     kept: &mut Kept,
     places: Places<'_>,
     at: u32,
-    tokens: List<Token>,
+    tokens: Tokens<'_>,
 ) -> Result<(), Stop>
-    ensures goes { Goes kept.old kept.new places.entry.source.now (here_seen places.entry) (λ state. define_step at (defined_by tokens) state) result }
+    ensures goes { Goes kept.old kept.new places.entry.source.now (here_seen places.entry) (λ state. define_step at (defined_by (rest_of tokens.entry)) state) result }
     ensures spends { kept.new.work.left ≤ kept.old.work.left }
     ensures no_fault { IsErrOf result Stop.Fault → ⊥ }
 {
@@ -70,7 +71,7 @@ pub fn undefine(
     let [name, ..] = tokens else {
         return Err(refused(alloc, &places.visit.place, at, Problem::BadName));
     };
-    if !names_macro(name) {
+    if !names_macro(&name.as_ref()) {
         return Err(refused(alloc, &places.visit.place, at, Problem::BadName));
     }
     kept.macros.undef(name.text.as_slice());

@@ -2,7 +2,7 @@
 ghost use Rattle.std.specs.Prelude.{◌≡◌, ◌≤◌, [], ◌∷◌, ◌++◌, IfOk, IsErrOf};
 ghost use Rattle.std.specs.Option.{ForSome};
 ghost use Rattle.base_types.specs.Causes.{HasCause};
-ghost use Rattle.directive_scan.specs.Spots.{directive_seen, piece_seen};
+ghost use Rattle.directive_scan.specs.Spots.{AsksNothing, directive_seen, piece_seen};
 ghost use Rattle.cpp_output.specs.Layout.{pragma};
 ghost use Rattle.daemon_cpp.specs.Prep.{Go, world_of, say, line_step, include, directive_step, piece_step};
 ghost use Rattle.daemon_cpp.specs.parts.Showing.{Moves, IsNumbered, here_seen, moves_onward};
@@ -15,7 +15,7 @@ use crate::line::{NewLine, read_line};
 use crate::stop::{Stop, refused};
 use crate::text::run_text;
 use cpp_output::LayError;
-use directive_scan::{Directive, DirectiveRef, PieceRef, Target};
+use directive_scan::{Asked, Directive, DirectiveRef, PieceRef, Target};
 use pp_tokens::Token;
 use search_path::Visit;
 use std::alloc::Global;
@@ -60,7 +60,7 @@ fn onward(done: Result<(), Stop>) -> Result<Move, Stop>
     }
 }
 
-// A directive on a line, whose tokens are made here.
+// A directive on a line. Its tokens are made here, but for those of a definition, which are copied into it.
 fn run_line<T: Tree>(
     alloc: Global,
     tree: &mut T,
@@ -76,11 +76,17 @@ fn run_line<T: Tree>(
     ensures spends { kept.new.work.left ≤ kept.old.work.left }
     ensures cause { HasCause Stop.Fault (T.faults tree.old) (T.faults tree.new) result }
 {
-    let what = line.read(alloc)?;
-    run_directive(alloc, tree, kept, places, at, what)
+    match line.asked() {
+        Asked::Define(tokens) => onward(define(alloc, kept, places, at, tokens)),
+        Asked::Nothing => {
+            let what = line.read(alloc)?;
+            run_directive(alloc, tree, kept, places, at, what)
+        }
+        Asked::If(_) | Asked::Elif(_) | Asked::Ifdef(_) | Asked::Ifndef(_) => Ok(Move::Onward),
+    }
 }
 
-// A directive on a line.
+// A directive on a line that is no condition's and no definition.
 fn run_directive<T: Tree>(
     alloc: Global,
     tree: &mut T,
@@ -89,6 +95,7 @@ fn run_directive<T: Tree>(
     at: u32,
     what: Directive,
 ) -> Result<Move, Stop>
+    requires { AsksNothing what }
     ensures same { T.told tree.new ≡ T.told tree.old }
     ensures moves { ForSome (T.told tree.old) (λ told. Moves kept.old kept.new places.entry.source.now (here_seen places.entry)
         (λ entering state. directive_step (world_of told places.entry.setup.now) entering at what state) result) }
@@ -99,7 +106,6 @@ fn run_directive<T: Tree>(
     match what {
         Directive::Include(target) => run_include(alloc, tree, kept, places, false, at, &target),
         Directive::Next(target) => run_include(alloc, tree, kept, places, true, at, &target),
-        Directive::Define(tokens) => onward(define(alloc, kept, places, at, tokens)),
         Directive::Undef(tokens) => onward(undefine(alloc, kept, places, at, tokens.as_slice())),
         Directive::Line(tokens) => renumber(alloc, kept, places, at, tokens.as_slice()),
         Directive::Error(tokens) => {
@@ -113,8 +119,9 @@ fn run_directive<T: Tree>(
             Err(refused(alloc, place, at, Problem::UnknownDirective))
         }
         Directive::Warning | Directive::Null => Ok(Move::Onward),
-        Directive::If(_) | Directive::Ifdef(_) | Directive::Ifndef(_) => Ok(Move::Onward),
-        Directive::Elif(_) | Directive::Else | Directive::Endif => Ok(Move::Onward),
+        Directive::Else | Directive::Endif => Ok(Move::Onward),
+        Directive::Define(_) | Directive::Elif(_) => unreachable!(),
+        Directive::If(_) | Directive::Ifdef(_) | Directive::Ifndef(_) => unreachable!(),
     }
 }
 

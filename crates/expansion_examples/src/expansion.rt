@@ -4,10 +4,10 @@ ghost use Rattle.std.specs.Prelude.{◌≤◌, length};
 use crate::nowhere::Nowhere;
 use base_types::{Bytes, List};
 use case_texts::{Texts, Wrong, spelled};
-use directive_scan::{Directive, Piece, scan};
+use directive_scan::{Asked, Directive, DirectiveRef, PieceRef, Pieces};
 use macro_defs::{DefineError, MacroTable, names_macro, read_define};
 use macro_expand::{ExpandError, Mode, Presumed, RunError, Work, expand, expand_for};
-use pp_tokens::{Token, lex};
+use pp_tokens::{Token, Tokens, lex};
 use std::alloc::{AllocError, Global};
 
 /// What texts become.
@@ -50,17 +50,17 @@ fn expansion_of(alloc: Global, way: Way, body: &[u8]) -> Result<String, AllocErr
     requires { length body.now ≤ 16777216 }
 {
     let pieces = pieces_of(alloc, body)?;
-    expansion_of_pieces(alloc, way, pieces)
+    expansion_of_pieces(alloc, way, &pieces)
 }
 
-fn pieces_of(alloc: Global, body: &[u8]) -> Result<List<Piece>, AllocError>
+fn pieces_of(alloc: Global, body: &[u8]) -> Result<Pieces, AllocError>
     requires { length body.now ≤ 16777216 }
 {
     let lexed = lex(alloc, body, false)?;
-    scan(alloc, &lexed)
+    Pieces::of(alloc, lexed)
 }
 
-fn expansion_of_pieces(alloc: Global, way: Way, pieces: List<Piece>) -> Result<String, AllocError> {
+fn expansion_of_pieces(alloc: Global, way: Way, pieces: &Pieces) -> Result<String, AllocError> {
     let mut expansion = Expansion::new(alloc, way)?;
     expansion.add_pieces(alloc, pieces)?;
     Ok(expansion.text)
@@ -92,9 +92,9 @@ impl Expansion {
         })
     }
 
-    fn add_pieces(&mut self, alloc: Global, pieces: List<Piece>) -> Result<(), AllocError> {
-        for piece in pieces.into_vec() {
-            self.add_piece(alloc, piece)?;
+    fn add_pieces(&mut self, alloc: Global, pieces: &Pieces) -> Result<(), AllocError> {
+        for number in 0..pieces.len() {
+            self.add_piece(alloc, pieces.piece(number))?;
         }
         match self.way {
             Way::Work(_) => write!(self.text, ", {} left", self.work.left),
@@ -103,18 +103,26 @@ impl Expansion {
     }
 
     // Adds what a run becomes, or obeys a line.
-    fn add_piece(&mut self, alloc: Global, piece: Piece) -> Result<(), AllocError> {
+    fn add_piece(&mut self, alloc: Global, piece: PieceRef<'_>) -> Result<(), AllocError> {
         match piece {
-            Piece::Run { tokens } => self.add_run(alloc, tokens.as_slice()),
-            Piece::Line { what, .. } => match what {
-                Directive::Define(rest) => self.define(alloc, rest),
-                Directive::Undef(rest) => Ok(self.undefine(rest.as_slice())),
+            PieceRef::Run(tokens) => self.add_run(alloc, tokens.to_list(alloc)?.as_slice()),
+            PieceRef::Line { what, .. } => match what.asked() {
+                Asked::Define(rest) => self.define(alloc, rest),
+                Asked::Nothing => self.obey_other(alloc, what),
                 _ => Ok(()),
             },
         }
     }
 
-    fn define(&mut self, alloc: Global, rest: List<Token>) -> Result<(), AllocError> {
+    // A line that is no definition.
+    fn obey_other(&mut self, alloc: Global, line: DirectiveRef<'_>) -> Result<(), AllocError> {
+        if let Directive::Undef(rest) = line.read(alloc)? {
+            self.undefine(rest.as_slice());
+        }
+        Ok(())
+    }
+
+    fn define(&mut self, alloc: Global, rest: Tokens<'_>) -> Result<(), AllocError> {
         match read_define(alloc, rest) {
             Ok((name, definition)) => self.table.define(name, definition),
             Err(DefineError::Memory) => Err(AllocError),
@@ -124,7 +132,7 @@ impl Expansion {
 
     fn undefine(&mut self, rest: &[Token]) {
         if let Some(name) = rest.first() {
-            if names_macro(name) {
+            if names_macro(&name.as_ref()) {
                 self.table.undef(name.text.as_slice());
             }
         }

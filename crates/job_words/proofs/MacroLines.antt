@@ -1,6 +1,10 @@
 -- The lines of macros, byte by byte.
-use Rattle.std.proofs.Common.{◌≡◌, ℕ, zero, suc, List, [], ◌∷◌, ◌++◌, set, refl, ap, arith}
+use Rattle.std.proofs.Common.{◌≡◌, ◌-◌, ℕ, zero, suc, List, [], ◌∷◌, ◌++◌, length, take, drop, set, refl, ap, ◌∙◌, arith}
 use Rattle.std.specs.Prelude.{codes}
+use Rattle.std.specs.List.{flat_map, slice_get}
+use Rattle.std.specs.Option.{option_map_or, unwrap_or}
+use Rattle.std.proofs.Math.Seq.{take-append_seam}
+use Rattle.pp_tokens.specs.declared.Token.{Token}
 use Rattle.job_words.specs.Macros.{define_line}
 use Rattle.job_words.specs.parts.Told.{IsFirst, NoneFrom}
 
@@ -18,3 +22,10 @@ unfolding define_line
 line-plain [] none = refl
 line-plain (b ∷ bs) none =
     rw (none 0 (omega arith) (omega arith)) (ap (λ rest. b ∷ rest) (line-plain bs (λ k from within. none (suc k) (omega arith) (omega (arith, within)))))
+
+-- the tokens of a file's first line are those that stand first
+pub first-tokens : (lines : List (List Token)) → take (option_map_or length (slice_get lines 0) 0 - 0) (drop 0 (flat_map (λ l. l) lines)) ≡ unwrap_or (slice_get lines 0) []
+first-tokens [] = refl
+first-tokens (l ∷ ls) =
+    let all : length l - 0 ≡ length l = omega arith in
+    ap (λ (n : ℕ). take n (l ++ flat_map (λ l. l) ls)) all ∙ take-append_seam l (flat_map (λ l. l) ls)

@@ -1,18 +1,18 @@
 // The macros of compile words.
-ghost use Rattle.std.specs.Prelude.{◌≡◌, ◌≤◌, ◌+◌, ◌==◌, true, false, length, drop, Some, IfOk, IfErr};
+ghost use Rattle.std.specs.Prelude.{◌≡◌, ◌≤◌, ◌+◌, ◌==◌, false, length, Some, IfOk, IfErr};
 ghost use Rattle.std.specs.List.{list_any};
 ghost use Rattle.std.specs.Option.{MatchOption};
 ghost use Rattle.base_types.specs.Ascii as ascii;
 ghost use Rattle.base_types.specs.Limits.{body_limit, word_limit};
-ghost use Rattle.job_words.specs.Macros as spec;
 ghost use Rattle.job_words.specs.Macros.{define_line, tokens_of_line, line_at, define_word, undef_word, undef_word_of, defined_word};
 ghost use Rattle.job_words.specs.parts.Told.{IsFirst, IsNoMacro, NoneFrom};
 ghost use Rattle.macro_defs.specs.Defining.{defined_by};
+ghost use Rattle.pp_tokens.specs.Tokens.{rest_of};
 
 use crate::{MacroWord, WordError};
-use base_types::{Bytes, List};
+use base_types::Bytes;
 use macro_defs::{DefineError, names_macro, read_define};
-use pp_tokens::{Lexed, Token, lex_body};
+use pp_tokens::{Lexed, Tokens, lex_body};
 use std::alloc::{AllocError, Global};
 
 // What a `-D` says.
@@ -23,8 +23,8 @@ pub fn define_word(alloc: Global, text: &[u8]) -> Result<MacroWord, WordError>
     ensures why { IfErr result (λ e. IsNoMacro e (define_word text.now)) }
 {
     let line = define_line(alloc, text)?;
-    let tokens = line_tokens(alloc, line)?;
-    defined(alloc, tokens)
+    let lexed = lexed_line(alloc, line)?;
+    defined(alloc, first_line(&lexed))
 }
 
 // What a `-U` says.
@@ -34,8 +34,8 @@ pub fn undef_word(alloc: Global, text: &[u8]) -> Result<MacroWord, WordError>
     ensures macros { IfOk result (λ word. undef_word text.now ≡ Some word) }
     ensures why { IfErr result (λ e. IsNoMacro e (undef_word text.now)) }
 {
-    let tokens = line_tokens(alloc, text.to_vec(alloc)?)?;
-    undefined(alloc, tokens.as_slice())
+    let lexed = lexed_line(alloc, text.to_vec(alloc)?)?;
+    undefined(alloc, first_line(&lexed))
 }
 
 // What `-D` defines, as what stands behind `#define`.
@@ -67,11 +67,11 @@ fn first_equals(text: &[u8]) -> Option<usize>
     text.iter().position(|b| *b == b'=')
 }
 
-// The tokens of a text that is one line, without a comment that never ends.
+// A text that is one line, without a comment that never ends.
 #[tactic(auto, unfolding(crate::specs::Macros::tokens_of_line))]
-fn line_tokens(alloc: Global, text: Vec<u8>) -> Result<List<Token>, WordError>
+fn lexed_line(alloc: Global, text: Vec<u8>) -> Result<Lexed, WordError>
     requires { length text.items ≤ body_limit }
-    ensures line { IfOk result (λ tokens. tokens_of_line text.items ≡ Some tokens) }
+    ensures line { IfOk result (λ lexed. tokens_of_line text.items ≡ Some (line_at lexed 0)) }
     ensures why { IfErr result (λ e. IsNoMacro e (tokens_of_line text.items)) }
 {
     if has_newline(&text) {
@@ -81,7 +81,7 @@ fn line_tokens(alloc: Global, text: Vec<u8>) -> Result<List<Token>, WordError>
     if lexed.open_comment().is_some() {
         return Err(WordError::BadMacro);
     }
-    Ok(first_line(alloc, &lexed)?)
+    Ok(lexed)
 }
 
 fn has_newline(text: &[u8]) -> bool
@@ -91,22 +91,16 @@ fn has_newline(text: &[u8]) -> bool
 }
 
 // The tokens of the first line.
-fn first_line(alloc: Global, lexed: &Lexed) -> Result<List<Token>, AllocError>
-    ensures { IfOk result (λ tokens. tokens ≡ line_at lexed.now 0) }
+fn first_line(lexed: &Lexed) -> Tokens<'_>
+    ensures { rest_of result ≡ line_at lexed.now 0 }
 {
-    let mut tokens = Vec::with_capacity(alloc, lexed.token_count(0))?;
-    for at in 0..lexed.token_count(0) {
-        if let Some(token) = lexed.token(0, at) {
-            tokens.push(token.to_token(alloc)?)?;
-        }
-    }
-    Ok(List::of(tokens))
+    lexed.tokens(0, lexed.token_count(0))
 }
 
 // What tokens behind `#define` define.
-fn defined(alloc: Global, tokens: List<Token>) -> Result<MacroWord, WordError>
-    ensures macros { IfOk result (λ word. defined_word (defined_by tokens) ≡ Some word) }
-    ensures why { IfErr result (λ e. IsNoMacro e (defined_word (defined_by tokens))) }
+fn defined(alloc: Global, tokens: Tokens<'_>) -> Result<MacroWord, WordError>
+    ensures macros { IfOk result (λ word. defined_word (defined_by (rest_of tokens.entry)) ≡ Some word) }
+    ensures why { IfErr result (λ e. IsNoMacro e (defined_word (defined_by (rest_of tokens.entry)))) }
 {
     match read_define(alloc, tokens) {
         Ok((name, definition)) => Ok(MacroWord::Define(name, definition)),
@@ -116,16 +110,16 @@ fn defined(alloc: Global, tokens: List<Token>) -> Result<MacroWord, WordError>
 }
 
 // One identifier that may be defined.
-fn undefined(alloc: Global, tokens: &[Token]) -> Result<MacroWord, WordError>
-    ensures macros { IfOk result (λ word. undef_word_of (Some tokens.now) ≡ Some word) }
-    ensures why { IfErr result (λ e. IsNoMacro e (undef_word_of (Some tokens.now))) }
+fn undefined(alloc: Global, tokens: Tokens<'_>) -> Result<MacroWord, WordError>
+    ensures macros { IfOk result (λ word. undef_word_of (Some (rest_of tokens.entry)) ≡ Some word) }
+    ensures why { IfErr result (λ e. IsNoMacro e (undef_word_of (Some (rest_of tokens.entry)))) }
 {
-    let [token] = tokens else {
+    let mut tokens = tokens;
+    let Some(name) = tokens.next() else {
         return Err(WordError::BadMacro);
     };
-    if !names_macro(token) {
+    if tokens.next().is_some() || !names_macro(&name) {
         return Err(WordError::BadMacro);
     }
-    let name = Bytes::copy_of(alloc, token.text.as_slice())?;
-    Ok(MacroWord::Undef(name))
+    Ok(MacroWord::Undef(Bytes::copy_of(alloc, name.text)?))
 }

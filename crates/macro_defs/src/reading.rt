@@ -1,5 +1,6 @@
 // Reading a `#define` line.
-ghost use Rattle.std.specs.Prelude.{◌≡◌, ◌≤◌, ◌∷◌, [], ℕ, List, length, drop, true, if◌then◌else◌, MatchOption, IfOk, IfErr, IsTrue, Ok};
+ghost use Rattle.std.specs.Prelude.{◌≡◌, ◌≤◌, ◌∷◌, [], ℕ, List, length, drop, true, if◌then◌else◌, IfOk, IfErr, IsTrue, Ok};
+ghost use Rattle.pp_tokens.specs.Tokens.{token_seen, rest_of};
 ghost use Rattle.macro_defs.specs.declared.definition.Shape.TheVariants.{Object};
 ghost use Rattle.macro_defs.specs.Defining as spec;
 ghost use Rattle.macro_defs.specs.Defining.{defined_by, up_to_parenthesis, RefusesDefinition};
@@ -8,17 +9,17 @@ use crate::marks::{begins_parameters, parted};
 use crate::params::parameters_of;
 use crate::replacement::{hashes_parameters, with_body};
 use crate::{DefineError, Definition, Shape};
-use base_types::{Bytes, List};
-use pp_tokens::Token;
+use base_types::Bytes;
+use pp_tokens::{Token, TokenRef, Tokens};
 use std::alloc::{AllocError, Global};
 
 /// Whether a token may name a macro, in `#define` and in `#undef` (ISO C 6.10.8 paragraph 4): an identifier other than
 /// `defined`, `__FILE__`, `__LINE__`, `__VA_ARGS__` and `__has_include`.
 #[inline(always)]
-pub fn names_macro(token: &Token) -> bool
-    ensures { result ≡ spec.names_macro token.now }
+pub fn names_macro(token: &TokenRef<'_>) -> bool
+    ensures { result ≡ spec.names_macro (token_seen token.now) }
 {
-    token.is_identifier() && !is_reserved(token.text.as_slice())
+    token.is_identifier() && !is_reserved(token.text)
 }
 
 // Whether an identifier names no macro of a program.
@@ -33,31 +34,28 @@ fn is_reserved(name: &[u8]) -> bool
 }
 
 /// The name and the definition that the tokens behind `#define` give, or the first of the four errors, in their order. The
-/// tokens of the replacement list are moved into the definition. Time is linear in the tokens, on average.
-pub fn read_define(alloc: Global, rest: List<Token>) -> Result<(Bytes, Definition), DefineError>
-    ensures ok { IfOk result (λ d. defined_by rest ≡ Ok (record { name = d.0; definition = d.1 })) }
-    ensures err { IfErr result (λ e. RefusesDefinition e (defined_by rest)) }
+/// tokens of the replacement list are copied into the definition. Time is linear in the tokens, on average.
+pub fn read_define(alloc: Global, rest: Tokens<'_>) -> Result<(Bytes, Definition), DefineError>
+    ensures ok { IfOk result (λ d. defined_by (rest_of rest.entry) ≡ Ok (record { name = d.0; definition = d.1 })) }
+    ensures err { IfErr result (λ e. RefusesDefinition e (defined_by (rest_of rest.entry))) }
 {
-    let Some((name, behind)) = first_and_rest(rest) else {
+    let mut behind = rest;
+    let Some(name) = behind.next() else {
         return Err(DefineError::Name);
     };
     if !names_macro(&name) {
         return Err(DefineError::Name);
     }
+    let behind = copied(alloc, behind)?;
     let definition = after_name(alloc, behind)?;
-    Ok((name.text, definition))
+    Ok((Bytes::copy_of(alloc, name.text)?, definition))
 }
 
-// The first token, and those behind it.
-fn first_and_rest(tokens: List<Token>) -> Option<(Token, Vec<Token>)>
-    ensures { MatchOption result (tokens ≡ []) (λ parts. tokens ≡ parts.0 ∷ parts.1.items) }
+fn copied(alloc: Global, tokens: Tokens<'_>) -> Result<Vec<Token>, AllocError>
+    ensures { IfOk result (λ copies. copies.items ≡ rest_of tokens.entry) }
 {
-    let mut tokens = tokens.into_vec();
-    if tokens.is_empty() {
-        return None;
-    }
-    let first = tokens.remove(0);
-    Some((first, tokens))
+    let tokens = tokens.to_list(alloc)?;
+    Ok(tokens.into_vec())
 }
 
 // What the tokens behind the name define.

@@ -25,9 +25,9 @@ pub struct MacroTable {
 // How many marks a table has once it has a name.
 const MARKS: usize = 8192;
 
-// For how many names a table has room before it grows: what a unit defines with the headers of a C library. Room that isn't
-// taken costs no memory page.
-const NAMES: usize = 2048;
+// For how many names a table has room before it grows: what most units define with the headers of a C library, and as many as the
+// smallest index for 2,048 takes. Room that isn't taken costs no memory page.
+const NAMES: usize = 2304;
 
 impl Model for MacroTable {
     ghost use Rattle.macro_defs.specs.Table.{TableEntries, names_ever_defined};

@@ -1,10 +1,10 @@
 // `#define` lines, the definitions that they give, and tables of them.
 ghost use Rattle.std.specs.Prelude.{◌≤◌, length};
 
-use base_types::{Bytes, List};
-use directive_scan::{Directive, Piece, scan};
+use base_types::Bytes;
+use directive_scan::{Asked, PieceRef, Pieces};
 use macro_defs::{DefineError, Definition, MacroTable, Shape, read_define};
-use pp_tokens::{Token, lex};
+use pp_tokens::{Token, Tokens, lex};
 use std::alloc::{AllocError, Global};
 use std::process::Abort;
 
@@ -14,23 +14,23 @@ fn defined(rt: &impl Abort, alloc: Global, line: &str) -> Result<(Bytes, Definit
         rt.panic("a line is too long");
     }
     let pieces = pieces_of(alloc, line.as_bytes()).expect(rt, "no memory");
-    match first_define(pieces) {
+    match first_define(&pieces) {
         Some(tokens) => read_define(alloc, tokens),
         None => rt.panic("no macro is defined"),
     }
 }
 
-fn pieces_of(alloc: Global, line: &[u8]) -> Result<List<Piece>, AllocError>
+fn pieces_of(alloc: Global, line: &[u8]) -> Result<Pieces, AllocError>
     requires { length line.now ≤ 16777216 }
 {
     let lexed = lex(alloc, line, false)?;
-    scan(alloc, &lexed)
+    Pieces::of(alloc, lexed)
 }
 
-fn first_define(pieces: List<Piece>) -> Option<List<Token>> {
-    for piece in pieces.into_vec() {
-        if let Piece::Line { what, .. } = piece {
-            if let Directive::Define(tokens) = what {
+fn first_define(pieces: &Pieces) -> Option<Tokens<'_>> {
+    for number in 0..pieces.len() {
+        if let PieceRef::Line { what, .. } = pieces.piece(number) {
+            if let Asked::Define(tokens) = what.asked() {
                 return Some(tokens);
             }
         }

@@ -1,7 +1,6 @@
 use Rattle.std.proofs.Common.{sym, ap, ◌∙◌}
 use Rattle.directive_scan.specs.declared.Directive.TheVariants as named
-use Rattle.macro_defs.specs.Defining.{defined_by}
-use Rattle.daemon_cpp.specs.Prep.{world_of, define_step, undef_step}
+use Rattle.daemon_cpp.specs.Prep.{world_of, undef_step}
 use Rattle.daemon_cpp.specs.parts.Showing.{here_seen}
 use Rattle.daemon_cpp.proofs.Moving.{moves-onward, directive-moves}
 use Rattle.daemon_cpp.proofs.pieces.run_directive.Goals as goal
@@ -20,19 +19,12 @@ returns-in-Next-clause-moves g c =
     (c.in-Next.is)
     (c.run_include-in-Next.ensures.moves told is)
 
-pub returns-in-Define-clause-moves : goal.returns-in-Define-clause-moves
-returns-in-Define-clause-moves g c =
-    λ told is.
-    directive-moves (world_of told c.args.places.setup.now) c.args.kept.now c.define.new.kept c.args.places.source.now (here_seen c.args.places) c.args.at c.args.what (named.Define c.in-Define.tokens) c.onward.result
-    (c.in-Define.is)
-    (moves-onward c.args.kept.now c.define.new.kept c.args.places.source.now (here_seen c.args.places) (λ state. define_step c.args.at (defined_by c.in-Define.tokens) state) c.define.result c.onward.result c.onward.ensures c.define.ensures.goes)
-
 pub returns-in-Undef-clause-moves : goal.returns-in-Undef-clause-moves
 returns-in-Undef-clause-moves g c =
     λ told is.
-    directive-moves (world_of told c.args.places.setup.now) c.args.kept.now c.undefine.new.kept c.args.places.source.now (here_seen c.args.places) c.args.at c.args.what (named.Undef c.as_slice.result.now) c.onward-in-Undef.result
+    directive-moves (world_of told c.args.places.setup.now) c.args.kept.now c.undefine.new.kept c.args.places.source.now (here_seen c.args.places) c.args.at c.args.what (named.Undef c.as_slice.result.now) c.onward.result
     (c.in-Undef.is ∙ ap named.Undef (sym c.as_slice.ensures))
-    (moves-onward c.args.kept.now c.undefine.new.kept c.args.places.source.now (here_seen c.args.places) (λ state. undef_step c.args.at c.as_slice.result.now state) c.undefine.result c.onward-in-Undef.result c.onward-in-Undef.ensures c.undefine.ensures.goes)
+    (moves-onward c.args.kept.now c.undefine.new.kept c.args.places.source.now (here_seen c.args.places) (λ state. undef_step c.args.at c.as_slice.result.now state) c.undefine.result c.onward.result c.onward.ensures c.undefine.ensures.goes)
 
 pub returns-in-Line-clause-moves : goal.returns-in-Line-clause-moves
 returns-in-Line-clause-moves g c =
