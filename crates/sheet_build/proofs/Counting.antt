@@ -1,23 +1,16 @@
--- The tokens of definitions, counted line by line.
-use Rattle.std.proofs.Common.{◌≡◌, ◌<◌, ◌≤◌, ◌+◌, ◌-◌, ◌∷◌, ◌++◌, [], ℕ, suc, Bool, true, false, List, length, map, take, drop, Option, None, Some, Ok, Err, refl, sym, ap, ◌∙◌, arith, if◌then◌else◌}
-use Rattle.std.specs.Prelude.{codes, bytes_eq, min, sum_by, ◌&&◌, ◌||◌, not}
-use Rattle.std.specs.List.{filter_map, cons_option, list_any, slice_get}
-use Rattle.std.specs.Option.{unwrap_or, option_map_or}
-use Rattle.std.specs.Cmp.Lexicographic.{bytes_decides}
+-- The tokens of definitions, counted piece by piece.
+use Rattle.std.proofs.Common.{◌≡◌, ◌<◌, ◌+◌, ◌-◌, ◌∷◌, ◌++◌, [], ℕ, suc, Bool, true, false, List, length, map, take, drop, get_or, Option, None, Some, Ok, Err, refl, sym, ap, ◌∙◌, arith, if◌then◌else◌}
+use Rattle.std.specs.Prelude.{min, ◌&&◌, ◌||◌, not}
+use Rattle.std.specs.List.{filter_map, cons_option, list_any}
 use Rattle.std.proofs.lemmas.List.{length-map, take_more}
+use Rattle.std.proofs.lemmas.List.Elements.{filter_map-append}
 use Rattle.std.proofs.lemmas.List.Sums.{sum_by-cons, sum_by-append}
-use Rattle.std.proofs.lemmas.Option.{unwrap_or-slice_get}
 use Rattle.pp_tokens.specs.declared.Token.{Token}
-use Rattle.pp_tokens.specs.Lines.{spells_hash}
 use Rattle.pp_tokens.specs.Marks.{is_hash, is_open}
 use Rattle.directive_scan.specs.declared.Directive.{Directive}
 use Rattle.directive_scan.specs.declared.Directive.TheVariants as directive
-use Rattle.directive_scan.specs.declared.DirectiveName.{DirectiveName}
-use Rattle.directive_scan.specs.declared.DirectiveName.TheVariants as name
-use Rattle.directive_scan.specs.Names.{directive_told}
 use Rattle.directive_scan.specs.declared.Piece.{Piece}
-use Rattle.directive_scan.specs.declared.Piece.TheVariants.{Run, Line}
-use Rattle.directive_scan.specs.Directives.{directive_named, directive_of, pragma_of, onto_run, line_before, pieces}
+use Rattle.directive_scan.specs.Spots.{AsksNothing}
 use Rattle.macro_defs.specs.declared.definition.Shape.{Shape}
 use Rattle.macro_defs.specs.declared.definition.Shape.TheVariants.{Object}
 use Rattle.macro_defs.specs.declared.definition.DefineError.TheVariants as error
@@ -25,159 +18,49 @@ use Rattle.macro_defs.specs.MacroDefinition.{without_line}
 use Rattle.macro_defs.specs.Defining.{Named, names_macro, up_to_parenthesis, begins_with_pasting, ends_with_pasting, hashes_parameters, begins_with_parameter, with_body, enclosed_of, after_name, defined_by}
 use Rattle.sheet_build.specs.Sheet.{accepted, definition_of, definition_in}
 use Rattle.sheet_build.specs.Weights.{tokens_defined}
-use Rattle.sheet_build.specs.parts.Counted.{is_define, body_tokens, defined_tokens, line_tokens, object_tokens, enclosed_tokens}
+use Rattle.sheet_build.specs.parts.Counted.{body_tokens, defined_tokens, object_tokens, enclosed_tokens}
 
--- ---- the definition of a line ----
+-- ---- the definition of a directive ----
 
--- that of a directive, none where the line is text
-abbrev definition_on : List Token → Option Named
-definition_on [] = None
-definition_on (t ∷ ts) = if spells_hash t.text then definition_of (directive_of ts) else None
+-- a directive that asks nothing defines nothing
+pub nothing-asked : (what : Directive) → AsksNothing what → definition_of what ≡ None
+nothing-asked (directive.Include target) asks = refl
+nothing-asked (directive.Next target) asks = refl
+nothing-asked (directive.Define tokens) asks = absurd asks
+nothing-asked (directive.Undef tokens) asks = refl
+nothing-asked (directive.If tokens) asks = refl
+nothing-asked (directive.Ifdef tokens) asks = refl
+nothing-asked (directive.Ifndef tokens) asks = refl
+nothing-asked (directive.Elif tokens) asks = refl
+nothing-asked directive.Else asks = refl
+nothing-asked directive.Endif asks = refl
+nothing-asked (directive.Line tokens) asks = refl
+nothing-asked (directive.Error tokens) asks = refl
+nothing-asked directive.Warning asks = refl
+nothing-asked directive.Once asks = refl
+nothing-asked (directive.Pragma tokens) asks = refl
+nothing-asked directive.Null asks = refl
+nothing-asked directive.Unknown asks = refl
 
-onto_run-same : (line : List Token) (ps : List Piece) → filter_map definition_in (onto_run line ps) ≡ filter_map definition_in ps
-onto_run-same line [] = refl
-onto_run-same line (Run tokens ∷ ps) = refl
-onto_run-same line (Line at what ∷ ps) = refl
+-- ---- the sum over pieces ----
 
-line_before-defines : (line : List Token) (ps : List Piece) → filter_map definition_in (line_before line ps) ≡ cons_option (definition_on line) (filter_map definition_in ps)
-line_before-defines [] ps = onto_run-same [] ps
-line_before-defines (t ∷ ts) ps = by (spells_hash t.text)
-  where
-    by : (b : Bool) → filter_map definition_in (if b then Line t.line (directive_of ts) ∷ ps else onto_run (t ∷ ts) ps) ≡ cons_option (if b then definition_of (directive_of ts) else None) (filter_map definition_in ps)
-    by true = refl
-    by false = onto_run-same (t ∷ ts) ps
+-- the tokens of one definition, or of none
+one-tokens : (o : Option Named) → tokens_defined (cons_option o []) ≡ body_tokens o
+one-tokens None = refl
+one-tokens (Some named) = sum_by-cons (λ (n : Named). length n.definition.body) named [] ∙ omega arith
 
--- the definitions of a file are those of its lines
-lines-define : (lines : List (List Token)) → filter_map definition_in (pieces lines) ≡ filter_map definition_on lines
-unfolding pieces
-lines-define [] = refl
-lines-define (line ∷ lines) = line_before-defines line (pieces lines) ∙ ap (cons_option (definition_on line)) (lines-define lines)
-
--- a choice between two directives without definitions
-neither-defines : (b : Bool) (x y : Directive) → definition_of x ≡ None → definition_of y ≡ None → definition_of (if b then x else y) ≡ None
-neither-defines true x y one other = one
-neither-defines false x y one other = other
-
-pragma-defines-nothing : (ts : List Token) → definition_of (pragma_of ts) ≡ None
-unfolding pragma_of
-pragma-defines-nothing [] = refl
-pragma-defines-nothing (t ∷ ts) = neither-defines (bytes_eq t.text (codes "once")) directive.Once (directive.Pragma (t ∷ ts)) refl refl
-
--- a directive of any name but `define`
-another-defines-nothing : (name : List ℕ) (ts : List Token) → bytes_eq name (codes "define") ≡ false → definition_of (directive_named name ts) ≡ None
-unfolding directive_named
-another-defines-nothing name ts another =
-    neither-defines (bytes_eq name (codes "include")) _ _ refl
-    (neither-defines (bytes_eq name (codes "include_next")) _ _ refl
-    (ap definition_of (past _ _ _ another)
-    ∙ neither-defines (bytes_eq name (codes "undef")) _ _ refl
-    (neither-defines (bytes_eq name (codes "if")) _ _ refl
-    (neither-defines (bytes_eq name (codes "ifdef")) _ _ refl
-    (neither-defines (bytes_eq name (codes "ifndef")) _ _ refl
-    (neither-defines (bytes_eq name (codes "elif")) _ _ refl
-    (neither-defines (bytes_eq name (codes "else")) _ _ refl
-    (neither-defines (bytes_eq name (codes "endif")) _ _ refl
-    (neither-defines (bytes_eq name (codes "line")) _ _ refl
-    (neither-defines (bytes_eq name (codes "error")) _ _ refl
-    (neither-defines (bytes_eq name (codes "warning")) _ _ refl
-    (neither-defines (bytes_eq name (codes "pragma")) _ _ (pragma-defines-nothing ts) refl))))))))))))
-  where
-    past : (b : Bool) (x y : Directive) → b ≡ false → (if b then x else y) ≡ y
-    past true x y e = absurd (cc)
-    past false x y e = refl
-
-definition_of-named : (name : List ℕ) (ts : List Token) → definition_of (directive_named name ts) ≡ (if bytes_eq name (codes "define") then accepted (defined_by ts) else None)
-unfolding directive_named
-definition_of-named name ts = by (bytes_eq name (codes "define")) refl
-  where
-    by : (b : Bool) → bytes_eq name (codes "define") ≡ b → definition_of (directive_named name ts) ≡ (if b then accepted (defined_by ts) else None)
-    by true is = ap (λ (n : List ℕ). definition_of (directive_named n ts)) ((bytes_decides name (codes "define")).0 is)
-    by false is = another-defines-nothing name ts is
-
--- nor has one that is told by such a name
-pub others-define-nothing : (what : Directive) (n : DirectiveName) (ts : List Token) → what ≡ directive_told n ts → (n ≡ name.Define → ⊥) → definition_of what ≡ None
-others-define-nothing what n ts is other = ap definition_of is ∙ told n other
-  where
-    told : (m : DirectiveName) → (m ≡ name.Define → ⊥) → definition_of (directive_told m ts) ≡ None
-    told name.Define another = absurd (another refl)
-    told name.Include another = refl
-    told name.Next another = refl
-    told name.Undef another = refl
-    told name.If another = refl
-    told name.Ifdef another = refl
-    told name.Ifndef another = refl
-    told name.Elif another = refl
-    told name.Else another = refl
-    told name.Endif another = refl
-    told name.Line another = refl
-    told name.Error another = refl
-    told name.Warning another = refl
-    told name.Pragma another = pragma-defines-nothing ts
-    told name.Null another = refl
-    told name.Unknown another = refl
-
--- the tokens of the definition on a line
-line-tokens : (line : List Token) → body_tokens (definition_on line) ≡ line_tokens line
-unfolding directive_of
-line-tokens [] = refl
-line-tokens (t ∷ []) = by (spells_hash t.text)
-  where
-    by : (b : Bool) → body_tokens (if b then definition_of directive.Null else None) ≡ 0
-    by true = refl
-    by false = refl
-line-tokens (t ∷ u ∷ ts) = ap (λ (o : Option Named). body_tokens (if spells_hash t.text then o else None)) (definition_of-named u.text ts) ∙ by (spells_hash t.text) (bytes_eq u.text (codes "define"))
-  where
-    by : (a b : Bool) → body_tokens (if a then (if b then accepted (defined_by ts) else None) else None) ≡ (if a && b then defined_tokens ts else 0)
-    by true true = refl
-    by true false = refl
-    by false b = refl
-
--- those of a `#define`
-pub define-tokens : (line : List Token) → is_define line ≡ true → defined_tokens (drop 2 line) ≡ line_tokens line
-define-tokens line is = by (is_define line) is
-  where
-    by : (b : Bool) → b ≡ true → defined_tokens (drop 2 line) ≡ (if b then defined_tokens (drop 2 line) else 0)
-    by true e = refl
-    by false e = absurd (cc)
-
--- it has two tokens at least
-pub define-named : (line : List Token) → is_define line ≡ true → 2 ≤ length line
-define-named [] is = absurd (cc)
-define-named (t ∷ []) is = absurd (cc)
-define-named (t ∷ u ∷ ts) is = omega arith
-
--- how many tokens a line has
-pub line-length : (line : Option (List Token)) → option_map_or length line 0 ≡ length (unwrap_or line [])
-line-length None = refl
-line-length (Some ts) = refl
-
--- ---- the sum over lines ----
-
-cons-tokens : (o : Option Named) (defs : List Named) → tokens_defined (cons_option o defs) ≡ body_tokens o + tokens_defined defs
-cons-tokens None defs = omega arith
-cons-tokens (Some named) defs = sum_by-cons (λ (n : Named). length n.definition.body) named defs
-
-lines-tokens : (lines : List (List Token)) → tokens_defined (filter_map definition_on lines) ≡ sum_by line_tokens lines
-lines-tokens [] = refl
-lines-tokens (line ∷ lines) =
-    cons-tokens (definition_on line) (filter_map definition_on lines)
-    ∙ ap (λ (n : ℕ). n + tokens_defined (filter_map definition_on lines)) (line-tokens line)
-    ∙ ap (λ (n : ℕ). line_tokens line + n) (lines-tokens lines)
-    ∙ sym (sum_by-cons line_tokens line lines)
-
--- the tokens of a file's definitions are those of its lines
-pub file-tokens : (lines : List (List Token)) → sum_by line_tokens lines ≡ tokens_defined (filter_map definition_in (pieces lines))
-file-tokens lines = sym (lines-tokens lines) ∙ ap tokens_defined (sym (lines-define lines))
-
--- one line more was counted
-pub count-next : (top : ℕ) (lines : List (List Token)) (i old new added : ℕ) → i < length lines → old ≡ min top (sum_by line_tokens (take i lines)) → added ≡ line_tokens (unwrap_or (slice_get lines i) [])
-    → new ≡ min (old + added) top → new ≡ min top (sum_by line_tokens (take (i + 1) lines))
-count-next top lines i old new added below before is sum =
-    let at : List Token = unwrap_or (slice_get lines i) [] in
-    let more : take (i + 1) lines ≡ take i lines ++ at ∷ [] = take_more lines i [] below ∙ ap (λ (l : List Token). take i lines ++ l ∷ []) (sym (unwrap_or-slice_get lines i [])) in
-    let whole : sum_by line_tokens (take (i + 1) lines) ≡ sum_by line_tokens (take i lines) + (line_tokens at + 0) =
-    ap (sum_by line_tokens) more ∙ sum_by-append line_tokens (take i lines) (at ∷ []) ∙ ap (λ (n : ℕ). sum_by line_tokens (take i lines) + n) (sum_by-cons line_tokens at []) in
-    omega (arith, before, is, sum, whole)
+-- one piece more was counted
+pub count-next : (top : ℕ) (ps : List Piece) (i : ℕ) (p : Piece) (old new added : ℕ) → i < length ps → p ≡ get_or ps i p → old ≡ min top (tokens_defined (filter_map definition_in (take i ps)))
+    → added ≡ body_tokens (definition_in p) → new ≡ min (old + added) top → new ≡ min top (tokens_defined (filter_map definition_in (take (i + 1) ps)))
+count-next top ps i p old new added below is before one sum =
+    let defs : List Named = filter_map definition_in (take i ps) in
+    let more : take (i + 1) ps ≡ take i ps ++ p ∷ [] = take_more ps i p below ∙ ap (λ (q : Piece). take i ps ++ q ∷ []) (sym is) in
+    let whole : tokens_defined (filter_map definition_in (take (i + 1) ps)) ≡ tokens_defined defs + body_tokens (definition_in p) =
+    ap (λ (qs : List Piece). tokens_defined (filter_map definition_in qs)) more
+    ∙ ap tokens_defined (filter_map-append definition_in (take i ps) (p ∷ []))
+    ∙ sum_by-append (λ (n : Named). length n.definition.body) defs (cons_option (definition_in p) [])
+    ∙ ap (λ (n : ℕ). tokens_defined defs + n) (one-tokens (definition_in p)) in
+    omega (arith, before, one, sum, whole)
 
 -- ---- a definition that is accepted ----
 

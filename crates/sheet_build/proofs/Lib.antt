@@ -3,15 +3,13 @@
 --     Adding      how sheets grow
 --     Bodies      the sheet of a file that isn't too large
 --     Capped      sums that stop at a top
---     LineTokens  the tokens of a logical line behind its first two
---     Counting    the tokens of definitions, counted line by line
+--     Counting    the tokens of definitions, counted piece by piece
 --     Parameters  those of function-like macros with plain parameters
 --     DirectivesAlone   a sheet comes of directives alone
 pub mod PlaceLaws
 pub mod Adding
 pub mod Bodies
 pub mod Capped
-pub mod LineTokens
 pub mod Counting
 pub mod Parameters
 pub mod DirectivesAlone

@@ -1,22 +1,19 @@
 // The definitions of a file's `#define` lines (ISO C 6.10.3): their tokens are counted where a sheet is built, and they are read where
 // they are asked for.
-ghost use Rattle.std.specs.Prelude.{◌≡◌, ◌∷◌, [], ◌++◌, ◌<◌, ◌≤◌, ◌&&◌, ◌+◌, ◌-◌, ◌^◌, ℕ, List, not, length, drop, map, min, None, false, IfOk, OnOk, IfSome};
+ghost use Rattle.std.specs.Prelude.{◌≡◌, [], ◌++◌, ◌≤◌, ◌&&◌, ◌-◌, ◌^◌, ℕ, List, not, length, map, min, None, IfOk, OnOk, IfSome, IsNone};
 ghost use Rattle.std.specs.List.{cons_option, filter_map, list_any};
-ghost use Rattle.pp_tokens.specs.Lines as lexing;
 ghost use Rattle.pp_tokens.specs.Tokens.{token_seen, rest_of};
 ghost use Rattle.pp_tokens.specs.Marks as marks;
-ghost use Rattle.directive_scan.specs.Directives.{pieces};
-ghost use Rattle.directive_scan.specs.Gathered.{tokens_at_line};
-ghost use Rattle.directive_scan.specs.Spots.{piece_seen, directive_seen, tokens_before};
+ghost use Rattle.directive_scan.specs.Spots.{piece_seen};
 ghost use Rattle.macro_defs.specs.Defining as spec;
-ghost use Rattle.sheet_build.specs.Sheet.{named_pair, accepted, definition_in, definition_of};
+ghost use Rattle.sheet_build.specs.Sheet.{named_pair, accepted, definition_in};
 ghost use Rattle.sheet_build.specs.Weights.{tokens_defined};
 ghost use Rattle.sheet_build.specs.parts.Counted as counted;
 
 use base_types::{Bytes, List};
-use directive_scan::{Directive, DirectiveName, DirectiveRef, PieceRef, Pieces};
-use macro_defs::{DefineError, Definition, read_define};
-use pp_tokens::{Lexed, Token, TokenRef, Tokens};
+use directive_scan::{Asked, PieceRef, Pieces};
+use macro_defs::{DefineError, Definition, names_macro, read_define};
+use pp_tokens::{TokenRef, Tokens};
 use std::alloc::{AllocError, Global};
 
 // Reading.
@@ -43,49 +40,33 @@ fn add_piece(
 ) -> Result<(), AllocError>
     ensures { OnOk result (map named_pair defs.new ≡ map named_pair defs.old ++ cons_option (definition_in (piece_seen piece.entry)) []) }
 {
+    match behind_define(piece) {
+        Some(tokens) => add_definition(alloc, tokens, defs),
+        None => Ok(()),
+    }
+}
+
+// The tokens behind a `#define`, if a piece is one.
+fn behind_define(piece: PieceRef<'_>) -> Option<Tokens<'_>>
+    ensures some { IfSome result (λ tokens. definition_in (piece_seen piece.entry) ≡ accepted (spec.defined_by (rest_of tokens))) }
+    ensures none { IsNone result → definition_in (piece_seen piece.entry) ≡ None }
+{
     match piece {
-        PieceRef::Run(_) => Ok(()),
-        PieceRef::Line { at: _, what } => {
-            if !may_define(what) {
-                return Ok(());
-            }
-            let what = what.read(alloc)?;
-            add_directive(alloc, what, defs)
-        }
-    }
-}
-
-// Whether a directive may define a macro, as far as its name tells it.
-fn may_define(line: DirectiveRef<'_>) -> bool
-    ensures { result ≡ false → definition_of (directive_seen line.entry) ≡ None }
-{
-    match line.name() {
-        DirectiveName::Define => true,
-        _ => false,
-    }
-}
-
-// Adds the definition of a directive, if it has one.
-fn add_directive(
-    alloc: Global,
-    what: Directive,
-    defs: &mut List<(Bytes, Definition)>,
-) -> Result<(), AllocError>
-    ensures { OnOk result (map named_pair defs.new ≡ map named_pair defs.old ++ cons_option (definition_of what) []) }
-{
-    match what {
-        Directive::Define(tokens) => add_definition(alloc, tokens, defs),
-        _ => Ok(()),
+        PieceRef::Run(_) => None,
+        PieceRef::Line { at: _, what } => match what.asked() {
+            Asked::Define(tokens) => Some(tokens),
+            _ => None,
+        },
     }
 }
 
 // Adds the definition that the tokens behind `#define` give: one that is refused adds nothing.
 fn add_definition(
     alloc: Global,
-    tokens: List<Token>,
+    tokens: Tokens<'_>,
     defs: &mut List<(Bytes, Definition)>,
 ) -> Result<(), AllocError>
-    ensures { OnOk result (map named_pair defs.new ≡ map named_pair defs.old ++ cons_option (accepted (spec.defined_by tokens)) []) }
+    ensures { OnOk result (map named_pair defs.new ≡ map named_pair defs.old ++ cons_option (accepted (spec.defined_by (rest_of tokens.entry))) []) }
 {
     match read_define(alloc, tokens) {
         Ok(definition) => {
@@ -116,64 +97,28 @@ pub fn copies(
 // Counting.
 
 // The tokens of the definitions of a file's `#define` lines that are well formed, up to 2^64 - 1. Few tokens are copied.
-pub fn count_tokens(alloc: Global, file: &Lexed) -> Result<u64, AllocError>
-    ensures { IfOk result (λ tokens. tokens ≡ min (2 ^ 64 - 1) (tokens_defined (filter_map definition_in (pieces file.now.lines)))) }
+pub fn count_tokens(alloc: Global, pieces: &Pieces) -> Result<u64, AllocError>
+    ensures { IfOk result (λ tokens. tokens ≡ min (2 ^ 64 - 1) (tokens_defined (filter_map definition_in pieces.now))) }
 {
     let mut tokens: u64 = 0;
-    for line in 0..file.line_count() {
-        tokens = tokens.saturating_add(line_tokens(alloc, file, line)?);
+    for number in 0..pieces.len() {
+        tokens = tokens.saturating_add(piece_tokens(alloc, pieces.piece(number))?);
     }
     Ok(tokens)
 }
 
-// The tokens of the definition on a line, none where there is none.
-fn line_tokens(alloc: Global, file: &Lexed, line: usize) -> Result<u64, AllocError>
-    requires below { line < length file.now.lines }
-    requires few { line + 1 ≤ 18446744073709551615 }
-    ensures { IfOk result (λ tokens. tokens ≡ counted.line_tokens (tokens_at_line file.now line)) }
+// The tokens of the definition of a piece, none where it has none.
+fn piece_tokens(alloc: Global, piece: PieceRef<'_>) -> Result<u64, AllocError>
+    ensures { IfOk result (λ tokens. tokens ≡ counted.body_tokens (definition_in (piece_seen piece.entry))) }
 {
-    if !is_define(file, line) {
-        return Ok(0);
+    match behind_define(piece) {
+        Some(tokens) => defined_tokens(alloc, tokens),
+        None => Ok(0),
     }
-    let end = file.tokens_before(line + 1);
-    let tokens = behind_name(file, line, end);
-    defined_tokens(alloc, tokens, file.token_count(line) - 2)
 }
 
-// The tokens of a line behind its `#` and the directive's name. As many as `end` stand up to the line's end.
-fn behind_name(file: &Lexed, line: usize, end: usize) -> Tokens<'_>
-    requires below { line < length file.now.lines }
-    requires named { 2 ≤ length (tokens_at_line file.now line) }
-    requires ends { end ≡ tokens_before file.now (line + 1) }
-    ensures { rest_of result ≡ drop 2 (tokens_at_line file.now line) }
-{
-    let from = file.tokens_before(line) + 2;
-    file.tokens(from, end)
-}
-
-// Whether a line is a `#define`.
-fn is_define(file: &Lexed, line: usize) -> bool
-    ensures { result ≡ counted.is_define (tokens_at_line file.now line) }
-{
-    let Some(hash) = file.token(line, 0) else {
-        return false;
-    };
-    let Some(name) = file.token(line, 1) else {
-        return false;
-    };
-    spells_hash(hash.text) && name.text == b"define".as_slice()
-}
-
-// Whether this is the spelling of a `#`.
-fn spells_hash(text: &[u8]) -> bool
-    ensures { result ≡ lexing.spells_hash text.now }
-{
-    text == b"#".as_slice() || text == b"%:".as_slice()
-}
-
-// The tokens of the definition that so many tokens behind `#define` give, none where it is refused.
-fn defined_tokens(alloc: Global, tokens: Tokens<'_>, count: usize) -> Result<u64, AllocError>
-    requires { count ≡ length (rest_of tokens) }
+// The tokens of the definition that the tokens behind `#define` give, none where it is refused.
+fn defined_tokens(alloc: Global, tokens: Tokens<'_>) -> Result<u64, AllocError>
     ensures { IfOk result (λ n. n ≡ counted.defined_tokens (rest_of tokens.entry)) }
 {
     let mut behind = tokens;
@@ -188,30 +133,12 @@ fn defined_tokens(alloc: Global, tokens: Tokens<'_>, count: usize) -> Result<u64
         return Ok(0);
     };
     if !begins_parameters(&first) {
-        return Ok(object_tokens(body, count - 1));
+        return Ok(object_tokens(body));
     }
-    match function_tokens(behind, count - 2) {
+    match function_tokens(behind) {
         Some(n) => Ok(n),
         None => read_tokens(alloc, tokens),
     }
-}
-
-// Whether a token may name a macro.
-fn names_macro(token: &TokenRef<'_>) -> bool
-    ensures { result ≡ spec.names_macro (token_seen token.now) }
-{
-    token.is_identifier() && !is_reserved(token.text)
-}
-
-// Whether an identifier names no macro of a program.
-fn is_reserved(name: &[u8]) -> bool
-    ensures { result ≡ spec.is_reserved_name name.now }
-{
-    name == b"defined".as_slice()
-        || name == b"__FILE__".as_slice()
-        || name == b"__LINE__".as_slice()
-        || name == b"__VA_ARGS__".as_slice()
-        || name == b"__has_include".as_slice()
 }
 
 // Whether the token behind a macro's name begins parameters: a `(` without white space before it.
@@ -221,12 +148,11 @@ fn begins_parameters(token: &TokenRef<'_>) -> bool
     token.is_mark(b"(") && !token.space
 }
 
-// The tokens of an object-like macro whose replacement list is so many tokens: none where `##` stands first or last (ISO C 6.10.3.3
-// paragraph 1).
-fn object_tokens(body: Tokens<'_>, count: usize) -> u64
-    requires { count ≡ length (rest_of body) }
+// The tokens of an object-like macro with this replacement list: none where `##` stands first or last (ISO C 6.10.3.3 paragraph 1).
+fn object_tokens(body: Tokens<'_>) -> u64
     ensures { result ≡ counted.object_tokens (rest_of body.entry) }
 {
+    let count = body.len();
     if begins_with_pasting(body) {
         return 0;
     }
@@ -254,10 +180,8 @@ fn is_pasting(token: &TokenRef<'_>) -> bool
     token.is_mark(b"##") || token.is_mark(b"%:%:")
 }
 
-// The tokens of a function-like macro, of which so many tokens stand behind the `(`. None where that isn't plain: more than two
-// parameters, or a `#`.
-fn function_tokens(inside: Tokens<'_>, count: usize) -> Option<u64>
-    requires { count ≡ length (rest_of inside) }
+// The tokens of a function-like macro, by those behind its `(`. None where that isn't plain: more than two parameters, or a `#`.
+fn function_tokens(inside: Tokens<'_>) -> Option<u64>
     ensures { IfSome result (λ n. (name : List ℕ) → n ≡ counted.enclosed_tokens name (rest_of inside.entry)) }
 {
     let listed = parameters_listed(inside)?;
@@ -265,7 +189,7 @@ fn function_tokens(inside: Tokens<'_>, count: usize) -> Option<u64>
     if has_hash(body) {
         return None;
     }
-    Some(object_tokens(body, count - listed))
+    Some(object_tokens(body))
 }
 
 // How many tokens behind a `(` list parameters up to the `)`, where these are at most two names.
@@ -329,7 +253,6 @@ fn is_hash(token: &TokenRef<'_>) -> bool
 fn read_tokens(alloc: Global, tokens: Tokens<'_>) -> Result<u64, AllocError>
     ensures { IfOk result (λ n. n ≡ counted.defined_tokens (rest_of tokens.entry)) }
 {
-    let tokens = tokens.to_list(alloc)?;
     match read_define(alloc, tokens) {
         Ok((_, definition)) => Ok(definition.body().len() as u64),
         Err(DefineError::Memory) => Err(AllocError),

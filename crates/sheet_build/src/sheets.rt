@@ -95,7 +95,7 @@ impl Sheet {
     ) -> Result<Sheet, AllocError>
         ensures { IfOk result (λ sheet. sheet ≡ sheet_with (filter_map definition_in pieces) parts) }
     {
-        let tokens = count_tokens(alloc, pieces.lexed())?;
+        let tokens = count_tokens(alloc, &pieces)?;
         let weight = weight_of(tokens, &parts);
         let defs = kept_defs(alloc, pieces, bytes, weight)?;
         let contents = Contents {

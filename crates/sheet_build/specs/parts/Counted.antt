@@ -1,17 +1,10 @@
--- How the tokens of definitions are counted, line by line.
-use Rattle.std.specs.Prelude.{◌≡◌, ℕ, Bool, false, not, ◌&&◌, List, [], ◌∷◌, length, drop, if◌then◌else◌, Option, None, Some, codes, bytes_eq}
+-- How the tokens of definitions are counted.
+use Rattle.std.specs.Prelude.{◌≡◌, ℕ, Bool, false, not, ◌&&◌, List, length, drop, if◌then◌else◌, Option, None, Some}
 use Rattle.std.specs.List.{list_any}
 use Rattle.pp_tokens.specs.declared.Token.{Token}
-use Rattle.pp_tokens.specs.Lines.{spells_hash}
 use Rattle.pp_tokens.specs.Marks.{is_identifier, is_hash}
 use Rattle.macro_defs.specs.Defining.{Named, up_to_parenthesis, is_written_reserved, begins_with_pasting, ends_with_pasting, enclosed_of, defined_by}
 use Rattle.sheet_build.specs.Sheet.{accepted}
-
--- a line is a `#define`
-abbrev pub is_define : List Token → Bool
-is_define [] = false
-is_define (t ∷ []) = false
-is_define (t ∷ u ∷ ts) = spells_hash t.text && bytes_eq u.text (codes "define")
 
 -- the tokens of a definition
 abbrev pub body_tokens : Option Named → ℕ
@@ -21,10 +14,6 @@ body_tokens (Some named) = length named.definition.body
 -- those of the definition that the tokens behind `#define` give, none where it is refused
 abbrev pub defined_tokens : List Token → ℕ
 defined_tokens ts = body_tokens (accepted (defined_by ts))
-
--- those of the definition on a line
-abbrev pub line_tokens : List Token → ℕ
-line_tokens ts = if is_define ts then defined_tokens (drop 2 ts) else 0
 
 -- those of an object-like macro with this replacement list (6.10.3.3 p1)
 abbrev pub object_tokens : List Token → ℕ

@@ -1,8 +1,10 @@
 use Rattle.std.proofs.Common.{◌≡◌, ◌-◌, ◌^◌, take}
-use Rattle.std.specs.Prelude.{min, sum_by}
-use Rattle.sheet_build.specs.parts.Counted.{line_tokens}
+use Rattle.std.specs.Prelude.{min}
+use Rattle.std.specs.List.{filter_map}
+use Rattle.sheet_build.specs.Sheet.{definition_in}
+use Rattle.sheet_build.specs.Weights.{tokens_defined}
 use Rattle.sheet_build.proofs.definitions.count_tokens.Given as goal
 
--- those of the lines so far
-abbrev pub invariant-loop-line : goal.invariant-loop-line
-invariant-loop-line l = l.tokens ≡ min (2 ^ 64 - 1) (sum_by line_tokens (take l.line l.file.lines))
+-- those of the pieces so far
+abbrev pub invariant-loop-number : goal.invariant-loop-number
+invariant-loop-number l = l.tokens ≡ min (2 ^ 64 - 1) (tokens_defined (filter_map definition_in (take l.number l.pieces)))

@@ -10,7 +10,7 @@ returns-then-begins_with_pasting-2 c =
     let body : List Token = rest_of c.args.body in
     let last : c.begins_with_pasting-2.result ≡ ends_with_pasting body =
     c.begins_with_pasting-2.ensures
-    ∙ ap begins_with_pasting (c.split_at.ensures.behind ∙ ap (λ (n : ℕ). drop n body) (c.saturating_sub.ensures ∙ ap (λ (n : ℕ). n - 1) c.requires))
+    ∙ ap begins_with_pasting (c.split_at.ensures.behind ∙ ap (λ (n : ℕ). drop n body) (c.saturating_sub.ensures ∙ ap (λ (n : ℕ). n - 1) c.len-count.ensures))
     ∙ ends-begins body in
     ended-tokens body (sym c.begins_with_pasting.ensures ∙ c.if-begins_with_pasting.false) (sym last ∙ c.if-begins_with_pasting-2.true)
 
@@ -19,6 +19,6 @@ returns c =
     let body : List Token = rest_of c.args.body in
     let last : c.begins_with_pasting-2.result ≡ ends_with_pasting body =
     c.begins_with_pasting-2.ensures
-    ∙ ap begins_with_pasting (c.split_at.ensures.behind ∙ ap (λ (n : ℕ). drop n body) (c.saturating_sub.ensures ∙ ap (λ (n : ℕ). n - 1) c.requires))
+    ∙ ap begins_with_pasting (c.split_at.ensures.behind ∙ ap (λ (n : ℕ). drop n body) (c.saturating_sub.ensures ∙ ap (λ (n : ℕ). n - 1) c.len-count.ensures))
     ∙ ends-begins body in
-    c.requires ∙ whole-tokens body (sym c.begins_with_pasting.ensures ∙ c.if-begins_with_pasting.false) (sym last ∙ c.if-begins_with_pasting-2.false)
+    c.len-count.ensures ∙ whole-tokens body (sym c.begins_with_pasting.ensures ∙ c.if-begins_with_pasting.false) (sym last ∙ c.if-begins_with_pasting-2.false)
