@@ -6,10 +6,11 @@ ghost use Rattle.macro_expand.specs.Seen.{kept_plain};
 
 use base_types::Bytes;
 use directive_scan::{Asked, Directive, DirectiveRef};
-use macro_defs::{DefineError, MacroTable, names_macro, read_define};
-use macro_expand::{Expander, Mode, Presumed, Run, Standing};
-use pp_tokens::{Token, Tokens};
+use macro_defs::{DefineError, MacroTable, Run, names_macro, read_shared};
+use macro_expand::{Expander, Mode, Presumed, Standing};
+use pp_tokens::{Lexed, Token, Tokens};
 use std::alloc::{AllocError, Global};
+use std::sync::Arc;
 
 /// The units of work that each run of text has.
 pub const UNITS: u64 = 20_000_000;
@@ -58,7 +59,7 @@ impl Unit {
     /// A directive is obeyed where it is `#define` or `#undef`.
     pub fn obey(&mut self, alloc: Global, line: DirectiveRef<'_>) -> Result<(), AllocError> {
         match line.asked() {
-            Asked::Define(rest) => self.define(alloc, rest),
+            Asked::Define(file, from, end) => self.define(alloc, file, from, end),
             Asked::Nothing => self.obey_other(alloc, line),
             _ => Ok(()),
         }
@@ -72,8 +73,14 @@ impl Unit {
     }
 
     // Defines what a line defines; one that defines nothing is counted and passed over.
-    fn define(&mut self, alloc: Global, rest: Tokens<'_>) -> Result<(), AllocError> {
-        match read_define(alloc, rest) {
+    fn define(
+        &mut self,
+        alloc: Global,
+        file: &Arc<Lexed, Global>,
+        from: usize,
+        end: usize,
+    ) -> Result<(), AllocError> {
+        match read_shared(alloc, file, from, end) {
             Ok((name, definition)) => self.table.define(name, definition),
             Err(DefineError::Memory) => Err(AllocError),
             Err(_) => {

@@ -113,7 +113,7 @@ impl Reading {
         match piece {
             PieceRef::Run(tokens) => self.add_run(alloc, tokens.to_list(alloc)?.as_slice()),
             PieceRef::Line { what, .. } => match what.asked() {
-                Asked::Define(rest) => self.define(alloc, rest),
+                Asked::Define(file, from, end) => self.define(alloc, file.tokens(from, end)),
                 _ => Ok(()),
             },
         }

@@ -7,7 +7,7 @@ ghost use Rattle.pp_tokens.specs.declared.Token.{Token};
 ghost use Rattle.pp_tokens.specs.Marks.{is_word};
 ghost use Rattle.pp_tokens.specs.Tokens.{token_seen, rest_of};
 ghost use Rattle.directive_scan.specs.Spots.{directive_seen, piece_seen};
-ghost use Rattle.macro_expand.specs.parts.Pending.{run_tokens};
+ghost use Rattle.macro_defs.specs.Runs.{run_tokens};
 ghost use Rattle.tree_model.specs.Paths.{spelled};
 ghost use Rattle.search_path.specs.Asks.{header_ask};
 ghost use Rattle.daemon_cpp.specs.declared.kept.Kept.{Kept};
@@ -28,7 +28,8 @@ use cond_eval::CondError;
 use directive_scan::{
     Asked, ConditionPart, DirectiveRef, HeaderName, PieceRef, Target, parts_of, parts_without_probe,
 };
-use macro_expand::{Expander, Mode, Run};
+use macro_defs::Run;
+use macro_expand::{Expander, Mode};
 use pp_tokens::{Token, TokenRef, Tokens};
 use search_path::header_ask;
 use std::alloc::Global;
@@ -74,7 +75,7 @@ fn test_directive_ref<T: Tree>(
         Asked::Elif(tokens) => condition(alloc, tree, kept, places, at, tokens),
         Asked::Ifdef(tokens) => name_condition(alloc, kept, places, at, true, tokens),
         Asked::Ifndef(tokens) => name_condition(alloc, kept, places, at, false, tokens),
-        Asked::Define(_) | Asked::Nothing => Ok(true),
+        Asked::Define(..) | Asked::Nothing => Ok(true),
     }
 }
 

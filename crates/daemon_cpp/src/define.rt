@@ -1,6 +1,7 @@
 // Definitions (ISO C 6.10.3).
-ghost use Rattle.std.specs.Prelude.{◌≡◌, ◌≤◌, Some, OnOk, IfErr, IsErrOf};
-ghost use Rattle.pp_tokens.specs.Tokens.{rest_of};
+ghost use Rattle.std.specs.Prelude.{◌≡◌, ◌≤◌, ◌-◌, take, drop, Some, OnOk, IfErr, IsErrOf};
+ghost use Rattle.std.specs.Arc.{arc_value};
+ghost use Rattle.pp_tokens.specs.Lines.{all_tokens};
 ghost use Rattle.macro_defs.specs.Defining.{defined_by};
 ghost use Rattle.macro_defs.specs.Table.{SetsDefinition};
 ghost use Rattle.daemon_cpp.specs.Prep.{define_step, undef_step};
@@ -10,23 +11,26 @@ use crate::diagnostic::Problem;
 use crate::kept::{Kept, Places};
 use crate::stop::{Stop, refused};
 use base_types::Bytes;
-use macro_defs::{DefineError, Definition, MacroTable, names_macro, read_define};
-use pp_tokens::{Token, Tokens};
+use macro_defs::{DefineError, Definition, MacroTable, names_macro, read_shared};
+use pp_tokens::{Lexed, Token};
 use std::alloc::Global;
+use std::sync::Arc;
 
-/// A `#define`.
+/// A `#define`: the tokens behind it are those of a file from one number up to another.
 pub fn define(
     alloc: Global,
     kept: &mut Kept,
     places: Places<'_>,
     at: u32,
-    tokens: Tokens<'_>,
+    file: &Arc<Lexed, Global>,
+    from: usize,
+    end: usize,
 ) -> Result<(), Stop>
-    ensures goes { Goes kept.old kept.new places.entry.source.now (here_seen places.entry) (λ state. define_step at (defined_by (rest_of tokens.entry)) state) result }
+    ensures goes { Goes kept.old kept.new places.entry.source.now (here_seen places.entry) (λ state. define_step at (defined_by (take (end - from) (drop from (all_tokens (arc_value file.now))))) state) result }
     ensures spends { kept.new.work.left ≤ kept.old.work.left }
     ensures no_fault { IsErrOf result Stop.Fault → ⊥ }
 {
-    match read_define(alloc, tokens) {
+    match read_shared(alloc, file, from, end) {
         Ok((name, definition)) => set(&mut kept.macros, name, definition),
         Err(error) => Err(definition_stop(alloc, places, at, error)),
     }

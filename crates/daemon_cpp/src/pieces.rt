@@ -60,7 +60,7 @@ fn onward(done: Result<(), Stop>) -> Result<Move, Stop>
     }
 }
 
-// A directive on a line. Its tokens are made here, but for those of a definition, which are copied into it.
+// A directive on a line. Its tokens are made here, but for those of a definition.
 fn run_line<T: Tree>(
     alloc: Global,
     tree: &mut T,
@@ -77,7 +77,9 @@ fn run_line<T: Tree>(
     ensures cause { HasCause Stop.Fault (T.faults tree.old) (T.faults tree.new) result }
 {
     match line.asked() {
-        Asked::Define(tokens) => onward(define(alloc, kept, places, at, tokens)),
+        Asked::Define(file, from, end) => {
+            onward(define(alloc, kept, places, at, file, from, end))
+        }
         Asked::Nothing => {
             let what = line.read(alloc)?;
             run_directive(alloc, tree, kept, places, at, what)

@@ -19,8 +19,8 @@ use crate::kept::{Kept, Places};
 use crate::stop::{Stop, refused};
 use base_types::List;
 use cpp_output::{LayError, Layout};
-use macro_defs::MacroTable;
-use macro_expand::{ExpandError, Expander, Lent, Mode, Presumed, Run, Work, expand};
+use macro_defs::{MacroTable, Run};
+use macro_expand::{ExpandError, Expander, Lent, Mode, Presumed, Work, expand};
 use pp_tokens::{Token, Tokens};
 use std::alloc::Global;
 

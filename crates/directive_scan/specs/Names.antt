@@ -1,4 +1,5 @@
 -- What a directive is by its name, which is told before its tokens are read (ISO C 6.10).
+use Rattle.std.specs.Arc.{arc_value}
 use Rattle.std.specs.Prelude.{List, drop}
 use Rattle.pp_tokens.specs.declared.Token.{Token}
 use Rattle.directive_scan.specs.declared.directive.Directive.{Directive}
@@ -30,4 +31,4 @@ directive_told name.Unknown ts = directive.Unknown
 
 -- the tokens of a lent directive behind its name
 abbrev pub tokens_behind : DirectiveRef → List Token
-tokens_behind line = drop 2 (tokens_at_line line.lexed.now line.line)
+tokens_behind line = drop 2 (tokens_at_line (arc_value line.lexed.now) line.line)

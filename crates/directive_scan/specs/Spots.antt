@@ -1,5 +1,6 @@
 -- Where the pieces of a file lie in its lexed form.
 use Rattle.std.specs.Prelude.{◌≡◌, ℕ, ◌-◌, ◌≤◌, List, [], ◌∷◌, length, map, take, drop, Option, None, Some, option_map}
+use Rattle.std.specs.Arc.{arc_value}
 use Rattle.std.specs.List.{flat_map}
 use Rattle.pp_tokens.specs.declared.Token.{Token}
 use Rattle.pp_tokens.specs.Lines.{LexedFile, all_tokens}
@@ -57,7 +58,7 @@ EachKnowsRole file (s ∷ ss) = KnowsRole file s × EachKnowsRole file ss
 
 -- what a lent piece shows
 abbrev pub directive_seen : DirectiveRef → Directive
-directive_seen line = directive_on line.lexed.now line.line
+directive_seen line = directive_on (arc_value line.lexed.now) line.line
 
 abbrev pub piece_seen : PieceRef → Piece
 piece_seen (lent.Run tokens) = piece.Run (rest_of tokens)
@@ -78,7 +79,7 @@ AsksOf (asked.If tokens) what = what ≡ directive.If (rest_of tokens)
 AsksOf (asked.Elif tokens) what = what ≡ directive.Elif (rest_of tokens)
 AsksOf (asked.Ifdef tokens) what = what ≡ directive.Ifdef (rest_of tokens)
 AsksOf (asked.Ifndef tokens) what = what ≡ directive.Ifndef (rest_of tokens)
-AsksOf (asked.Define tokens) what = what ≡ directive.Define (rest_of tokens)
+AsksOf (asked.Define file from end) what = what ≡ directive.Define (tokens_between (arc_value file.now) from end)
 AsksOf asked.Nothing what = AsksNothing what
 
 -- the pieces of a file: those of the spots so far, a run that goes on from a token up to a line, and those of the other lines

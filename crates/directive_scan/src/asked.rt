@@ -1,58 +1,60 @@
 // What the lines of conditionals ask and what definitions say, lent from the lexed file.
 ghost use Rattle.std.specs.Prelude.{◌≡◌, ◌<◌, ◌≤◌, ◌+◌, drop, length};
-ghost use Rattle.pp_tokens.specs.Tokens.{rest_of};
+ghost use Rattle.std.specs.Arc.{arc_value};
 ghost use Rattle.directive_scan.specs.Gathered.{tokens_at_line};
 ghost use Rattle.directive_scan.specs.Names.{directive_told};
-ghost use Rattle.directive_scan.specs.Spots.{AsksOf, directive_on, tokens_before};
+ghost use Rattle.directive_scan.specs.Spots.{AsksOf, directive_on, tokens_before, tokens_between};
 
 use crate::name::{DirectiveName, name_at};
 use pp_tokens::{Lexed, Tokens};
+use std::alloc::Global;
+use std::sync::Arc;
 
 /// What the line of a conditional asks (ISO C 6.10.1), or a `#define` defines (6.10.3), with the tokens behind the directive's name as they
-/// lie in the file. `Nothing` is any other directive.
+/// lie in the file; of a definition the file, and the numbers of the first of these tokens and of the one behind the last. `Nothing` is any
+/// other directive.
 #[derive(Clone, Copy, Drop)]
 pub enum Asked<'a> {
     If(Tokens<'a>),
     Elif(Tokens<'a>),
     Ifdef(Tokens<'a>),
     Ifndef(Tokens<'a>),
-    Define(Tokens<'a>),
+    Define(&'a Arc<Lexed, Global>, usize, usize),
     Nothing,
 }
 
 // What the directive on a line asks. One without a name asks nothing.
 #[tactic(auto, unfolding(crate::specs::Directives::directive_of))]
-pub fn asked_at(file: &Lexed, line: usize) -> Asked<'_>
-    ensures { AsksOf result (directive_on file.now line) }
+pub fn asked_at(file: &Arc<Lexed, Global>, line: usize) -> Asked<'_>
+    ensures { AsksOf result (directive_on (arc_value file.now) line) }
 {
     if line >= file.line_count() || file.token_count(line) < 2 {
         return Asked::Nothing;
     }
     let end = file.tokens_before(line + 1);
-    asked_by(name_at(file, line), behind_name(file, line, end))
+    asked_by(name_at(file, line), file, from_name(file, line, end), end)
 }
 
-// The tokens of a line behind its `#` and the directive's name. As many as `end` stand up to the line's end.
-fn behind_name(file: &Lexed, line: usize, end: usize) -> Tokens<'_>
+// The number of the first token of a line behind its `#` and the directive's name. As many as `end` stand up to the line's end.
+fn from_name(file: &Lexed, line: usize, end: usize) -> usize
     requires below { line < length file.now.lines }
     requires named { 2 ≤ length (tokens_at_line file.now line) }
     requires ends { end ≡ tokens_before file.now (line + 1) }
-    ensures { rest_of result ≡ drop 2 (tokens_at_line file.now line) }
+    ensures { tokens_between file.now result end ≡ drop 2 (tokens_at_line file.now line) }
 {
-    let from = file.tokens_before(line) + 2;
-    file.tokens(from, end)
+    file.tokens_before(line) + 2
 }
 
-// What a directive of this name asks.
-fn asked_by(name: DirectiveName, tokens: Tokens<'_>) -> Asked<'_>
-    ensures { AsksOf result (directive_told name (rest_of tokens.entry)) }
+// What a directive of this name asks, whose tokens are those from one number up to another.
+fn asked_by(name: DirectiveName, file: &Arc<Lexed, Global>, from: usize, end: usize) -> Asked<'_>
+    ensures { AsksOf result (directive_told name (tokens_between (arc_value file.now) from end)) }
 {
     match name {
-        DirectiveName::If => Asked::If(tokens),
-        DirectiveName::Elif => Asked::Elif(tokens),
-        DirectiveName::Ifdef => Asked::Ifdef(tokens),
-        DirectiveName::Ifndef => Asked::Ifndef(tokens),
-        DirectiveName::Define => Asked::Define(tokens),
+        DirectiveName::If => Asked::If(file.tokens(from, end)),
+        DirectiveName::Elif => Asked::Elif(file.tokens(from, end)),
+        DirectiveName::Ifdef => Asked::Ifdef(file.tokens(from, end)),
+        DirectiveName::Ifndef => Asked::Ifndef(file.tokens(from, end)),
+        DirectiveName::Define => Asked::Define(file, from, end),
         _ => Asked::Nothing,
     }
 }

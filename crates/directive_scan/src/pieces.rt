@@ -33,7 +33,8 @@ pub struct Pieces {
 // What the pieces of a file and their copies hold.
 #[derive(Drop)]
 struct Parts {
-    lexed: Lexed,
+    // definitions keep the file beyond its pieces
+    lexed: Arc<Lexed, Global>,
     spots: Vec<Spot>,
 }
 
@@ -47,16 +48,16 @@ impl Model for Pieces {
 
     ghost Value = { List Piece };
 
-    ghost view = { λ p. let parts = arc_value p.parts in map (piece_at parts.lexed) parts.spots.items };
+    ghost view = { λ p. let parts = arc_value p.parts in map (piece_at (arc_value parts.lexed)) parts.spots.items };
 
-    ghost invariant = { λ p. EachKnowsRole (arc_value p.parts).lexed (arc_value p.parts).spots.items
-        × (map (piece_at (arc_value p.parts).lexed) (arc_value p.parts).spots.items ≡ pieces (arc_value p.parts).lexed.lines) };
+    ghost invariant = { λ p. let parts = arc_value p.parts in EachKnowsRole (arc_value parts.lexed) parts.spots.items
+        × (map (piece_at (arc_value parts.lexed)) parts.spots.items ≡ pieces (arc_value parts.lexed).lines) };
 }
 
 /// A directive that lies in its file.
 #[derive(Clone, Copy, Drop)]
 pub struct DirectiveRef<'a> {
-    lexed: &'a Lexed,
+    lexed: &'a Arc<Lexed, Global>,
     line: usize,
 }
 
@@ -75,7 +76,13 @@ impl Pieces {
         let mut spots = spots(alloc, &lexed)?;
         spots.shrink_to_fit();
         Ok(Pieces {
-            parts: Arc::new(alloc, Parts { lexed, spots })?,
+            parts: Arc::new(
+                alloc,
+                Parts {
+                    lexed: Arc::new(alloc, lexed)?,
+                    spots,
+                },
+            )?,
         })
     }
 

@@ -5,10 +5,11 @@ use crate::nowhere::Nowhere;
 use base_types::{Bytes, List};
 use case_texts::{Texts, Wrong, spelled};
 use directive_scan::{Asked, Directive, DirectiveRef, PieceRef, Pieces};
-use macro_defs::{DefineError, MacroTable, names_macro, read_define};
+use macro_defs::{DefineError, MacroTable, names_macro, read_shared};
 use macro_expand::{ExpandError, Mode, Presumed, RunError, Work, expand, expand_for};
-use pp_tokens::{Token, Tokens, lex};
+use pp_tokens::{Lexed, Token, lex};
 use std::alloc::{AllocError, Global};
+use std::sync::Arc;
 
 /// What texts become.
 #[derive(Drop)]
@@ -107,7 +108,7 @@ impl Expansion {
         match piece {
             PieceRef::Run(tokens) => self.add_run(alloc, tokens.to_list(alloc)?.as_slice()),
             PieceRef::Line { what, .. } => match what.asked() {
-                Asked::Define(rest) => self.define(alloc, rest),
+                Asked::Define(file, from, end) => self.define(alloc, file, from, end),
                 Asked::Nothing => self.obey_other(alloc, what),
                 _ => Ok(()),
             },
@@ -122,8 +123,14 @@ impl Expansion {
         Ok(())
     }
 
-    fn define(&mut self, alloc: Global, rest: Tokens<'_>) -> Result<(), AllocError> {
-        match read_define(alloc, rest) {
+    fn define(
+        &mut self,
+        alloc: Global,
+        file: &Arc<Lexed, Global>,
+        from: usize,
+        end: usize,
+    ) -> Result<(), AllocError> {
+        match read_shared(alloc, file, from, end) {
             Ok((name, definition)) => self.table.define(name, definition),
             Err(DefineError::Memory) => Err(AllocError),
             Err(_) => Ok(()),

@@ -1,15 +1,16 @@
 -- What the tokens behind a name define.
-use Rattle.std.proofs.Common.{◌≡◌, ℕ, ◌≤◌, Bool, true, false, List, [], ◌∷◌, ◌++◌, length, ◌-◌, take, drop, sym, ap, ◌∙◌, subst, if◌then◌else◌, append_assoc, length-append, arith}
-use Rattle.std.specs.Prelude.{Result, Ok, Err, IfOk, IfErr}
+use Rattle.std.proofs.Common.{◌≡◌, ℕ, zero, suc, ◌+◌, refl, ◌≤◌, Bool, true, false, List, [], ◌∷◌, ◌++◌, length, ◌-◌, take, drop, map, sym, ap, ◌∙◌, subst, if◌then◌else◌, append_assoc, length-append, arith}
+use Rattle.std.specs.Prelude.{Result, Ok, Err, IfOk, IfErr, ◌||◌, ◌&&◌, not}
 use Rattle.std.specs.List.{list_any}
 use Rattle.std.proofs.lemmas.List.{take_rest}
 use Rattle.std.proofs.Math.Seq.{drop-append_seam}
 use Rattle.pp_tokens.specs.declared.Token.{Token}
-use Rattle.pp_tokens.specs.Marks.{is_close}
+use Rattle.pp_tokens.specs.Marks.{is_open, is_close, is_pasting}
 use Rattle.macro_defs.specs.declared.definition.DefineError.{DefineError}
+use Rattle.macro_defs.specs.declared.definition.Shape.TheVariants.{Object}
 use Rattle.macro_defs.specs.declared.definition.DefineError.TheVariants.{Name, Params}
-use Rattle.macro_defs.specs.MacroDefinition.{MacroDefinition}
-use Rattle.macro_defs.specs.Defining.{Named, RefusesDefinition, IsParted, names_macro, after_name, enclosed_of, function_of, parameters_of, up_to_parenthesis, defined_by}
+use Rattle.macro_defs.specs.MacroDefinition.{MacroDefinition, without_line}
+use Rattle.macro_defs.specs.Defining.{Named, RefusesDefinition, IsParted, names_macro, after_name, enclosed_of, function_of, parameters_of, up_to_parenthesis, defined_by, begins_with_pasting, ends_with_pasting, with_body, definition_from}
 use Rattle.macro_defs.proofs.Pieces.{closed, unclosed}
 
 -- a definition that is found, whatever the name
@@ -81,3 +82,79 @@ right_macro rest behind t d is some right = a_macro rest behind t is some ∙ ri
 pub wrong_macro : (rest behind : List Token) (t : Token) (e : DefineError) → rest ≡ t ∷ behind → names_macro t ≡ true
     → ((name : List ℕ) → RefusesDefinition e (after_name name behind)) → RefusesDefinition e (defined_by rest)
 wrong_macro rest behind t e is some wrong = subst (RefusesDefinition e) (sym (a_macro rest behind t is some)) (wrong t.text)
+
+-- Tokens of a file.
+
+same_tail : {A : Type 0} (y x : A) (ys rest : List A) → y ∷ ys ≡ x ∷ rest → ys ≡ rest
+same_tail y x ys rest is = cc
+
+-- the tokens behind the first of so many
+behind_one : {A : Type 0} (ys : List A) (n : ℕ) (x : A) (rest : List A) → take n ys ≡ x ∷ rest → take (n - 1) (drop 1 ys) ≡ rest
+behind_one [] zero x rest is = cc
+behind_one [] (suc n) x rest is = cc
+behind_one (y ∷ ys) zero x rest is = cc
+behind_one (y ∷ ys) (suc n) x rest is = let less : suc n - 1 ≡ n = omega arith in rw less (same_tail y x (take n ys) rest is)
+
+drop_next : {A : Type 0} (xs : List A) (from : ℕ) → drop (from + 1) xs ≡ drop 1 (drop from xs)
+drop_next [] zero = refl
+drop_next [] (suc from) = let more : suc from + 1 ≡ suc (from + 1) = omega arith in rw more refl
+drop_next (y ∷ xs) zero = refl
+drop_next (y ∷ xs) (suc from) = let more : suc from + 1 ≡ suc (from + 1) = omega arith in rw more (drop_next xs from)
+
+-- the tokens behind the first of those between two numbers
+behind_between : {A : Type 0} (xs : List A) (from end : ℕ) (x : A) (rest : List A) → take (end - from) (drop from xs) ≡ x ∷ rest → take (end - (from + 1)) (drop (from + 1) xs) ≡ rest
+behind_between xs from end x rest is =
+    let less : end - (from + 1) ≡ end - from - 1 = omega arith in
+    rw (less, drop_next xs from) (behind_one (drop from xs) (end - from) x rest is)
+
+-- the same where the numbers are told otherwise
+pub behind_told : (xs : List Token) (from end start stop : ℕ) (x : Token) (rest : List Token) → start ≡ from + 1 → stop ≡ end → take (end - from) (drop from xs) ≡ x ∷ rest
+    → take (stop - start) (drop start xs) ≡ rest
+behind_told xs from end start stop x rest first last is =
+    ap (λ n. take (stop - n) (drop n xs)) first ∙ ap (λ n. take (n - (from + 1)) (drop (from + 1) xs)) last ∙ behind_between xs from end x rest is
+
+neither_first : (a b : Bool) → (a || b) ≡ false → a ≡ false
+neither_first true b none = cc
+neither_first false b none = refl
+
+neither_second : (a b : Bool) → (a || b) ≡ false → b ≡ false
+neither_second true b none = cc
+neither_second false b none = none
+
+-- no `##` stands at an end of a replacement list that has none
+not_first : (ts : List Token) → list_any is_pasting ts ≡ false → begins_with_pasting ts ≡ false
+not_first [] none = refl
+not_first (t ∷ ts) none = neither_first (is_pasting t) (list_any is_pasting ts) none
+
+not_last : (ts : List Token) → list_any is_pasting ts ≡ false → ends_with_pasting ts ≡ false
+unfolding ends_with_pasting
+not_last [] none = refl
+not_last (t ∷ []) none = neither_first (is_pasting t) (list_any is_pasting []) none
+not_last (t ∷ u ∷ ts) none = not_last (u ∷ ts) (neither_second (is_pasting t) (list_any is_pasting (u ∷ ts)) none)
+
+-- an object-like macro without `##` is what its replacement list says
+pub plain_body : (name : List ℕ) (ts : List Token) → list_any is_pasting ts ≡ false → with_body name Object true ts ≡ Ok (record { name = name; definition = definition_from Object ts })
+plain_body name ts none = rw (not_first ts none, not_last ts none) refl
+
+-- the line of a token doesn't tell whether it is a `##`
+pub pasting_unlined : (ts : List Token) → list_any is_pasting ts ≡ false → list_any is_pasting (map without_line ts) ≡ false
+pasting_unlined [] none = refl
+pasting_unlined (t ∷ ts) none =
+    rw (neither_first (is_pasting t) (list_any is_pasting ts) none) (pasting_unlined ts (neither_second (is_pasting t) (list_any is_pasting ts) none))
+
+-- a name that may name a macro, before the replacement list of an object-like one without `##`
+pub plain_macro : (rest behind within : List Token) (t : Token) (d : MacroDefinition) → rest ≡ t ∷ behind → names_macro t ≡ true
+    → ((name : List ℕ) → after_name name behind ≡ with_body name Object true behind) → list_any is_pasting behind ≡ false
+    → within ≡ behind → d ≡ definition_from Object within → defined_by rest ≡ Ok (record { name = t.text; definition = d })
+plain_macro rest behind within t d is some after none same made =
+    right_macro rest behind t d is some
+    (λ name. after name ∙ plain_body name behind none ∙ ap (λ ts. Ok (record { name = name; definition = definition_from Object ts })) (sym same) ∙ ap (λ m. Ok (record { name = name; definition = m })) (sym made))
+
+-- a token behind a name that begins no parameters
+pub no_parameters : (rest behind : List Token) (t : Token) (begins : Bool) → rest ≡ t ∷ behind → begins ≡ (is_open t && not t.space) → begins ≡ false
+    → (name : List ℕ) → after_name name rest ≡ with_body name Object true rest
+no_parameters rest behind t begins is told none name =
+    rw is (ap (λ (b : Bool). if b then enclosed_of name (up_to_parenthesis behind) else with_body name Object true (t ∷ behind)) (sym told ∙ none))
+
+pub no_tokens : (rest : List Token) → rest ≡ [] → (name : List ℕ) → after_name name rest ≡ with_body name Object true rest
+no_tokens rest none name = rw none refl

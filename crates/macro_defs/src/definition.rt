@@ -1,13 +1,16 @@
 // A macro definition.
 ghost use Rattle.std.specs.Prelude.{◌≡◌, map};
 
-use crate::copies::{copy_numbers, copy_shape, copy_tokens};
+use crate::body::Body;
+use crate::copies::{copy_numbers, copy_shape};
 use crate::numbers::numbers_in;
+use crate::run::Run;
 use crate::sameness::{same_shape, same_tokens};
 use base_types::{Bytes, List};
-use pp_tokens::Token;
+use pp_tokens::{Lexed, Token};
 use std::alloc::{AllocError, Global};
 use std::marker::Model;
+use std::sync::Arc;
 use thiserror::Error;
 
 /// The form of a macro (ISO C 6.10.3 paragraphs 9 and 10). `params` are the parameters' names in order. Where `variadic`,
@@ -23,7 +26,7 @@ pub enum Shape {
 #[derive(Drop)]
 pub struct Definition {
     shape: Shape,
-    body: List<Token>,
+    body: Body,
     // for each token of the body the number of the parameter that it names; empty where there are no parameters
     named: Vec<Option<u32>>,
 }
@@ -33,19 +36,25 @@ impl Model for Definition {
     ghost use Rattle.macro_defs.specs.MacroDefinition.{MacroDefinition, without_line};
     ghost use Rattle.macro_defs.specs.Arguments.{parameters_in};
     ghost use Rattle.macro_defs.specs.parts.Stored.{numbers_kept};
+    ghost use Rattle.macro_defs.specs.parts.Kept.{body_tokens, MayShare};
 
     ghost Value = { MacroDefinition };
 
-    ghost view = { λ d. record { shape = d.shape; body = map without_line d.body } };
+    ghost view = { λ d. record { shape = d.shape; body = map without_line (body_tokens d.body) } };
 
-    ghost invariant = { λ d. d.named.items ≡ numbers_kept (parameters_in d.shape) d.body };
+    ghost invariant = { λ d. (d.named.items ≡ numbers_kept (parameters_in d.shape) (body_tokens d.body)) × MayShare d.shape d.body };
 }
 
 impl Definition {
-    ghost use Rattle.std.specs.Prelude.{◌≡◌, map, IfOk};
+    ghost use Rattle.std.specs.Prelude.{◌≡◌, ◌-◌, map, take, drop, IfOk};
+    ghost use Rattle.std.specs.Arc.{arc_value};
+    ghost use Rattle.pp_tokens.specs.Lines.{all_tokens};
     ghost use Rattle.macro_defs.specs.Defining.{definition_from};
     ghost use Rattle.macro_defs.specs.MacroDefinition.{without_line};
     ghost use Rattle.macro_defs.specs.Arguments.{parameter_at};
+    ghost use Rattle.macro_defs.specs.Runs.{run_tokens};
+    ghost use Rattle.macro_defs.specs.declared.definition.Shape.TheVariants.{Object};
+    ghost use Rattle.macro_defs.specs.parts.Kept.{IsPlain, SharesPlain};
 
     /// A definition of this form with this replacement list. Any list is taken: of one that `read_define` refuses, expansion leaves
     /// out a `#` that no parameter follows and a `##` that stands first or last (ISO C 6.10.3.2 paragraph 1, 6.10.3.3 paragraph 1).
@@ -56,7 +65,29 @@ impl Definition {
         ensures { IfOk result (λ d. d ≡ definition_from shape body) }
     {
         let named = numbers_in(alloc, &shape, body.as_slice())?;
-        Ok(Definition { shape, body, named })
+        Ok(Definition {
+            shape,
+            body: Body::Listed(body),
+            named,
+        })
+    }
+
+    // An object-like macro, whose replacement list is the tokens of a file from one number up to another.
+    #[inline(always)]
+    pub(crate) fn shared(
+        alloc: Global,
+        file: &Arc<Lexed, Global>,
+        from: u32,
+        end: u32,
+    ) -> Result<Definition, AllocError>
+        requires { IsPlain Object (take (end - from) (drop from (all_tokens (arc_value file.now)))) }
+        ensures { IfOk result (λ d. d ≡ definition_from Object (take (end - from) (drop from (all_tokens (arc_value file.now))))) }
+    {
+        Ok(Definition {
+            shape: Shape::Object,
+            body: Body::Shared(Arc::try_clone(file)?, from, end),
+            named: Vec::new(alloc),
+        })
     }
 
     pub fn shape(&self) -> &Shape
@@ -65,21 +96,23 @@ impl Definition {
         &self.shape
     }
 
-    /// A copy. The only error is want of memory.
+    /// A copy. A file that the definition shares is shared once more. The only error is want of memory.
     pub fn copy(&self, alloc: Global) -> Result<Definition, AllocError>
         ensures { IfOk result (λ d. d ≡ self.now) }
     {
         let shape = copy_shape(alloc, &self.shape)?;
-        let body = copy_tokens(alloc, self.body.as_slice())?;
+        let body = self.body.copy(alloc)?;
         let named = copy_numbers(alloc, self.named.as_slice())?;
         Ok(Definition { shape, body, named })
     }
 
-    /// The replacement list. What lines its tokens have is not told.
-    pub fn body(&self) -> &[Token]
-        ensures { map without_line result.now ≡ self.now.body }
+    /// The replacement list. What lines its tokens have is not told. Only that of an object-like macro without `##` is in a file.
+    #[inline(always)]
+    pub fn body(&self) -> Run<'_>
+        ensures tokens { map without_line (run_tokens result) ≡ self.now.body }
+        ensures shared { SharesPlain self.now.shape result }
     {
-        self.body.as_slice()
+        self.body.tokens()
     }
 
     /// The number, from 0, of the parameter that the token at a place of the replacement list names: the first one whose name
@@ -113,7 +146,7 @@ impl PartialEq for Definition {
         ensures same { IsTrue result ↔ (self.now ≡ other.now) }
     {
         same_shape(&self.shape, &other.shape)
-            && same_tokens(self.body.as_slice(), other.body.as_slice())
+            && same_tokens(self.body.tokens(), other.body.tokens())
     }
 }
 

@@ -1,10 +1,12 @@
 // The tokens that macros are written with (ISO C 6.4, 6.10.3).
 ghost use Rattle.std.specs.Prelude.{◌≡◌, ◌&&◌, not, false, MatchOption};
 ghost use Rattle.std.specs.List.{list_any};
+ghost use Rattle.pp_tokens.specs.Marks as spec;
 ghost use Rattle.pp_tokens.specs.Marks.{is_open, is_mark};
+ghost use Rattle.pp_tokens.specs.Tokens.{token_seen, rest_of};
 ghost use Rattle.macro_defs.specs.Defining.{IsParted};
 
-use pp_tokens::Token;
+use pp_tokens::{Token, TokenRef, Tokens};
 
 // Whether the token behind a macro's name begins parameters: a `(` without white space before it.
 pub(crate) fn begins_parameters(token: &Token) -> bool
@@ -23,4 +25,24 @@ pub(crate) fn parted<'t>(tokens: &'t [Token], spelling: &[u8]) -> Option<(&'t [T
         }
     }
     None
+}
+
+// Whether a token is a `##`, or its digraph (ISO C 6.4.6, 6.10.3.3).
+#[inline(always)]
+fn is_pasting(token: &TokenRef<'_>) -> bool
+    ensures { result ≡ spec.is_pasting (token_seen token.now) }
+{
+    token.is_mark(b"##") || token.is_mark(b"%:%:")
+}
+
+// Whether there is a `##` among the tokens.
+pub(crate) fn has_pasting(tokens: Tokens<'_>) -> bool
+    ensures { result ≡ list_any spec.is_pasting (rest_of tokens.entry) }
+{
+    for token in tokens {
+        if is_pasting(&token) {
+            return true;
+        }
+    }
+    false
 }

@@ -1,17 +1,22 @@
 // Reading a `#define` line.
-ghost use Rattle.std.specs.Prelude.{◌≡◌, ◌≤◌, ◌∷◌, [], ℕ, List, length, drop, true, if◌then◌else◌, IfOk, IfErr, IsTrue, Ok};
+ghost use Rattle.std.specs.Prelude.{◌≡◌, ◌≤◌, ◌+◌, ◌-◌, ◌∷◌, [], ℕ, List, length, take, drop, true, false, if◌then◌else◌, IfOk, IfErr, IfSome, IsTrue, Ok};
+ghost use Rattle.std.specs.Arc.{arc_value};
+ghost use Rattle.std.specs.List.{list_any};
+ghost use Rattle.pp_tokens.specs.Lines.{all_tokens};
+ghost use Rattle.pp_tokens.specs.Marks.{is_pasting};
 ghost use Rattle.pp_tokens.specs.Tokens.{token_seen, rest_of};
 ghost use Rattle.macro_defs.specs.declared.definition.Shape.TheVariants.{Object};
 ghost use Rattle.macro_defs.specs.Defining as spec;
 ghost use Rattle.macro_defs.specs.Defining.{defined_by, up_to_parenthesis, RefusesDefinition};
 
-use crate::marks::{begins_parameters, parted};
+use crate::marks::{begins_parameters, has_pasting, parted};
 use crate::params::parameters_of;
 use crate::replacement::{hashes_parameters, with_body};
 use crate::{DefineError, Definition, Shape};
 use base_types::Bytes;
-use pp_tokens::{Token, TokenRef, Tokens};
+use pp_tokens::{Lexed, Token, TokenRef, Tokens};
 use std::alloc::{AllocError, Global};
+use std::sync::Arc;
 
 /// Whether a token may name a macro, in `#define` and in `#undef` (ISO C 6.10.8 paragraph 4): an identifier other than
 /// `defined`, `__FILE__`, `__LINE__`, `__VA_ARGS__` and `__has_include`.
@@ -49,6 +54,82 @@ pub fn read_define(alloc: Global, rest: Tokens<'_>) -> Result<(Bytes, Definition
     let behind = copied(alloc, behind)?;
     let definition = after_name(alloc, behind)?;
     Ok((Bytes::copy_of(alloc, name.text)?, definition))
+}
+
+/// The same of the tokens of a file from one number up to another, as `Lexed::tokens` counts them. An object-like macro whose replacement
+/// list has no `##` shares the file, and no token is copied for it.
+pub fn read_shared(
+    alloc: Global,
+    file: &Arc<Lexed, Global>,
+    from: usize,
+    end: usize,
+) -> Result<(Bytes, Definition), DefineError>
+    ensures ok { IfOk result (λ d. defined_by (take (end - from) (drop from (all_tokens (arc_value file.now)))) ≡ Ok (record { name = d.0; definition = d.1 })) }
+    ensures err { IfErr result (λ e. RefusesDefinition e (defined_by (take (end - from) (drop from (all_tokens (arc_value file.now)))))) }
+{
+    match plain_within(alloc, file, from, end)? {
+        Some(named) => Ok(named),
+        None => read_define(alloc, file.tokens(from, end)),
+    }
+}
+
+// The name and the definition of an object-like macro without `##`, where the tokens from one number up to another give one.
+#[inline(always)]
+fn plain_within(
+    alloc: Global,
+    file: &Arc<Lexed, Global>,
+    from: usize,
+    end: usize,
+) -> Result<Option<(Bytes, Definition)>, AllocError>
+    ensures { IfOk result (λ found. IfSome found (λ d. defined_by (take (end - from) (drop from (all_tokens (arc_value file.now)))) ≡ Ok (record { name = d.0; definition = d.1 }))) }
+{
+    let Some((start, stop)) = numbers_of(from, end) else {
+        return Ok(None);
+    };
+    let mut behind = file.tokens(from, end);
+    let Some(name) = behind.next() else {
+        return Ok(None);
+    };
+    if !names_macro(&name) || !is_plain(behind) {
+        return Ok(None);
+    }
+    let definition = Definition::shared(alloc, file, start, stop)?;
+    Ok(Some((Bytes::copy_of(alloc, name.text)?, definition)))
+}
+
+// The numbers of the token behind one and of the end, where they aren't too large.
+#[inline(always)]
+fn numbers_of(from: usize, end: usize) -> Option<(u32, u32)>
+    ensures { IfSome result (λ numbers. (numbers.0 ≡ from + 1) × (numbers.1 ≡ end)) }
+{
+    let Ok(start) = u32::try_from(from.checked_add(1)?) else {
+        return None;
+    };
+    let Ok(stop) = u32::try_from(end) else {
+        return None;
+    };
+    Some((start, stop))
+}
+
+// Whether the tokens behind a name are the replacement list of an object-like macro that has no `##`.
+#[inline(always)]
+fn is_plain(behind: Tokens<'_>) -> bool
+    ensures { IsTrue result → ((name : List ℕ) → spec.after_name name (rest_of behind.entry) ≡ spec.with_body name Object true (rest_of behind.entry))
+        × (list_any is_pasting (rest_of behind.entry) ≡ false) }
+{
+    !has_parameters(behind) && !has_pasting(behind)
+}
+
+// Whether parameters stand first behind the name.
+#[inline(always)]
+fn has_parameters(behind: Tokens<'_>) -> bool
+    ensures { result ≡ false → (name : List ℕ) → spec.after_name name (rest_of behind.entry) ≡ spec.with_body name Object true (rest_of behind.entry) }
+{
+    let mut behind = behind;
+    match behind.next() {
+        Some(first) => first.is_mark(b"(") && !first.space,
+        None => false,
+    }
 }
 
 fn copied(alloc: Global, tokens: Tokens<'_>) -> Result<Vec<Token>, AllocError>

@@ -2,12 +2,15 @@
 ghost use Rattle.std.specs.Prelude.{◌≡◌, bytes_eq};
 ghost use Rattle.std.specs.Cmp.Lexicographic.{pointwise};
 ghost use Rattle.macro_defs.specs.declared.definition.Shape.TheVariants.{Function};
+ghost use Rattle.pp_tokens.specs.Tokens.{token_seen};
 ghost use Rattle.macro_defs.specs.MacroDefinition.{without_line};
+ghost use Rattle.macro_defs.specs.Runs.{run_tokens};
 ghost use Rattle.macro_defs.specs.Sameness.{is_same_kind, is_same_token, is_same_shape};
 
 use crate::Shape;
+use crate::run::Run;
 use base_types::Bytes;
-use pp_tokens::{Kind, Token};
+use pp_tokens::{Kind, TokenRef};
 
 // Whether two forms are the same.
 pub(crate) fn same_shape(one: &Shape, other: &Shape) -> bool
@@ -48,27 +51,25 @@ fn same_names(one: &[Bytes], other: &[Bytes]) -> bool
     true
 }
 
-// Whether two lists of tokens are the same, whatever the lines.
-pub(crate) fn same_tokens(one: &[Token], other: &[Token]) -> bool
-    ensures { result ≡ pointwise (λ a b. is_same_token (without_line a) (without_line b)) one.now other.now }
+// Whether two replacement lists are the same, whatever the lines.
+pub(crate) fn same_tokens(mut one: Run<'_>, mut other: Run<'_>) -> bool
+    ensures { result ≡ pointwise (λ a b. is_same_token (without_line a) (without_line b)) (run_tokens one.entry) (run_tokens other.entry) }
 {
-    if one.len() != other.len() {
-        return false;
-    }
-    for (i, token) in one.iter().enumerate() {
-        if !same_token(token, &other[i]) {
+    while let Some(token) = one.next() {
+        let Some(beside) = other.next() else {
+            return false;
+        };
+        if !same_token(&token, &beside) {
             return false;
         }
     }
-    true
+    other.next().is_none()
 }
 
-fn same_token(one: &Token, other: &Token) -> bool
-    ensures { result ≡ is_same_token (without_line one.now) (without_line other.now) }
+fn same_token(one: &TokenRef<'_>, other: &TokenRef<'_>) -> bool
+    ensures { result ≡ is_same_token (without_line (token_seen one.now)) (without_line (token_seen other.now)) }
 {
-    same_kind(one.kind, other.kind)
-        && one.text.as_slice() == other.text.as_slice()
-        && one.space == other.space
+    same_kind(one.kind, other.kind) && one.text == other.text && one.space == other.space
 }
 
 fn same_kind(one: Kind, other: Kind) -> bool

@@ -3,10 +3,11 @@ ghost use Rattle.std.specs.Prelude.{◌≤◌, length};
 
 use base_types::Bytes;
 use directive_scan::{Asked, PieceRef, Pieces};
-use macro_defs::{DefineError, Definition, MacroTable, Shape, read_define};
-use pp_tokens::{Token, Tokens, lex};
+use macro_defs::{DefineError, Definition, MacroTable, Run, Shape, read_shared};
+use pp_tokens::{Lexed, lex};
 use std::alloc::{AllocError, Global};
 use std::process::Abort;
+use std::sync::Arc;
 
 // The name and the definition of a line.
 fn defined(rt: &impl Abort, alloc: Global, line: &str) -> Result<(Bytes, Definition), DefineError> {
@@ -15,7 +16,7 @@ fn defined(rt: &impl Abort, alloc: Global, line: &str) -> Result<(Bytes, Definit
     }
     let pieces = pieces_of(alloc, line.as_bytes()).expect(rt, "no memory");
     match first_define(&pieces) {
-        Some(tokens) => read_define(alloc, tokens),
+        Some((file, from, end)) => read_shared(alloc, file, from, end),
         None => rt.panic("no macro is defined"),
     }
 }
@@ -27,19 +28,19 @@ fn pieces_of(alloc: Global, line: &[u8]) -> Result<Pieces, AllocError>
     Pieces::of(alloc, lexed)
 }
 
-fn first_define(pieces: &Pieces) -> Option<Tokens<'_>> {
+fn first_define(pieces: &Pieces) -> Option<(&Arc<Lexed, Global>, usize, usize)> {
     for number in 0..pieces.len() {
         if let PieceRef::Line { what, .. } = pieces.piece(number) {
-            if let Asked::Define(tokens) = what.asked() {
-                return Some(tokens);
+            if let Asked::Define(file, from, end) = what.asked() {
+                return Some((file, from, end));
             }
         }
     }
     None
 }
 
-fn spelled(bytes: &Bytes) -> &str {
-    std::str::from_utf8(bytes.as_slice()).unwrap_or("?")
+fn spelled(bytes: &[u8]) -> &str {
+    std::str::from_utf8(bytes).unwrap_or("?")
 }
 
 // What a line gives: its name and its definition, or why it has none.
@@ -56,7 +57,7 @@ fn add_line(
 }
 
 fn add_named(text: &mut String, name: &Bytes, definition: &Definition) -> Result<(), AllocError> {
-    text.push_str(spelled(name))?;
+    text.push_str(spelled(name.as_slice()))?;
     add_definition(text, definition)
 }
 
@@ -73,15 +74,18 @@ fn add_definition(text: &mut String, definition: &Definition) -> Result<(), Allo
 fn add_params(text: &mut String, params: &[Bytes], variadic: bool) -> Result<(), AllocError> {
     text.push('(')?;
     for name in params {
-        write!(text, "{} ", spelled(name))?;
+        write!(text, "{} ", spelled(name.as_slice()))?;
     }
     text.push_str(if variadic { "+)" } else { ")" })
 }
 
-fn add_tokens(text: &mut String, tokens: &[Token]) -> Result<(), AllocError> {
-    for token in tokens {
+fn add_tokens(text: &mut String, mut tokens: Run<'_>) -> Result<(), AllocError> {
+    for _ in 0..tokens.len() {
+        let Some(token) = tokens.next() else {
+            break;
+        };
         let space = if token.space { " " } else { "" };
-        write!(text, "{space}{}", spelled(&token.text))?;
+        write!(text, "{space}{}", spelled(token.text))?;
     }
     Ok(())
 }

@@ -5,11 +5,9 @@
 --     Tries    hide sets as tries over the bits of their names' hashes
 --     Pasting  how code joins pieces one by one
 --     Reading  how code reads the operand of `defined` and a call, token by token
---     Pending  what a run of text still has
 --     Naming   what code reads of a name
 --     Steps    what one step of an expansion puts out, and what is to come
 --     Stamps   what the stamp of a token says of its hide set
-pub mod Pending
 pub mod Parts
 pub mod Pieces
 pub mod Placing

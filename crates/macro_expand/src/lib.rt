@@ -26,5 +26,4 @@ pub use expansion::expand_for;
 pub use laws::{choice_fact, expansion_is_frugal, expansion_unfolds};
 pub use lent::Lent;
 pub use outcome::{ExpandError, Mode, RunError, Work};
-pub use run::Run;
 pub use stream::{Expander, Standing, expand};

@@ -1,5 +1,6 @@
 // What a name stands for, by the definition that it has (ISO C 6.10.3).
 ghost use Rattle.std.specs.Prelude.{◌≡◌, ℕ, ◌≤◌, map, length, Some, IfOk, IfErr};
+ghost use Rattle.macro_defs.specs.declared.definition.Shape.TheVariants.{Object};
 ghost use Rattle.macro_defs.specs.Arguments.{parameters_in};
 ghost use Rattle.macro_expand.specs.Replacement.{body_parts};
 ghost use Rattle.macro_expand.specs.Expansion.{variable_of};
@@ -46,6 +47,7 @@ fn macro_call<'d>(
     variadic: bool,
     read: ReadCall<'d>,
 ) -> Result<(Vec<Vec<Marked<'d>>>, MacroCall<'d>), AllocError>
+    requires { d.now.shape ≡ Object → ⊥ }
     ensures written { IfOk result (λ r. lists_of r.0.items ≡ lists_of read.entry.written.items) }
     ensures stamped { (sets : Stamps) (next : ℕ) → EachStamped sets next read.entry.written.items → IfOk result (λ r. EachStamped sets next r.0.items) }
     ensures parts { IfOk result (λ r. parts_seen r.1.parts.items ≡ body_parts (parameters_in d.now.shape) d.now.body) }

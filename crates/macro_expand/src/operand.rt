@@ -5,7 +5,7 @@ ghost use Rattle.pp_tokens.specs.declared.token.Token.{Token};
 ghost use Rattle.pp_tokens.specs.Marks.{is_identifier, is_mark, is_close, is_word};
 ghost use Rattle.pp_tokens.specs.Tokens.{token_seen};
 ghost use Rattle.macro_expand.specs.Stream.{IsOperand};
-ghost use Rattle.macro_expand.specs.parts.Pending.{run_tokens};
+ghost use Rattle.macro_defs.specs.Runs.{run_tokens};
 ghost use Rattle.macro_expand.specs.parts.Reading.{holds_at, begins_with_name_in_parentheses};
 ghost use Rattle.macro_expand.specs.Expansion as spec;
 ghost use Rattle.macro_expand.specs.Expansion.{head_role, operand_of_defined};
@@ -18,7 +18,7 @@ use crate::expansion::put;
 use crate::marked::Marked;
 use crate::outcome::{Mode, RunError, Work};
 use crate::pending::Pending;
-use crate::run::Run;
+use macro_defs::Run;
 use pp_tokens::TokenRef;
 
 // Takes a `defined` and its operand from the front of a run, and answers the name; where they don't stand there, the run isn't told.

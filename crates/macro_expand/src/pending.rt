@@ -7,7 +7,7 @@ ghost use Rattle.macro_expand.specs.declared.marked.Marked.{Marked as Kept};
 ghost use Rattle.macro_expand.specs.Replacement.{after_open};
 ghost use Rattle.macro_expand.specs.Stream.{lent_tokens};
 ghost use Rattle.macro_expand.specs.parts.Steps.{IsUntouched, EachUntouched, TakesUntouched, TakesEach, TakesDefined};
-ghost use Rattle.macro_expand.specs.parts.Pending.{run_tokens};
+ghost use Rattle.macro_defs.specs.Runs.{run_tokens};
 ghost use Rattle.macro_expand.specs.Seen.{marked_of, kept_plain, kept_token};
 ghost use Rattle.macro_expand.specs.parts.Stamps.{Stamps, AllStamped};
 
@@ -15,8 +15,8 @@ use crate::lent::Lent;
 use crate::marked::Marked;
 use crate::operand::defined_name;
 use crate::outcome::{Mode, RunError};
-use crate::run::Run;
-use macro_defs::MacroTable;
+use crate::run;
+use macro_defs::{MacroTable, Run};
 use pp_tokens::{TokenCow, TokenRef, Tokens};
 use std::alloc::Global;
 use std::marker::Model;
@@ -31,7 +31,7 @@ pub(crate) struct Pending<'a> {
 impl<'a> Model for Pending<'a> {
     ghost use Rattle.std.specs.Prelude.{List, map, reverse, ◌++◌};
     ghost use Rattle.macro_expand.specs.declared.marked.Marked.{Marked};
-    ghost use Rattle.macro_expand.specs.parts.Pending.{run_tokens};
+    ghost use Rattle.macro_defs.specs.Runs.{run_tokens};
     ghost use Rattle.macro_expand.specs.Seen.{kept_plain};
 
     ghost Value = { List Marked };
@@ -127,7 +127,7 @@ impl<'a> Pending<'a> {
         if place < count {
             return Some(self.made[count - 1 - place].token.as_ref());
         }
-        self.run.get(place - count)
+        run::get(self.run, place - count)
     }
 
     // Takes the `(` that the tokens begin with.

@@ -2,14 +2,17 @@
 ghost use Rattle.std.specs.Prelude.{◌≡◌, ℕ, List, true, map, length, IfOk, IfSome, OnOk};
 ghost use Rattle.macro_expand.specs.Sets.{names_in};
 ghost use Rattle.macro_expand.specs.Replacement.{unmarked, with_space, put_in_for};
+ghost use Rattle.pp_tokens.specs.Tokens.{token_seen};
 ghost use Rattle.macro_defs.specs.MacroDefinition.{without_line};
+ghost use Rattle.macro_defs.specs.Runs.{run_tokens};
 ghost use Rattle.macro_expand.specs.Seen.{marked_of};
 ghost use Rattle.macro_expand.specs.parts.Placing.{placed, HasNamesOfBoth, KnowsUnion};
 ghost use Rattle.macro_expand.specs.parts.Stamps.{Fresh, AllFresh, Within, AllWithin};
 
 use crate::hide_set::HideSet;
 use crate::marked::Marked;
-use pp_tokens::{Token, TokenCow};
+use macro_defs::Run;
+use pp_tokens::{TokenCow, TokenRef};
 use std::alloc::{AllocError, Global};
 
 // The stamp of the macro's name where that is known to hide nothing that the replacement doesn't, else 0, and the stamp of what the
@@ -152,12 +155,12 @@ fn lent_at<'t>(
     line: u32,
     hidden: &HideSet,
     stamp: u32,
-    u: &'t Token,
+    u: TokenRef<'t>,
 ) -> Result<Marked<'t>, AllocError>
-    ensures placed { IfOk result (λ m. marked_of m ≡ placed line (names_in hidden.now) (unmarked (without_line u.now))) }
+    ensures placed { IfOk result (λ m. marked_of m ≡ placed line (names_in hidden.now) (unmarked (without_line (token_seen u.entry)))) }
     ensures fresh { IfOk result (λ m. Fresh stamp hidden.now m) }
 {
-    let mut token = TokenCow::lent(u.as_ref());
+    let mut token = TokenCow::lent(u);
     token.set_line(line);
     Ok(Marked {
         token,
@@ -172,14 +175,14 @@ pub(crate) fn lend_for<'t>(
     t: &TokenCow,
     hidden: &HideSet,
     stamp: u32,
-    body: &'t [Token],
+    mut body: Run<'t>,
 ) -> Result<Vec<Marked<'t>>, AllocError>
     ensures fresh { IfOk result (λ ts. AllFresh stamp hidden.now ts.items) }
-    ensures placed { IfOk result (λ ts. map marked_of ts.items ≡ put_in_for t.now (names_in hidden.now) (map unmarked (map without_line body.now))) }
+    ensures placed { IfOk result (λ ts. map marked_of ts.items ≡ put_in_for t.now (names_in hidden.now) (map unmarked (map without_line (run_tokens body.entry)))) }
 {
     let line = t.line();
     let mut made = Vec::with_capacity(alloc, body.len())?;
-    for u in body {
+    while let Some(u) = body.next() {
         made.push(lent_at(line, hidden, stamp, u)?)?;
     }
     Ok(spaced(made, t.space()))

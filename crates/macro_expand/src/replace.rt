@@ -1,6 +1,7 @@
 // The replacement of one macro call (ISO C 6.10.3.1 to 6.10.3.3).
-ghost use Rattle.std.specs.Prelude.{◌≡◌, ◌≤◌, ◌<◌, ℕ, List, true, Some, None, Ok, Err, map, length, get_or, false, ◌++◌, ◌∷◌, [], ◌&&◌, if◌then◌else◌, IfOk, IfErr, OnOk};
+ghost use Rattle.std.specs.Prelude.{◌≡◌, ◌≤◌, ◌<◌, ℕ, List, true, Some, None, Ok, Err, map, length, get_or, false, ◌++◌, ◌∷◌, [], ◌&&◌, if◌then◌else◌, IfOk, IfErr, OnOk, MatchOption};
 ghost use Rattle.macro_defs.specs.MacroDefinition.{without_line};
+ghost use Rattle.macro_defs.specs.declared.definition.Shape.TheVariants.{Object};
 ghost use Rattle.macro_defs.specs.Arguments.{parameters_in};
 ghost use Rattle.pp_tokens.specs.Marks.{is_pasting};
 ghost use Rattle.macro_expand.specs.Replacement.{parts_after, body_parts, one_joins, stands_alone, object_parts, is_join, first_body_part, with_name, common_names, replacement, pieces_of, joins_made};
@@ -20,7 +21,7 @@ use crate::paste::join_pieces;
 use crate::pieces::{Arguments, read_pieces, read_tokens};
 use crate::placing::{Stamping, lend_for, put_in_for};
 use base_types::Bytes;
-use macro_defs::Definition;
+use macro_defs::{Definition, Run};
 use pp_tokens::Token;
 use std::alloc::{AllocError, Global};
 
@@ -80,9 +81,12 @@ fn begins_spelling(hash: Option<bool>, t: &Token) -> bool
 
 // The parts of a function-like macro's replacement list, with `##` several times in a row as one.
 pub(crate) fn read_parts<'d>(alloc: Global, d: &'d Definition) -> Result<Vec<Part<'d>>, AllocError>
+    requires { d.now.shape ≡ Object → ⊥ }
     ensures { IfOk result (λ parts. parts_seen parts.items ≡ body_parts (parameters_in d.now.shape) d.now.body) }
 {
-    let body = d.body();
+    let Run::Listed(body) = d.body() else {
+        unreachable!()
+    };
     let mut parts = Vec::with_capacity(alloc, body.len())?;
     let mut hash = None;
     let mut joined = false;
@@ -285,6 +289,17 @@ fn has_pasting(body: &[Token]) -> bool
     false
 }
 
+// The replacement list, where it has a `##`.
+#[inline(always)]
+fn with_pasting<'d>(d: &'d Definition) -> Option<&'d [Token]>
+    ensures { MatchOption result (list_any is_pasting d.now.body ≡ false) (λ body. map without_line body.now ≡ d.now.body) }
+{
+    match d.body() {
+        Run::Listed(body) => { if has_pasting(body) { Some(body) } else { None } }
+        Run::Lexed(_) => None,
+    }
+}
+
 // What the name of an object-like macro is replaced by that has a `##`.
 fn joined_tokens<'d>(
     alloc: Global,
@@ -323,12 +338,11 @@ pub(crate) fn object_tokens<'d>(
     ensures ok { IfOk result (λ ts. object_replacement (marked_of t.now) d.now.body ≡ Ok (map marked_of ts.items)) }
     ensures err { IfErr result (λ e. Reports e (object_replacement (marked_of t.now) d.now.body)) }
 {
-    let body = d.body();
     let hidden = hidden_by_name(alloc, t)?;
-    if has_pasting(body) {
+    if let Some(body) = with_pasting(d) {
         return joined_tokens(alloc, t, &hidden, stamp, body);
     }
-    let made = lend_for(alloc, &t.token, &hidden, stamp, body)?;
+    let made = lend_for(alloc, &t.token, &hidden, stamp, d.body())?;
     Ok(made)
 }
 

@@ -54,7 +54,7 @@ fn behind_define(piece: PieceRef<'_>) -> Option<Tokens<'_>>
     match piece {
         PieceRef::Run(_) => None,
         PieceRef::Line { at: _, what } => match what.asked() {
-            Asked::Define(tokens) => Some(tokens),
+            Asked::Define(file, from, end) => Some(file.tokens(from, end)),
             _ => None,
         },
     }

@@ -115,7 +115,11 @@ fn add_definition(rt: &impl Abort, text: &mut Vec<u8>, definition: &Definition) 
         add_params(rt, text, params.as_slice(), *variadic);
     }
     add(rt, text, b" as");
-    for token in definition.body() {
+    let mut body = definition.body();
+    for _ in 0..body.len() {
+        let Some(token) = body.next() else {
+            break;
+        };
         add(
             rt,
             text,
@@ -125,7 +129,7 @@ fn add_definition(rt: &impl Abort, text: &mut Vec<u8>, definition: &Definition) 
                 b"".as_slice()
             },
         );
-        add(rt, text, token.text.as_slice());
+        add(rt, text, token.text);
     }
 }
 

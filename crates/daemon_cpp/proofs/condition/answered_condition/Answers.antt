@@ -1,7 +1,7 @@
 use Rattle.std.proofs.Common.{sym, ◌∙◌, ap, subst}
 use Rattle.macro_defs.specs.Table.{lookup}
 use Rattle.macro_expand.specs.declared.outcome.Mode.TheVariants.{Condition}
-use Rattle.macro_expand.specs.parts.Pending.{run_tokens}
+use Rattle.macro_defs.specs.Runs.{run_tokens}
 use Rattle.macro_expand.specs.Seen.{ReportsResult}
 use Rattle.macro_expand.specs.Stream.{Stream, to_come}
 use Rattle.daemon_cpp.specs.Prep.{is_defined}

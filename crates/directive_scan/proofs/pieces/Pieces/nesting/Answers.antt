@@ -11,7 +11,7 @@ use Rattle.directive_scan.proofs.pieces.Pieces.nesting.Goals as goal
 pub returns-in-Line : goal.returns-in-Line
 returns-in-Line c p =
     let parts = arc_value c.self.inside.parts in
-    let file = parts.lexed in
+    let file = arc_value parts.lexed in
     let spots = parts.spots.items in
     let below : c.args.number < length spots = omega (arith, ap length c.self.view_is, length-map spots (piece_at file)) in
     role_here file spots c.args.number c.index.result.now c.in-Line.line c.in-Line.at c.in-Line.nesting p c.self.invariant.0 below (sym (ap (λ (q : Parts). get_or q.spots.items c.args.number c.index.result.now) c.deref.ensures) ∙ (sym c.index.ensures ∙ c.in-Line.is))

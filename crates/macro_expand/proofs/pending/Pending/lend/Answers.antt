@@ -1,7 +1,7 @@
 use Rattle.std.proofs.Common.{◌++◌, map, reverse, sym, refl, arith}
 use Rattle.pp_tokens.specs.Tokens.{rest_of}
 use Rattle.macro_defs.specs.Table.{lookup}
-use Rattle.macro_expand.specs.parts.Pending.{run_tokens}
+use Rattle.macro_defs.specs.Runs.{run_tokens}
 use Rattle.macro_expand.specs.Seen.{kept_plain}
 use Rattle.macro_expand.proofs.PendingLemmas.{takes_stretch}
 use Rattle.macro_expand.proofs.pending.Pending.lend.Goals as goal

@@ -2,7 +2,7 @@ use Rattle.std.proofs.Common.{◌++◌, ◌∷◌, List, map, reverse, ap, sym, 
 use Rattle.std.proofs.lemmas.List.{map-append}
 use Rattle.pp_tokens.specs.declared.token.Token.{Token}
 use Rattle.macro_expand.specs.declared.marked.Marked.{Marked as Kept}
-use Rattle.macro_expand.specs.parts.Pending.{run_tokens}
+use Rattle.macro_defs.specs.Runs.{run_tokens}
 use Rattle.macro_expand.specs.Seen.{kept_plain}
 use Rattle.macro_expand.proofs.pending.Pending.take_defined.Goals as goal
 

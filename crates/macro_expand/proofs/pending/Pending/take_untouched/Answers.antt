@@ -3,7 +3,7 @@ use Rattle.std.proofs.lemmas.Option.{IfSome_then}
 use Rattle.pp_tokens.specs.declared.token.Token.{Token}
 use Rattle.pp_tokens.specs.Tokens.{token_seen}
 use Rattle.macro_expand.specs.declared.marked.Marked.{Marked as Kept}
-use Rattle.macro_expand.specs.parts.Pending.{run_tokens}
+use Rattle.macro_defs.specs.Runs.{run_tokens}
 use Rattle.macro_expand.specs.Seen.{kept_plain}
 use Rattle.macro_expand.proofs.pending.Pending.take_untouched.Goals as goal
 

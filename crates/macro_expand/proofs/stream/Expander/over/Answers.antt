@@ -1,5 +1,5 @@
 use Rattle.std.proofs.Common.{[], sym, subst}
-use Rattle.macro_expand.specs.parts.Pending.{run_tokens}
+use Rattle.macro_defs.specs.Runs.{run_tokens}
 use Rattle.macro_expand.specs.parts.Stamps.{AllStamped}
 use Rattle.macro_expand.proofs.StampLaws.{plain-stamped}
 use Rattle.macro_expand.proofs.stream.Expander.over.Goals as goal

@@ -1,9 +1,9 @@
--- What a run of text still has.
+-- What a run of tokens still has.
 use Rattle.std.specs.Prelude.{List}
 use Rattle.pp_tokens.specs.declared.token.Token.{Token}
 use Rattle.pp_tokens.specs.Tokens.{rest_of}
-use Rattle.macro_expand.specs.declared.run.Run.{Run}
-use Rattle.macro_expand.specs.declared.run.Run.TheVariants.{Listed, Lexed}
+use Rattle.macro_defs.specs.declared.run.Run.{Run}
+use Rattle.macro_defs.specs.declared.run.Run.TheVariants.{Listed, Lexed}
 
 -- the tokens of a run that are still to come
 abbrev pub run_tokens : Run → List Token

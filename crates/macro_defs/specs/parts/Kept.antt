@@ -1,0 +1,34 @@
+-- What a definition keeps of its replacement list.
+use Rattle.std.specs.Prelude.{◌≡◌, ◌-◌, List, false, map, take, drop}
+use Rattle.std.specs.Arc.{arc_value}
+use Rattle.std.specs.List.{list_any}
+use Rattle.pp_tokens.specs.declared.token.Token.{Token}
+use Rattle.pp_tokens.specs.Lines.{all_tokens}
+use Rattle.pp_tokens.specs.Marks.{is_pasting}
+use Rattle.pp_tokens.specs.Tokens.{rest_of}
+use Rattle.macro_defs.specs.MacroDefinition.{without_line}
+use Rattle.macro_defs.specs.declared.definition.Shape.{Shape}
+use Rattle.macro_defs.specs.declared.definition.Shape.TheVariants.{Object}
+use Rattle.macro_defs.specs.declared.body.Body.{Body}
+use Rattle.macro_defs.specs.declared.body.Body.TheVariants as body
+use Rattle.macro_defs.specs.declared.run.Run.{Run}
+use Rattle.macro_defs.specs.declared.run.Run.TheVariants as run
+
+-- the tokens of a replacement list, wherever they are
+abbrev pub body_tokens : Body → List Token
+body_tokens (body.Listed tokens) = tokens
+body_tokens (body.Shared file from end) = take (end - from) (drop from (all_tokens (arc_value file)))
+
+-- tokens of an object-like macro that have no `##`
+abbrev pub IsPlain : Shape → List Token → Type 0
+IsPlain shape tokens = (shape ≡ Object) × (list_any is_pasting (map without_line tokens) ≡ false)
+
+-- only such a replacement list is in a file
+abbrev pub MayShare : Shape → Body → Type 0
+MayShare shape (body.Listed tokens) = Unit {0}
+MayShare shape (body.Shared file from end) = IsPlain shape (take (end - from) (drop from (all_tokens (arc_value file))))
+
+-- the same of a replacement list that is lent
+abbrev pub SharesPlain : Shape → Run → Type 0
+SharesPlain shape (run.Listed tokens) = Unit {0}
+SharesPlain shape (run.Lexed tokens) = IsPlain shape (rest_of tokens)
