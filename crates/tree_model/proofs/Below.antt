@@ -52,7 +52,7 @@ is_down (a ∷ b ∷ []) h =
 is_down (a ∷ b ∷ c ∷ rest) h = refl
 
 -- the walk of a name is by what stands at it
-taken_as : (look : Look) (links : ℕ) (dir : Path) (name : Text) → IsName name → (rest : List Text) (found : Option Entry) → look (name ∷ dir) ≡ found
+pub taken_as : (look : Look) (links : ℕ) (dir : Path) (name : Text) → IsName name → (rest : List Text) (found : Option Entry) → look (name ∷ dir) ≡ found
     → walk look links dir (name ∷ rest) ≡ looking (name ∷ dir) (entered (λ next. walk look links next rest) (followed look links) rest dir (name ∷ dir) found)
 taken_as look links dir name h rest found e =
     walk-cons look links dir name rest
@@ -105,7 +105,7 @@ module _ (tree : FileTree) (before : List Path) (list : List Text) (name : Text)
 
   -- what is located in the directory that it reached
   module _ (dir : Path) (nodes : List Path) (there : reached_by Front ≡ reach.Dir dir nodes) where
-    in_dir : (links : ℕ) × (Front.end ≡ AtDir dir links)
+    pub in_dir : (links : ℕ) × (Front.end ≡ AtDir dir links)
     in_dir = at_end Front.end there
       where
         at_end : (end : End) → reached_at Front.nodes end ≡ reach.Dir dir nodes → (links : ℕ) × (end ≡ AtDir dir links)

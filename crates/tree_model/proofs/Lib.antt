@@ -13,6 +13,7 @@
 --     RememberedLemmas answers that are remembered, after one more
 --     StepLemmas     each step of a program goes on as the walk does
 --     Below          what is located below a text whose walk from the root reached a directory, or none
+--     Further        walks with one component more
 --     ShownLemmas    what is shown of a list, one member more
 --     WalkExamples   worked walks
 pub mod PathLemmas
@@ -29,5 +30,6 @@ pub mod CutLemmas
 pub mod StepLemmas
 pub mod RememberedLemmas
 pub mod Below
+pub mod Further
 pub mod ShownLemmas
 mod WalkExamples

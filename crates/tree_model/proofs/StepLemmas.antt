@@ -40,7 +40,7 @@ some_part b [] = omega arith
 some_part b (part ∷ parts) = omega arith
 
 -- each text has a component
-some_component : (text : Text) → 0 < length (components text)
+pub some_component : (text : Text) → 0 < length (components text)
 some_component [] = omega arith
 some_component (b ∷ text) = go (b == slash)
   where

@@ -36,13 +36,13 @@ pub(crate) enum Glanced {
 
 // The path of a name in the directory that the walk of a text reached, as far as that is remembered and the name makes one.
 #[derive(Drop)]
-enum Recalled {
+pub(crate) enum Recalled {
     Unknown,
     Nowhere,
     Child(CanonPath),
 }
 
-fn recall_child<T: Tree>(
+pub(crate) fn recall_child<T: Tree>(
     alloc: Global,
     tree: &T,
     text: &Bytes,

@@ -8,6 +8,7 @@ mod entry;
 mod frame;
 mod glance;
 mod laws;
+mod learn;
 mod mem_tree;
 mod order;
 mod path;

@@ -6,6 +6,7 @@
 // name, is the file's place. A walk takes one look at the tree and one copy of a path for each component.
 //
 // A text that begins with `/` is walked up to its last `/` once, where the tree remembers what that reached, and then glanced at (glance.rt).
+// Where the walk of that text's own front is remembered, one look tells what it reaches, and no walk is needed (learn.rt).
 ghost use Rattle.std.specs.Prelude.{◌≡◌, ◌≤◌, ℕ, [], ◌∷◌, ◌++◌, Some, IfOk, IfSome, OnOk, IsErrOf, ◌==◌};
 ghost use Rattle.std.specs.List.{position};
 ghost use Rattle.std.specs.Option.{option_map, ForSome};
@@ -19,7 +20,8 @@ ghost use Rattle.tree_model.specs.Reached.{reached_at};
 ghost use Rattle.tree_model.specs.parts.Glances.{located_below};
 ghost use Rattle.tree_model.specs.parts.Steps.{GoesOn, components_left, asked, onward, followed, end_of};
 
-use crate::glance::{Glanced, glance_at};
+use crate::glance::Glanced;
+use crate::learn::glance_or_learn;
 use crate::{CanonPath, Node, Reached, Tree, TreeError};
 use base_types::limits::{LINK_LIMIT, PATH_LIMIT};
 use base_types::{Bytes, List};
@@ -121,7 +123,7 @@ pub(crate) fn cut_component(text: &[u8]) -> (&[u8], Option<&[u8]>)
 }
 
 // What stands before the last `/` of a text, if it has one, and the last component.
-fn cut_last(text: &[u8]) -> (Option<&[u8]>, &[u8])
+pub(crate) fn cut_last(text: &[u8]) -> (Option<&[u8]>, &[u8])
     ensures head { components_left (option_map (λ t. t.now) result.0) ≡ but_last (components text.now) }
     ensures name { result.1.now ≡ last_of (components text.now) }
     ensures one { components result.1.now ≡ result.1.now ∷ [] }
@@ -445,7 +447,7 @@ fn locate_below<T: Tree>(
     ensures never_large { IsErrOf result TreeError.Large → ⊥ }
     ensures no_read { T.reads tree.new ≡ T.reads tree.old }
 {
-    match glance_at(alloc, tree, dir, front, name)? {
+    match glance_or_learn(alloc, tree, dir, front, name)? {
         Glanced::Missing => Ok(None),
         Glanced::File(located) => Ok(Some(located)),
         Glanced::Unsure => walk_below(alloc, tree, dir, front, name),

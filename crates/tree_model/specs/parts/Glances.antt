@@ -1,8 +1,10 @@
 -- What is remembered of a directory, and a look at a name in it, tell of a text.
 use Rattle.std.specs.Prelude.{◌≡◌, List, [], ◌∷◌, ◌++◌, Option, Some, None}
 use Rattle.base_types.specs.Limits.{link_limit}
-use Rattle.tree_model.specs.Paths.{Text, Path}
-use Rattle.tree_model.specs.Walk.{Look, walk, last_looked_up}
+use Rattle.tree_model.specs.Paths.{Text, Path, child_of}
+use Rattle.tree_model.specs.Trees.{FileTree, entry_at}
+use Rattle.tree_model.specs.Walk.{Look, walk, components, last_looked_up}
+use Rattle.tree_model.specs.Reached.{reached_by}
 use Rattle.tree_model.specs.declared.glance.Glance.{Glance}
 use Rattle.tree_model.specs.declared.glance.Glance.TheVariants as glance
 use Rattle.tree_model.specs.declared.glance.Glanced.{Glanced}
@@ -17,7 +19,7 @@ use Rattle.tree_model.specs.declared.walk.Located.{Located}
 abbrev pub Recalls : Reached → Text → Recalled → Type 0
 Recalls it name recalled.Unknown = Unit {0}
 Recalls it name recalled.Nowhere = it ≡ reach.Nowhere
-Recalls it name (recalled.Child path) = (dir : Path) × (nodes : List Path) × ((it ≡ reach.Dir dir nodes) × (path ≡ name ∷ dir))
+Recalls it name (recalled.Child path) = (dir : Path) × (nodes : List Path) × ((it ≡ reach.Dir dir nodes) × (Some path ≡ child_of dir name))
 
 -- what is told of the file that a last component leads to, behind these nodes
 abbrev pub Tells : List Path → Glance → Option Located → Type 0
@@ -36,3 +38,7 @@ abbrev pub located_below : Look → List Path → List Text → Text → Option 
 located_below look before list name =
     let walked = walk look link_limit [] list in
     last_looked_up look name (before ++ walked.nodes) walked.end
+
+-- what the walk of a text's components and one more from the root reaches
+abbrev pub reached_below : FileTree → Text → Text → Reached
+reached_below tree text name = reached_by (walk (entry_at tree) link_limit [] (components text ++ name ∷ []))
