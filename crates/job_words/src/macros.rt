@@ -1,18 +1,20 @@
 // The macros of compile words.
-ghost use Rattle.std.specs.Prelude.{◌≡◌, ◌≤◌, ◌+◌, ◌==◌, false, length, Some, IfOk, IfErr};
+ghost use Rattle.std.specs.Prelude.{◌≡◌, ◌≤◌, ◌+◌, ◌==◌, ◌∷◌, ◌++◌, true, false, length, Some, IfOk, IfErr, IfSome, IsTrue};
 ghost use Rattle.std.specs.List.{list_any};
 ghost use Rattle.std.specs.Option.{MatchOption};
 ghost use Rattle.base_types.specs.Ascii as ascii;
 ghost use Rattle.base_types.specs.Limits.{body_limit, word_limit};
 ghost use Rattle.job_words.specs.Macros.{define_line, tokens_of_line, line_at, define_word, undef_word, undef_word_of, defined_word};
-ghost use Rattle.job_words.specs.parts.Told.{IsFirst, IsNoMacro, NoneFrom};
-ghost use Rattle.macro_defs.specs.Defining.{defined_by};
+ghost use Rattle.job_words.specs.parts.Told.{IsFirst, IsNoMacro, NoneFrom, is_word_kind, word_macro};
+ghost use Rattle.macro_defs.specs.Defining.{defined_by, is_reserved_name};
+ghost use Rattle.pp_tokens.specs.declared.token.Kind.TheVariants.{Ident};
+ghost use Rattle.pp_tokens.specs.Grammar.{kind_of};
 ghost use Rattle.pp_tokens.specs.Tokens.{rest_of};
 
 use crate::{MacroWord, WordError};
-use base_types::Bytes;
-use macro_defs::{DefineError, names_macro, read_define};
-use pp_tokens::{Lexed, Tokens, lex_body};
+use base_types::{Bytes, List};
+use macro_defs::{DefineError, Definition, Shape, names_macro, read_define};
+use pp_tokens::{Kind, Lexed, Token, TokenRef, Tokens, lex_body, single_token};
 use std::alloc::{AllocError, Global};
 
 // What a `-D` says.
@@ -22,6 +24,9 @@ pub fn define_word(alloc: Global, text: &[u8]) -> Result<MacroWord, WordError>
     ensures macros { IfOk result (λ word. define_word text.now ≡ Some word) }
     ensures why { IfErr result (λ e. IsNoMacro e (define_word text.now)) }
 {
+    if let Some(word) = plain_word(alloc, text)? {
+        return Ok(word);
+    }
     let line = define_line(alloc, text)?;
     let lexed = lexed_line(alloc, line)?;
     defined(alloc, first_line(&lexed))
@@ -36,6 +41,77 @@ pub fn undef_word(alloc: Global, text: &[u8]) -> Result<MacroWord, WordError>
 {
     let lexed = lexed_line(alloc, text.to_vec(alloc)?)?;
     undefined(alloc, first_line(&lexed))
+}
+
+// What a `-D` says of a name and a value that are one word each; None where they aren't, or aren't known to be. Most are so,
+// and need no lexer.
+#[tactic(auto, using(crate::proofs::PlainWords::word_defines))]
+fn plain_word(alloc: Global, text: &[u8]) -> Result<Option<MacroWord>, AllocError>
+    ensures { IfOk result (λ found. IfSome found (λ word. define_word text.now ≡ Some word)) }
+{
+    let (name, value) = name_and_value(text);
+    if !is_macro_name(name) {
+        return Ok(None);
+    }
+    let Some(kind) = word_kind(value) else {
+        return Ok(None);
+    };
+    let definition = word_macro(alloc, kind, value)?;
+    Ok(Some(MacroWord::Define(Bytes::copy_of(alloc, name)?, definition)))
+}
+
+// What stands before the first `=` and behind it, or the whole and a `1`.
+fn name_and_value(text: &[u8]) -> (&[u8], &[u8])
+    ensures { define_line text.now ≡ result.0.now ++ (ascii.space ∷ result.1.now) }
+{
+    match first_equals(text) {
+        Some(place) => (&text[..place], &text[place + 1..]),
+        None => (text, b"1".as_slice()),
+    }
+}
+
+// Whether a text is one identifier that may be defined.
+fn is_macro_name(name: &[u8]) -> bool
+    ensures { IsTrue result → (kind_of name.now ≡ Some Ident) × (is_reserved_name name.now ≡ false) }
+{
+    match single_token(name) {
+        Some(Kind::Ident) => {
+            let token = TokenRef {
+                kind: Kind::Ident,
+                text: name,
+                line: 0,
+                space: true,
+            };
+            names_macro(&token)
+        }
+        _ => false,
+    }
+}
+
+// The kind of a text that is one identifier or one number.
+fn word_kind(text: &[u8]) -> Option<Kind>
+    ensures { IfSome result (λ kind. (kind_of text.now ≡ Some kind) × (is_word_kind kind ≡ true)) }
+{
+    match single_token(text) {
+        Some(Kind::Ident) => Some(Kind::Ident),
+        Some(Kind::Number) => Some(Kind::Number),
+        _ => None,
+    }
+}
+
+// The definition of a macro whose value is one token, with white space before it.
+fn word_macro(alloc: Global, kind: Kind, value: &[u8]) -> Result<Definition, AllocError>
+    ensures { IfOk result (λ definition. definition ≡ word_macro kind value.now) }
+{
+    let token = Token {
+        text: Bytes::copy_of(alloc, value)?,
+        line: 0,
+        kind,
+        space: true,
+    };
+    let mut body = Vec::with_capacity(alloc, 1)?;
+    body.push(token)?;
+    Definition::new(alloc, Shape::Object, List::of(body))
 }
 
 // What `-D` defines, as what stands behind `#define`.

@@ -1,9 +1,14 @@
 -- The words of the code, as words of the definition, and what their reading gives. No public contract rests on it.
-use Rattle.std.specs.Prelude.{◌≡◌, ◌<◌, ◌≤◌, ◌==◌, ◌⊎◌, ℕ, ◌+◌, true, false, length, slice_index, List, Option, Some, None, Result, Err, MatchResult, bytes_eq}
+use Rattle.std.specs.Prelude.{◌≡◌, ◌<◌, ◌≤◌, ◌==◌, ◌⊎◌, ℕ, ◌+◌, Bool, true, false, length, slice_index, List, [], ◌∷◌, Option, Some, None, Result, Err, MatchResult, bytes_eq}
 use Rattle.std.specs.Borrow.{Bor}
 use Rattle.std.specs.HashSet.{HashSet, contains_by}
 use Rattle.std.specs.List.{list_any}
 use Rattle.base_types.specs.Limits.{word_limit}
+use Rattle.pp_tokens.specs.declared.token.Kind.{Kind}
+use Rattle.pp_tokens.specs.declared.token.Kind.TheVariants.{Ident, Number}
+use Rattle.pp_tokens.specs.declared.Token.{Token}
+use Rattle.macro_defs.specs.declared.definition.Shape.TheVariants.{Object}
+use Rattle.macro_defs.specs.MacroDefinition.{MacroDefinition}
 use Rattle.tree_model.specs.Paths.{Text}
 use Rattle.job_words.specs.declared.given.Given.{Given}
 use Rattle.job_words.specs.declared.given.Taker.{Taker}
@@ -71,3 +76,15 @@ IsFirst place byte text =
 -- the last place of a byte in a text
 abbrev pub IsLast : ℕ → ℕ → Text → Type 0
 IsLast place byte text = (place < length text) × ((slice_index text place == byte) ≡ true) × NoneFrom (place + 1) byte text
+
+-- a macro's value of one such token is read without the lexer
+abbrev pub is_word_kind : Kind → Bool
+is_word_kind k = elim k [ Ident ↦ true | Number ↦ true | _ ↦ false ]
+
+-- the one token of a value, as a definition keeps it
+abbrev pub word_token : Kind → Text → Token
+word_token kind text = record { kind = kind; text = text; line = 0; space = true }
+
+-- an object-like macro with a replacement list of one token
+abbrev pub word_macro : Kind → Text → MacroDefinition
+word_macro kind text = record { shape = Object; body = word_token kind text ∷ [] }
