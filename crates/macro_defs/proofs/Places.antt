@@ -1,9 +1,9 @@
 -- The numbers of the parameters that tokens name.
-use Rattle.std.proofs.Common.{◌≡◌, ℕ, zero, suc, ◌+◌, ◌<◌, Bool, cond, if◌then◌else◌, List, [], ◌∷◌, ◌++◌, map, take, length, get_or, drop, slice_get, position, Option, None, Some, bytes_eq, refl, sym, ap, ◌∙◌, subst, arith}
+use Rattle.std.proofs.Common.{◌≡◌, ℕ, zero, suc, ◌+◌, ◌<◌, Bool, true, false, cond, if◌then◌else◌, List, [], ◌∷◌, ◌++◌, map, take, length, drop, get_or, slice_get, position, Option, None, Some, bytes_eq, refl, sym, ap, ◌∙◌, subst, arith}
 use Rattle.std.specs.Prelude.{Vec, Result, Ok, Err, IfOk}
 use Rattle.std.specs.Borrow.{Bor}
 use Rattle.std.specs.List.{position_from}
-use Rattle.std.specs.Option.{option_and_then}
+use Rattle.std.specs.Option.{option_and_then, option_flatten}
 use Rattle.std.proofs.lemmas.List.{map-append, take_more}
 use Rattle.std.proofs.lemmas.Cmp.{nat_list_eq_equiv}
 use Rattle.std.proofs.lemmas.Iterator.Adapters.{position_from-zero}
@@ -58,20 +58,28 @@ kept-told numbers params body some tells (Err e) is = tt
 
 -- What is kept, at a place.
 
-parameter : (names : List (List ℕ)) (body : List Token) (place : ℕ) (number : Option ℕ) → place < length (map (argument_named names) body)
-    → number ≡ get_or (map (argument_named names) body) place number → number ≡ option_and_then (argument_named names) (slice_get (map without_line body) place)
-parameter names [] place number within is = absurd (omega (arith, within))
-parameter names (t ∷ body) zero number within is = is
-parameter names (t ∷ body) (suc place) number within is = parameter names body place number (omega (arith, within)) is
+parameter : (names : List (List ℕ)) (body : List Token) (place : ℕ)
+    → option_flatten (slice_get (map (argument_named names) body) place) ≡ option_and_then (argument_named names) (slice_get (map without_line body) place)
+parameter names [] place = refl
+parameter names (t ∷ body) zero = refl
+parameter names (t ∷ body) (suc place) = parameter names body place
 
-kept_at : (names : List (List ℕ)) (body : List Token) (place : ℕ) (number : Option ℕ) → place < length (numbers_kept names body)
-    → number ≡ get_or (numbers_kept names body) place number → number ≡ option_and_then (argument_named names) (slice_get (map without_line body) place)
-kept_at [] body place number within is = absurd (omega (arith, within))
-kept_at (name ∷ names) body place number within is = parameter (name ∷ names) body place number within is
+unnamed : (b : Bool) (text : List ℕ) → None ≡ (if b then position (bytes_eq text) [] else None)
+unnamed true text = refl
+unnamed false text = refl
+
+-- without parameters no token names one
+no_parameter : (body : List Token) (place : ℕ) → None ≡ option_and_then (argument_named []) (slice_get (map without_line body) place)
+no_parameter [] place = refl
+no_parameter (t ∷ body) zero = unnamed (is_identifier t) t.text
+no_parameter (t ∷ body) (suc place) = no_parameter body place
+
+kept_at : (names : List (List ℕ)) (body : List Token) (place : ℕ)
+    → option_flatten (slice_get (numbers_kept names body) place) ≡ option_and_then (argument_named names) (slice_get (map without_line body) place)
+kept_at [] body place = no_parameter body place
+kept_at (name ∷ names) body place = parameter (name ∷ names) body place
 
 module _ (shape : Shape) (body : List Token) (named : List (Option ℕ)) (d : MacroDefinition) (place : ℕ)
     (view : definition_from shape body ≡ d) (kept : named ≡ numbers_kept (parameters_in shape) body) where
-  pub kept_here : (number : Option ℕ) → place < length named → number ≡ get_or named place number → number ≡ parameter_at d place
-  kept_here number within is =
-      kept_at (parameters_in shape) body place number (subst (λ ns. place < length ns) kept within) (is ∙ ap (λ ns. get_or ns place number) kept)
-      ∙ ap (λ e. parameter_at e place) view
+  pub kept_here : option_flatten (slice_get named place) ≡ parameter_at d place
+  kept_here = ap (λ ns. option_flatten (slice_get ns place)) kept ∙ kept_at (parameters_in shape) body place ∙ ap (λ e. parameter_at e place) view

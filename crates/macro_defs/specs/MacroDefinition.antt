@@ -1,7 +1,9 @@
 -- What a macro definition means (ISO C 6.10.3).
-use Rattle.std.specs.Prelude.{List}
+use Rattle.std.specs.Prelude.{ℕ, List, Option, Some, None, Bool}
+use Rattle.std.specs.Borrow.{Bor}
 use Rattle.pp_tokens.specs.declared.Token.{Token}
 use Rattle.macro_defs.specs.declared.definition.Shape.{Shape}
+use Rattle.macro_defs.specs.declared.definition.Shape.TheVariants.{Object, Function}
 
 -- A definition as contracts see it. Its tokens stand on line 0: no line of a definition is ever read, since a replacement's
 -- tokens take the line of the name. So two definitions are one where shape and the tokens' kinds, texts and spaces are (6.10.3 p1, p2).
@@ -11,3 +13,8 @@ pub record MacroDefinition : Type 0 where
 
 abbrev pub without_line : Token → Token
 without_line t = record t { line = 0 }
+
+-- the form of a macro with these parameters, or with none
+abbrev pub shape_lent : Option (Bor (List (List ℕ)) × Bool) → Shape
+shape_lent None = Object
+shape_lent (Some params) = Function params.0.now params.1

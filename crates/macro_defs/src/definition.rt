@@ -1,11 +1,16 @@
 // A macro definition.
-ghost use Rattle.std.specs.Prelude.{◌≡◌, map};
+ghost use Rattle.std.specs.Prelude.{◌≡◌, IfOk, slice_get};
+ghost use Rattle.std.specs.Option.{option_flatten};
+ghost use Rattle.macro_defs.specs.Arguments.{parameters_in};
+ghost use Rattle.macro_defs.specs.MacroDefinition.{shape_lent};
+ghost use Rattle.macro_defs.specs.parts.Kept.{shape_kept, numbers_of};
+ghost use Rattle.macro_defs.specs.parts.Stored.{numbers_kept};
 
 use crate::body::Body;
 use crate::copies::{copy_numbers, copy_shape};
 use crate::numbers::numbers_in;
 use crate::run::Run;
-use crate::sameness::{same_shape, same_tokens};
+use crate::sameness::{same_params, same_tokens};
 use base_types::{Bytes, List};
 use pp_tokens::{Lexed, Token};
 use std::alloc::{AllocError, Global};
@@ -25,8 +30,15 @@ pub enum Shape {
 /// spellings and white space of their tokens are; the lines of the tokens don't count.
 #[derive(Drop)]
 pub struct Definition {
-    shape: Shape,
     body: Body,
+    // None of an object-like macro, as most are: so a table's entry for it is small
+    function: Option<Box<Function>>,
+}
+
+// What a function-like macro has beside its replacement list.
+#[derive(Drop)]
+pub(crate) struct Function {
+    shape: Shape,
     // for each token of the body the number of the parameter that it names; empty where there are no parameters
     named: Vec<Option<u32>>,
 }
@@ -36,13 +48,13 @@ impl Model for Definition {
     ghost use Rattle.macro_defs.specs.MacroDefinition.{MacroDefinition, without_line};
     ghost use Rattle.macro_defs.specs.Arguments.{parameters_in};
     ghost use Rattle.macro_defs.specs.parts.Stored.{numbers_kept};
-    ghost use Rattle.macro_defs.specs.parts.Kept.{body_tokens, MayShare};
+    ghost use Rattle.macro_defs.specs.parts.Kept.{body_tokens, shape_kept, numbers_of, MayShare};
 
     ghost Value = { MacroDefinition };
 
-    ghost view = { λ d. record { shape = d.shape; body = map without_line (body_tokens d.body) } };
+    ghost view = { λ d. record { shape = shape_kept d.function; body = map without_line (body_tokens d.body) } };
 
-    ghost invariant = { λ d. (d.named.items ≡ numbers_kept (parameters_in d.shape) (body_tokens d.body)) × MayShare d.shape d.body };
+    ghost invariant = { λ d. (numbers_of d.function ≡ numbers_kept (parameters_in (shape_kept d.function)) (body_tokens d.body)) × MayShare (shape_kept d.function) d.body };
 }
 
 impl Definition {
@@ -50,7 +62,7 @@ impl Definition {
     ghost use Rattle.std.specs.Arc.{arc_value};
     ghost use Rattle.pp_tokens.specs.Lines.{all_tokens};
     ghost use Rattle.macro_defs.specs.Defining.{definition_from};
-    ghost use Rattle.macro_defs.specs.MacroDefinition.{without_line};
+    ghost use Rattle.macro_defs.specs.MacroDefinition.{without_line, shape_lent};
     ghost use Rattle.macro_defs.specs.Arguments.{parameter_at};
     ghost use Rattle.macro_defs.specs.Runs.{run_tokens};
     ghost use Rattle.macro_defs.specs.declared.definition.Shape.TheVariants.{Object};
@@ -59,23 +71,21 @@ impl Definition {
     /// A definition of this form with this replacement list. Any list is taken: of one that `read_define` refuses, expansion leaves
     /// out a `#` that no parameter follows and a `##` that stands first or last (ISO C 6.10.3.2 paragraph 1, 6.10.3.3 paragraph 1).
     /// The tokens of a macro with parameters are looked up among these here, once: time is linear in both lists, on average. No
-    /// memory is taken where there are no parameters. The only error is want of memory, which is also what more than 2^32 parameters give.
+    /// memory is taken for an object-like macro. The only error is want of memory, which is also what more than 2^32 parameters give.
     #[inline(always)]
     pub fn new(alloc: Global, shape: Shape, body: List<Token>) -> Result<Definition, AllocError>
         ensures { IfOk result (λ d. d ≡ definition_from shape body) }
     {
-        let named = numbers_in(alloc, &shape, body.as_slice())?;
+        let function = function_of(alloc, shape, body.as_slice())?;
         Ok(Definition {
-            shape,
             body: Body::Listed(body),
-            named,
+            function,
         })
     }
 
     // An object-like macro, whose replacement list is the tokens of a file from one number up to another.
     #[inline(always)]
     pub(crate) fn shared(
-        alloc: Global,
         file: &Arc<Lexed, Global>,
         from: u32,
         end: u32,
@@ -84,26 +94,30 @@ impl Definition {
         ensures { IfOk result (λ d. d ≡ definition_from Object (take (end - from) (drop from (all_tokens (arc_value file.now))))) }
     {
         Ok(Definition {
-            shape: Shape::Object,
             body: Body::Shared(Arc::try_clone(file)?, from, end),
-            named: Vec::new(alloc),
+            function: None,
         })
     }
 
-    pub fn shape(&self) -> &Shape
-        ensures { result.now ≡ self.now.shape }
+    /// The names of a function-like macro's parameters, and whether the last is that of the variable argument; None of an object-like
+    /// macro.
+    #[inline(always)]
+    pub fn params(&self) -> Option<(&[Bytes], bool)>
+        ensures { shape_lent result ≡ self.now.shape }
     {
-        &self.shape
+        match &self.function {
+            Some(function) => lent(&function.shape),
+            None => None,
+        }
     }
 
     /// A copy. A file that the definition shares is shared once more. The only error is want of memory.
     pub fn copy(&self, alloc: Global) -> Result<Definition, AllocError>
         ensures { IfOk result (λ d. d ≡ self.now) }
     {
-        let shape = copy_shape(alloc, &self.shape)?;
         let body = self.body.copy(alloc)?;
-        let named = copy_numbers(alloc, self.named.as_slice())?;
-        Ok(Definition { shape, body, named })
+        let function = copy_function(alloc, &self.function)?;
+        Ok(Definition { body, function })
     }
 
     /// The replacement list. What lines its tokens have is not told. Only that of an object-like macro without `##` is in a file.
@@ -121,14 +135,68 @@ impl Definition {
     pub fn parameter_at(&self, place: usize) -> Option<usize>
         ensures { result ≡ parameter_at self.now place }
     {
-        if place >= self.named.len() {
-            return None;
-        }
-        match self.named[place] {
-            Some(number) => Some(number as usize),
+        match &self.function {
+            Some(function) => number_at(&function.named, place),
             None => None,
         }
     }
+}
+
+// The parameters of a form.
+#[inline(always)]
+fn lent(shape: &Shape) -> Option<(&[Bytes], bool)>
+    ensures { shape_lent result ≡ shape.now }
+{
+    match shape {
+        Shape::Object => None,
+        Shape::Function { params, variadic } => Some((params.as_slice(), *variadic)),
+    }
+}
+
+// The number at a place, where one is.
+fn number_at(numbers: &[Option<u32>], place: usize) -> Option<usize>
+    ensures { result ≡ option_flatten (slice_get numbers.now place) }
+{
+    if place >= numbers.len() {
+        return None;
+    }
+    match numbers[place] {
+        Some(number) => Some(number as usize),
+        None => None,
+    }
+}
+
+// What a macro of this form has beside this replacement list.
+fn function_of(
+    alloc: Global,
+    shape: Shape,
+    body: &[Token],
+) -> Result<Option<Box<Function>>, AllocError>
+    ensures shape { IfOk result (λ function. shape_kept function ≡ shape) }
+    ensures numbers { IfOk result (λ function. numbers_of function ≡ numbers_kept (parameters_in shape) body.now) }
+{
+    match shape {
+        Shape::Object => Ok(None),
+        Shape::Function { .. } => {
+            let named = numbers_in(alloc, &shape, body)?;
+            Ok(Some(Box::new(alloc, Function { shape, named })?))
+        }
+    }
+}
+
+fn copy_function(
+    alloc: Global,
+    function: &Option<Box<Function>>,
+) -> Result<Option<Box<Function>>, AllocError>
+    ensures shape { IfOk result (λ copy. shape_kept copy ≡ shape_kept function.now) }
+    ensures numbers { IfOk result (λ copy. numbers_of copy ≡ numbers_of function.now) }
+{
+    let Some(function) = function else {
+        return Ok(None);
+    };
+    let shape = copy_shape(alloc, &function.shape)?;
+    let named = copy_numbers(alloc, function.named.as_slice())?;
+    Ok(Some(Box::new(alloc, Function { shape, named })?))
 }
 
 // Equal exactly where contracts see the same definition, which doesn't tell the lines of its tokens.
@@ -145,8 +213,7 @@ impl PartialEq for Definition {
         ensures computed { result ≡ is_same_definition self.now other.now }
         ensures same { IsTrue result ↔ (self.now ≡ other.now) }
     {
-        same_shape(&self.shape, &other.shape)
-            && same_tokens(self.body.tokens(), other.body.tokens())
+        same_params(self.params(), other.params()) && same_tokens(self.body(), other.body())
     }
 }
 

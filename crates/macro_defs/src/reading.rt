@@ -93,7 +93,7 @@ fn plain_within(
     if !names_macro(&name) || !is_plain(behind) {
         return Ok(None);
     }
-    let definition = Definition::shared(alloc, file, start, stop)?;
+    let definition = Definition::shared(file, start, stop)?;
     Ok(Some((Bytes::copy_of(alloc, name.text)?, definition)))
 }
 

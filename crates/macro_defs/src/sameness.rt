@@ -1,39 +1,25 @@
 // When two definitions are the same (ISO C 6.10.3 paragraphs 1 and 2).
 ghost use Rattle.std.specs.Prelude.{◌≡◌, bytes_eq};
 ghost use Rattle.std.specs.Cmp.Lexicographic.{pointwise};
-ghost use Rattle.macro_defs.specs.declared.definition.Shape.TheVariants.{Function};
 ghost use Rattle.pp_tokens.specs.Tokens.{token_seen};
-ghost use Rattle.macro_defs.specs.MacroDefinition.{without_line};
+ghost use Rattle.macro_defs.specs.MacroDefinition.{without_line, shape_lent};
 ghost use Rattle.macro_defs.specs.Runs.{run_tokens};
 ghost use Rattle.macro_defs.specs.Sameness.{is_same_kind, is_same_token, is_same_shape};
 
-use crate::Shape;
 use crate::run::Run;
 use base_types::Bytes;
 use pp_tokens::{Kind, TokenRef};
 
 // Whether two forms are the same.
-pub(crate) fn same_shape(one: &Shape, other: &Shape) -> bool
-    ensures { result ≡ is_same_shape one.now other.now }
+pub(crate) fn same_params(one: Option<(&[Bytes], bool)>, other: Option<(&[Bytes], bool)>) -> bool
+    ensures { result ≡ is_same_shape (shape_lent one.entry) (shape_lent other.entry) }
 {
-    match one {
-        Shape::Object => matches!(other, Shape::Object),
-        Shape::Function { params, variadic } => {
-            same_function(params.as_slice(), *variadic, other)
+    match (one, other) {
+        (None, None) => true,
+        (Some((names, variadic)), Some((others, last))) => {
+            same_names(names, others) && variadic == last
         }
-    }
-}
-
-// Whether a form is function-like with these parameters.
-fn same_function(names: &[Bytes], variadic: bool, other: &Shape) -> bool
-    ensures { result ≡ is_same_shape (Function names.now variadic) other.now }
-{
-    match other {
-        Shape::Object => false,
-        Shape::Function {
-            params,
-            variadic: last,
-        } => same_names(names, params.as_slice()) && variadic == *last,
+        _ => false,
     }
 }
 

@@ -1,5 +1,5 @@
 // A table of macros.
-ghost use Rattle.std.specs.Prelude.{◌≡◌, ◌<◌, true, IfOk, OnOk, Some};
+ghost use Rattle.std.specs.Prelude.{◌≡◌, ◌<◌, true, IfOk, OnOk, Some, None};
 ghost use Rattle.macro_defs.specs.Table.{one_token, is_always_defined};
 ghost use Rattle.macro_defs.specs.parts.NameMarks.{mark_of, has_mark, KeepsMarks};
 
@@ -105,7 +105,7 @@ impl MacroTable {
         ensures names { names_ever_defined self.new ≡ names_ever_defined self.old }
     {
         if let Some(definition) = self.entries.get_mut(Key { text: name }) {
-            *definition = None;
+            clear(definition);
         }
     }
 
@@ -156,6 +156,13 @@ impl MacroTable {
         let (name, definition) = self.entries.get_index(place)?;
         Some((name.as_slice(), definition.as_ref()))
     }
+}
+
+// Takes a definition away.
+fn clear(definition: &mut Option<Definition>)
+    ensures { definition.new ≡ None }
+{
+    *definition = None;
 }
 
 // Sets a name's mark; the first call makes the marks.

@@ -3,7 +3,7 @@ ghost use Rattle.std.specs.Prelude.{◌≤◌, length};
 
 use base_types::Bytes;
 use directive_scan::{Asked, PieceRef, Pieces};
-use macro_defs::{DefineError, Definition, MacroTable, Run, Shape, read_shared};
+use macro_defs::{DefineError, Definition, MacroTable, Run, read_shared};
 use pp_tokens::{Lexed, lex};
 use std::alloc::{AllocError, Global};
 use std::process::Abort;
@@ -64,8 +64,8 @@ fn add_named(text: &mut String, name: &Bytes, definition: &Definition) -> Result
 // The parameters of a function-like macro in parentheses, `+` behind them where it is variadic; a bar; and the
 // replacement list, with a blank before each token that white space stands before.
 fn add_definition(text: &mut String, definition: &Definition) -> Result<(), AllocError> {
-    if let Shape::Function { params, variadic } = definition.shape() {
-        add_params(text, params.as_slice(), *variadic)?;
+    if let Some((params, variadic)) = definition.params() {
+        add_params(text, params, variadic)?;
     }
     text.push('|')?;
     add_tokens(text, definition.body())

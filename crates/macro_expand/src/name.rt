@@ -15,7 +15,7 @@ use crate::outcome::RunError;
 use crate::pending::Pending;
 use crate::replace::{Part, object_tokens, read_parts, standing_alone, variable_number};
 use base_types::Bytes;
-use macro_defs::{Definition, Shape};
+use macro_defs::Definition;
 use std::alloc::{AllocError, Global};
 
 // A call of a function-like macro, but for its arguments to be expanded: the parts of the replacement list, which arguments
@@ -90,16 +90,13 @@ pub(crate) fn read_name<'s, S, A: Answers<S>>(
     let Some(d) = answers.definition(source, t.token.text())? else {
         return Ok(ReadName::Itself);
     };
-    match d.shape() {
-        Shape::Object => Ok(ReadName::Object(object_tokens(alloc, t, d, stamp)?)),
-        Shape::Function { params, variadic } => {
-            if !pending.take_open() {
-                return Ok(ReadName::Itself);
-            }
-            let names = params.as_slice();
-            let read = read_call(alloc, t, names, *variadic, pending)?;
-            let (written, call) = macro_call(alloc, d, names, *variadic, read)?;
-            Ok(ReadName::Call(written, call))
-        }
+    let Some((names, variadic)) = d.params() else {
+        return Ok(ReadName::Object(object_tokens(alloc, t, d, stamp)?));
+    };
+    if !pending.take_open() {
+        return Ok(ReadName::Itself);
     }
+    let read = read_call(alloc, t, names, variadic, pending)?;
+    let (written, call) = macro_call(alloc, d, names, variadic, read)?;
+    Ok(ReadName::Call(written, call))
 }

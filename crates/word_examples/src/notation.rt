@@ -1,7 +1,7 @@
 // The job that words give, as text.
 use base_types::{Bytes, List};
 use job_words::{Job, MacroWord, WordError, read_words};
-use macro_defs::{Definition, Shape};
+use macro_defs::Definition;
 use std::alloc::Global;
 use std::process::Abort;
 
@@ -111,8 +111,8 @@ fn add_macro(rt: &impl Abort, text: &mut Vec<u8>, word: &MacroWord) {
 // The parameters in parentheses, and behind `as` the replacement list, with a blank before each token that white space
 // stands before.
 fn add_definition(rt: &impl Abort, text: &mut Vec<u8>, definition: &Definition) {
-    if let Shape::Function { params, variadic } = definition.shape() {
-        add_params(rt, text, params.as_slice(), *variadic);
+    if let Some((params, variadic)) = definition.params() {
+        add_params(rt, text, params, variadic);
     }
     add(rt, text, b" as");
     let mut body = definition.body();

@@ -1,12 +1,14 @@
--- What a definition keeps of its replacement list.
-use Rattle.std.specs.Prelude.{◌≡◌, ◌-◌, List, false, map, take, drop}
+-- What a definition keeps of its form and its replacement list.
+use Rattle.std.specs.Prelude.{◌≡◌, ◌-◌, ℕ, List, [], false, map, take, drop, Option, Some, None, Box}
 use Rattle.std.specs.Arc.{arc_value}
+use Rattle.std.specs.Box.{box_value}
 use Rattle.std.specs.List.{list_any}
 use Rattle.pp_tokens.specs.declared.token.Token.{Token}
 use Rattle.pp_tokens.specs.Lines.{all_tokens}
 use Rattle.pp_tokens.specs.Marks.{is_pasting}
 use Rattle.pp_tokens.specs.Tokens.{rest_of}
 use Rattle.macro_defs.specs.MacroDefinition.{without_line}
+use Rattle.macro_defs.specs.declared.definition.Function.{Function}
 use Rattle.macro_defs.specs.declared.definition.Shape.{Shape}
 use Rattle.macro_defs.specs.declared.definition.Shape.TheVariants.{Object}
 use Rattle.macro_defs.specs.declared.body.Body.{Body}
@@ -18,6 +20,16 @@ use Rattle.macro_defs.specs.declared.run.Run.TheVariants as run
 abbrev pub body_tokens : Body → List Token
 body_tokens (body.Listed tokens) = tokens
 body_tokens (body.Shared file from end) = take (end - from) (drop from (all_tokens (arc_value file)))
+
+-- the form, which is kept of a function-like macro alone
+abbrev pub shape_kept : {A : Type 0} → Option (Box Function A) → Shape
+shape_kept None = Object
+shape_kept (Some function) = (box_value function).shape
+
+-- the numbers of the parameters that the tokens name
+abbrev pub numbers_of : {A : Type 0} → Option (Box Function A) → List (Option ℕ)
+numbers_of None = []
+numbers_of (Some function) = (box_value function).named.items
 
 -- tokens of an object-like macro that have no `##`
 abbrev pub IsPlain : Shape → List Token → Type 0

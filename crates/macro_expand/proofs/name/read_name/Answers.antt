@@ -1,8 +1,8 @@
-use Rattle.std.proofs.Common.{ℕ, List, map, ap, sym, ◌∙◌, refl, subst}
+use Rattle.std.proofs.Common.{map, ap, sym, ◌∙◌, refl, subst}
 use Rattle.std.proofs.lemmas.Result.{err_from_is_err_and}
 use Rattle.macro_defs.specs.Arguments.{parameters_in}
+use Rattle.macro_defs.specs.MacroDefinition.{shape_lent}
 use Rattle.macro_expand.specs.Replacement.{body_parts}
-use Rattle.macro_expand.specs.Expansion.{variable_of}
 use Rattle.macro_expand.specs.Seen.{marked_of, lists_of, parts_seen}
 use Rattle.macro_expand.proofs.NameLaws.{head_undefined, head_object, head_object_error, head_not_called, head_refused, head_called, stand_alone-same}
 use Rattle.macro_expand.specs.parts.Stamps.{Stamped}
@@ -12,47 +12,47 @@ pub returns-in_default-clause-ok : goal.returns-in_default-clause-ok
 returns-in_default-clause-ok g c =
     λ mode depth units role. head_undefined (g.A.Answers.answerer c.args.source.now) c.args.answers.now c.definition.new.self mode depth units c.args.t.now c.args.pending.now role (rw c.text.ensures at c.in_ok-d.ensures.state) (rw (c.in_default.is, c.text.ensures) at c.in_ok-d.ensures.answer)
 
-pub returns-in_err-object_tokens-in-Object-clause-err : goal.returns-in_err-object_tokens-in-Object-clause-err
-returns-in_err-object_tokens-in-Object-clause-err g c =
-    let p = err_from_is_err_and c.from_residual-in_err-object_tokens-in-Object.result c.from_residual-in_err-object_tokens-in-Object.ensures.1 in
+pub returns-in_err-object_tokens-clause-err : goal.returns-in_err-object_tokens-clause-err
+returns-in_err-object_tokens-clause-err g c =
+    let p = err_from_is_err_and c.from_residual-in_err-object_tokens.result c.from_residual-in_err-object_tokens.ensures.1 in
     rw (p.1, p.2)
     (λ mode depth units role. head_object_error (g.A.Answers.answerer c.args.source.now) c.args.answers.now c.definition.new.self mode depth units c.args.t.now c.args.pending.now role (rw c.text.ensures at c.in_ok-d.ensures.state) c.in-Some.d.now (rw (c.in-Some.is, c.text.ensures) at c.in_ok-d.ensures.answer)
-    _ (sym c.shape.ensures ∙ c.in-Object.is) c.in_err-object_tokens-in-Object.ensures.err)
+    _ (sym c.params.ensures ∙ ap shape_lent c.in_default-params.is) c.in_err-object_tokens.ensures.err)
 
-pub returns-in_ok-object_tokens-in-Object-clause-ok : goal.returns-in_ok-object_tokens-in-Object-clause-ok
-returns-in_ok-object_tokens-in-Object-clause-ok g c =
+pub returns-in_default-params-clause-ok : goal.returns-in_default-params-clause-ok
+returns-in_default-params-clause-ok g c =
     λ mode depth units role. head_object (g.A.Answers.answerer c.args.source.now) c.args.answers.now c.definition.new.self mode depth units c.args.t.now c.args.pending.now role (rw c.text.ensures at c.in_ok-d.ensures.state) c.in-Some.d.now (rw (c.in-Some.is, c.text.ensures) at c.in_ok-d.ensures.answer)
-    c.in_ok-object_tokens-in-Object.field-0.items (sym c.shape.ensures ∙ c.in-Object.is) c.in_ok-object_tokens-in-Object.ensures.ok
+    c.in_ok-object_tokens.field-0.items (sym c.params.ensures ∙ ap shape_lent c.in_default-params.is) c.in_ok-object_tokens.ensures.ok
 
 pub returns-then-not-take_open-clause-ok : goal.returns-then-not-take_open-clause-ok
 returns-then-not-take_open-clause-ok g c =
     let why = c.if-not-take_open.ensures.not_opened refl in
-    λ mode depth units role. head_not_called (g.A.Answers.answerer c.args.source.now) c.args.answers.now c.definition.new.self mode depth units c.args.t.now c.args.pending.now role (rw c.text.ensures at c.in_ok-d.ensures.state) c.in-Some.d.now (rw (c.in-Some.is, c.text.ensures) at c.in_ok-d.ensures.answer) c.in-Function.params c.in-Function.variadic (sym c.shape.ensures ∙ c.in-Function.is)
+    λ mode depth units role. head_not_called (g.A.Answers.answerer c.args.source.now) c.args.answers.now c.definition.new.self mode depth units c.args.t.now c.args.pending.now role (rw c.text.ensures at c.in_ok-d.ensures.state) c.in-Some.d.now (rw (c.in-Some.is, c.text.ensures) at c.in_ok-d.ensures.answer) c.in-Some-params.names.now c.in-Some-params.variadic (sym c.params.ensures ∙ ap shape_lent c.in-Some-params.is)
     c.take_open.new.self why.1 why.0
 
-pub returns-in_err-read-in-Function-clause-err : goal.returns-in_err-read-in-Function-clause-err
-returns-in_err-read-in-Function-clause-err g c =
-    let p = err_from_is_err_and c.from_residual-in_err-read-in-Function.result c.from_residual-in_err-read-in-Function.ensures.1 in
+pub returns-in_err-read-clause-err : goal.returns-in_err-read-clause-err
+returns-in_err-read-clause-err g c =
+    let p = err_from_is_err_and c.from_residual-in_err-read.result c.from_residual-in_err-read.ensures.1 in
     rw (p.1, p.2)
-    (λ mode depth units role. head_refused (g.A.Answers.answerer c.args.source.now) c.args.answers.now c.definition.new.self mode depth units c.args.t.now c.args.pending.now role (rw c.text.ensures at c.in_ok-d.ensures.state) c.in-Some.d.now (rw (c.in-Some.is, c.text.ensures) at c.in_ok-d.ensures.answer) c.in-Function.params c.in-Function.variadic (sym c.shape.ensures ∙ c.in-Function.is)
-    (map marked_of c.take_open.new.self) (c.if-not-take_open.ensures.opened refl) _ (rw c.as_slice-names.ensures at c.in_err-read-in-Function.ensures.err))
+    (λ mode depth units role. head_refused (g.A.Answers.answerer c.args.source.now) c.args.answers.now c.definition.new.self mode depth units c.args.t.now c.args.pending.now role (rw c.text.ensures at c.in_ok-d.ensures.state) c.in-Some.d.now (rw (c.in-Some.is, c.text.ensures) at c.in_ok-d.ensures.answer) c.in-Some-params.names.now c.in-Some-params.variadic (sym c.params.ensures ∙ ap shape_lent c.in-Some-params.is)
+    (map marked_of c.take_open.new.self) (c.if-not-take_open.ensures.opened refl) _ c.in_err-read.ensures.err)
 
-pub returns-in_ok-written-in-Function-clause-ok : goal.returns-in_ok-written-in-Function-clause-ok
-returns-in_ok-written-in-Function-clause-ok g c =
-    let made = c.in_ok-written-in-Function.ensures in
-    λ mode depth units role. head_called (g.A.Answers.answerer c.args.source.now) c.args.answers.now c.definition.new.self mode depth units c.args.t.now c.args.pending.now role (rw c.text.ensures at c.in_ok-d.ensures.state) c.in-Some.d.now (rw (c.in-Some.is, c.text.ensures) at c.in_ok-d.ensures.answer) c.in-Function.params c.in-Function.variadic (sym c.shape.ensures ∙ c.in-Function.is)
-    (map marked_of c.take_open.new.self) (c.if-not-take_open.ensures.opened refl) (lists_of c.in_ok-read-in-Function.read.written.items) c.in_ok-read-in-Function.read.close
-    (map marked_of c.read_call.new.pending) (rw c.as_slice-names.ensures at c.in_ok-read-in-Function.ensures.ok)
-    c.in_ok-written-in-Function.call (lists_of c.in_ok-written-in-Function.written.items) made.written
-    (made.parts ∙ ap (λ s. body_parts (parameters_in s) c.in-Some.d.now.body) (sym c.shape.ensures ∙ c.in-Function.is))
-    (made.variable ∙ ap (λ (ps : List (List ℕ)). variable_of ps c.in-Function.variadic) c.as_slice-names.ensures) made.close made.kept
+pub returns-clause-ok : goal.returns-clause-ok
+returns-clause-ok g c =
+    let made = c.in_ok-written.ensures in
+    λ mode depth units role. head_called (g.A.Answers.answerer c.args.source.now) c.args.answers.now c.definition.new.self mode depth units c.args.t.now c.args.pending.now role (rw c.text.ensures at c.in_ok-d.ensures.state) c.in-Some.d.now (rw (c.in-Some.is, c.text.ensures) at c.in_ok-d.ensures.answer) c.in-Some-params.names.now c.in-Some-params.variadic (sym c.params.ensures ∙ ap shape_lent c.in-Some-params.is)
+    (map marked_of c.take_open.new.self) (c.if-not-take_open.ensures.opened refl) (lists_of c.in_ok-read.read.written.items) c.in_ok-read.read.close
+    (map marked_of c.read_call.new.pending) c.in_ok-read.ensures.ok
+    c.in_ok-written.call (lists_of c.in_ok-written.written.items) made.written
+    (made.parts ∙ ap (λ s. body_parts (parameters_in s) c.in-Some.d.now.body) (sym c.params.ensures ∙ ap shape_lent c.in-Some-params.is))
+    made.variable made.close made.kept
 
-pub returns-in_ok-written-in-Function-clause-alone : goal.returns-in_ok-written-in-Function-clause-alone
-returns-in_ok-written-in-Function-clause-alone g c =
-    stand_alone-same c.in_ok-written-in-Function.call.alone.items c.in_ok-read-in-Function.read.written.items c.in_ok-written-in-Function.written.items
-    (parts_seen c.in_ok-written-in-Function.call.parts.items) c.in_ok-written-in-Function.ensures.written c.in_ok-written-in-Function.ensures.alone
+pub returns-clause-alone : goal.returns-clause-alone
+returns-clause-alone g c =
+    stand_alone-same c.in_ok-written.call.alone.items c.in_ok-read.read.written.items c.in_ok-written.written.items
+    (parts_seen c.in_ok-written.call.parts.items) c.in_ok-written.ensures.written c.in_ok-written.ensures.alone
 
-pub returns-in_ok-written-in-Function-clause-stamped : goal.returns-in_ok-written-in-Function-clause-stamped
-returns-in_ok-written-in-Function-clause-stamped g c sets next all =
-    let read = c.in_ok-read-in-Function.ensures.stamped sets next (c.take_open.ensures.stamped sets next all) in
-    (read.0, (c.in_ok-written-in-Function.ensures.stamped sets next read.1.0, subst (Stamped sets next) (sym c.in_ok-written-in-Function.ensures.close) read.1.1))
+pub returns-clause-stamped : goal.returns-clause-stamped
+returns-clause-stamped g c sets next all =
+    let read = c.in_ok-read.ensures.stamped sets next (c.take_open.ensures.stamped sets next all) in
+    (read.0, (c.in_ok-written.ensures.stamped sets next read.1.0, subst (Stamped sets next) (sym c.in_ok-written.ensures.close) read.1.1))
