@@ -49,7 +49,7 @@ use macro_defs::MacroTable;
 use macro_expand::Work;
 use search_path::{Setup, Visit, source_ask};
 use std::alloc::{AllocError, Global};
-use std::mem::replace;
+use std::mem::{forget, replace};
 use tree_model::{CanonPath, Located, Tree, shown};
 
 /// Preprocesses a job over a tree: translation phases 1 to 4 (ISO C 5.1.1.2) of the files that its words name, of its
@@ -65,10 +65,36 @@ pub fn preprocess<T: Tree>(alloc: Global, tree: &mut T, job: &Job) -> Result<Out
     ensures fits { IfOk result OutcomeFits }
     ensures cause { HasCause CppError.Fault (T.faults tree.old) (T.faults tree.new) result }
 {
+    preprocess_for(alloc, tree, job, false)
+}
+
+/// The same for a process that ends behind it: what the job's macros and files take is left until then. To give it back block by block
+/// costs more than a hundredth of a job.
+pub fn preprocess_last<T: Tree>(alloc: Global, tree: &mut T, job: &Job) -> Result<Outcome, CppError>
+    ensures same { T.told tree.new ≡ T.told tree.old }
+    ensures outcome { IfOk result (λ outcome. IfSome (T.told tree.old) (λ told. outcome ≡ outcome_over told job.now)) }
+    ensures fits { IfOk result OutcomeFits }
+    ensures cause { HasCause CppError.Fault (T.faults tree.old) (T.faults tree.new) result }
+{
+    preprocess_for(alloc, tree, job, true)
+}
+
+// The same; `last` says whether the process ends behind it.
+fn preprocess_for<T: Tree>(
+    alloc: Global,
+    tree: &mut T,
+    job: &Job,
+    last: bool,
+) -> Result<Outcome, CppError>
+    ensures same { T.told tree.new ≡ T.told tree.old }
+    ensures outcome { IfOk result (λ outcome. IfSome (T.told tree.old) (λ told. outcome ≡ outcome_over told job.now)) }
+    ensures fits { IfOk result OutcomeFits }
+    ensures cause { HasCause CppError.Fault (T.faults tree.old) (T.faults tree.new) result }
+{
     let ask = source_ask(alloc, job.source())?;
     match find_file(alloc, tree, job.setup(), ask) {
         Ok(Some(source)) => {
-            let told = preprocess_source(alloc, tree, job, &source)?;
+            let told = preprocess_source(alloc, tree, job, &source, last)?;
             Ok(told.outcome)
         }
         Ok(None) => Ok(no_source(alloc, job)?),
@@ -128,6 +154,7 @@ fn preprocess_source<T: Tree>(
     tree: &mut T,
     job: &Job,
     source: &(Visit, Located),
+    last: bool,
 ) -> Result<Told, CppError>
     ensures same { T.told tree.new ≡ T.told tree.old }
     ensures told { ForSome (T.told tree.old) (λ told. IfOk result (λ all. all ≡ source_told (world_of told job.now.setup) job.now.macros source.now job.now.forced)) }
@@ -135,7 +162,7 @@ fn preprocess_source<T: Tree>(
     ensures cause { HasCause CppError.Fault (T.faults tree.old) (T.faults tree.new) result }
 {
     match begin_output(alloc, &source.0.place) {
-        Ok(layout) => read_files(alloc, tree, job, source, layout),
+        Ok(layout) => read_files(alloc, tree, job, source, layout, last),
         Err(error) => Ok(Told {
             outcome: past_limit(alloc, error, &source.0.place)?,
             opened: List::new(alloc),
@@ -159,6 +186,7 @@ fn read_files<T: Tree>(
     job: &Job,
     source: &(Visit, Located),
     layout: Layout,
+    last: bool,
 ) -> Result<Told, CppError>
     requires begun { layout ≡ begun (presumed_name source.now.0.place) }
     requires within { length layout.text ≤ text_limit }
@@ -169,7 +197,7 @@ fn read_files<T: Tree>(
 {
     let mut reader = Reader::before_source(alloc, job.macros(), source, layout)?;
     let ended = reader.read_all(alloc, tree, job, source);
-    reader.told(alloc, ended)
+    reader.told(alloc, ended, last)
 }
 
 fn finish(alloc: Global, layout: Layout, source: &CanonPath) -> Result<Outcome, CppError>
@@ -673,20 +701,36 @@ impl Reader {
         mark_return(alloc, &mut self.kept, &self.source, &self.file, outer.at)
     }
 
-    // What is told of the job once its files are read, or were left at a diagnostic.
-    fn told(self, alloc: Global, ended: Result<(), Stop>) -> Result<Told, CppError>
+    // What is told of the job once its files are read, or were left at a diagnostic. Where the process ends behind it, what the macros and
+    // the files take isn't given back.
+    fn told(self, alloc: Global, ended: Result<(), Stop>, last: bool) -> Result<Told, CppError>
         ensures told { IfOk result (λ all. (whole : Told) → IsEnd self whole ended → all ≡ whole) }
         ensures fits { IfOk result (λ all. OutcomeFits all.outcome) }
         ensures fault { IsErrOf result CppError.Fault → IsErrOf ended Stop.Fault }
     {
         let Reader { source, kept, .. } = self;
-        let Kept { layout, opened, .. } = kept;
+        let Kept {
+            layout,
+            opened,
+            macros,
+            lexed,
+            ..
+        } = kept;
+        let_go(macros, lexed, last);
         let outcome = match ended {
             Ok(()) => finish(alloc, layout, &source)?,
             Err(Stop::Ended(diagnostic)) => Outcome::Diag(diagnostic.into_bytes()),
             Err(stop) => return Err(cause_of(stop)),
         };
         Ok(Told { outcome, opened })
+    }
+}
+
+// Gives back what the macros and the files take, or leaves it where the process ends behind it.
+fn let_go(macros: MacroTable, lexed: LexedFiles, last: bool) {
+    if last {
+        forget(macros);
+        forget(lexed);
     }
 }
 

@@ -21,5 +21,5 @@ mod stop;
 mod text;
 mod tree;
 
-pub use cpp::preprocess;
+pub use cpp::{preprocess, preprocess_last};
 pub use outcome::{CppError, Outcome};

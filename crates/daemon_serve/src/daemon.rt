@@ -4,7 +4,8 @@ ghost use Rattle.daemon_serve.specs.declared.serving.Served.{Served};
 ghost use Rattle.daemon_answers.specs.Answers.{Answers};
 ghost use Rattle.daemon_serve.specs.Serving.{IsServed, serve_of, status_of};
 
-use crate::serving::{Served, serve};
+use crate::preprocessing::Preprocessing;
+use crate::serving::{Served, serve_with};
 use io_edges::{Sink, Source};
 use std::alloc::Global;
 
@@ -29,11 +30,11 @@ pub fn daemon_words(words: &[&str]) -> Option<Serve>
 }
 
 /// Serves one request, and answers the exit status that tells how it ended: 0 replied, 1 refused, 3 the read failed, 4 the
-/// write failed, 5 out of memory.
+/// write failed, 5 out of memory. It is for a process that ends then: what was read of the entries isn't given back.
 pub fn inetd<S: Source, K: Sink>(alloc: Global, source: &mut S, sink: &mut K) -> u8
     ensures { (served : Served) × IsServed Answers (S.left source.old) (S.left source.new) (S.Source.faults source.old) (S.Source.faults source.new) (K.held sink.old) (K.held sink.new) (K.Sink.faults sink.old) (K.Sink.faults sink.new) served × (result ≡ status_of served) }
 {
-    status(serve(alloc, source, sink))
+    status(serve_with(alloc, &mut Preprocessing { last: true }, source, sink))
 }
 
 fn status(served: Served) -> u8

@@ -8,9 +8,11 @@ use job_words::Job;
 use std::alloc::{AllocError, Global};
 use tree_model::{CanonPath, Entry};
 
-// Answers a request by preprocessing its job over the tree of its entries alone.
+// Answers a request by preprocessing its job over the tree of its entries alone; `last` says whether the process ends behind it.
 #[derive(Drop)]
-pub(crate) struct Preprocessing;
+pub(crate) struct Preprocessing {
+    pub(crate) last: bool,
+}
 
 impl Replier for Preprocessing {
     ghost may = { Answers };
@@ -21,6 +23,6 @@ impl Replier for Preprocessing {
         job: &Job,
         entries: List<(CanonPath, Entry)>,
     ) -> Result<Bytes, AllocError> {
-        preprocessed(alloc, job, entries).map_err(|_| AllocError)
+        preprocessed(alloc, job, entries, self.last).map_err(|_| AllocError)
     }
 }

@@ -1,24 +1,25 @@
 // Putting one reply into a sink.
-ghost use Rattle.std.specs.Prelude.{◌≡◌, IfOk, IsTrue, Some};
+ghost use Rattle.std.specs.Prelude.{◌≡◌, IfOk, IfSome, IsTrue, Some};
 ghost use Rattle.tree_model.specs.Entries.{bodies_fit, makes_tree};
 ghost use Rattle.job_frames.specs.declared.answer.Answer.TheVariants.{Refused};
 ghost use Rattle.job_frames.specs.Daemon.{IsAnswerTo};
 ghost use Rattle.job_frames.specs.Outcomes.{number_of};
 ghost use Rattle.job_frames.specs.Spelling.{reply_bytes};
 ghost use Rattle.daemon_answers.specs.Answers.{Answers};
+ghost use Rattle.daemon_cpp.specs.Prep.{outcome_over, OutcomeFits};
 ghost use Rattle.daemon_serve.specs.parts.Parts.{refusal_served, AnswersBy, OnlyReply, IsReplyPut};
 
 use crate::replier::Replier;
 use crate::serving::Served;
 use base_types::{Bytes, List};
 use daemon_answers::answer_of;
-use daemon_cpp::{CppError, preprocess};
+use daemon_cpp::{CppError, Outcome, preprocess, preprocess_last};
 use io_edges::{Sink, WriteFault};
 use job_frames::{FrameError, write_reply};
 use job_words::Job;
 use mirror_tree::Mirror;
 use std::alloc::Global;
-use tree_model::{CanonPath, Entry};
+use tree_model::{CanonPath, Entry, Tree};
 
 // Puts the reply to a request.
 pub(crate) fn reply_to<K: Sink, R: Replier>(
@@ -39,11 +40,12 @@ pub(crate) fn reply_to<K: Sink, R: Replier>(
 }
 
 // The reply that carries what preprocessing gives over the tree of the entries alone. A mirror has no call that fails, so
-// that each error is want of memory.
+// that each error is want of memory. `last` says whether the process ends behind it.
 pub(crate) fn preprocessed(
     alloc: Global,
     job: &Job,
     entries: List<(CanonPath, Entry)>,
+    last: bool,
 ) -> Result<Bytes, CppError>
     requires made { IsTrue (makes_tree entries) }
     requires bodies { IsTrue (bodies_fit entries) }
@@ -52,8 +54,27 @@ pub(crate) fn preprocessed(
     let Ok(mut tree) = Mirror::build(alloc, entries) else {
         unreachable!()
     };
-    let answer = answer_of(preprocess(alloc, &mut tree, job)?);
-    Ok(write_reply(alloc, &answer)?)
+    let outcome = outcome_over(alloc, &mut tree, job, last)?;
+    // The reply takes the memory of the files.
+    drop(tree);
+    Ok(write_reply(alloc, &answer_of(outcome))?)
+}
+
+// What preprocessing gives over a request's tree.
+fn outcome_over<T: Tree>(
+    alloc: Global,
+    tree: &mut T,
+    job: &Job,
+    last: bool,
+) -> Result<Outcome, CppError>
+    ensures outcome { IfOk result (λ outcome. IfSome (T.told tree.old) (λ told. outcome ≡ outcome_over told job.now)) }
+    ensures fits { IfOk result OutcomeFits }
+{
+    if last {
+        preprocess_last(alloc, tree, job)
+    } else {
+        preprocess(alloc, tree, job)
+    }
 }
 
 // Puts the refusal of a reason, which takes no memory.

@@ -31,7 +31,7 @@ pub enum Served {
 pub fn serve<S: Source, K: Sink>(alloc: Global, source: &mut S, sink: &mut K) -> Served
     ensures { IsServed Answers (S.left source.old) (S.left source.new) (S.Source.faults source.old) (S.Source.faults source.new) (K.held sink.old) (K.held sink.new) (K.Sink.faults sink.old) (K.Sink.faults sink.new) result }
 {
-    serve_with(alloc, &mut Preprocessing, source, sink)
+    serve_with(alloc, &mut Preprocessing { last: false }, source, sink)
 }
 
 /// Serves one request as `serve` does, with any answer to a whole one.

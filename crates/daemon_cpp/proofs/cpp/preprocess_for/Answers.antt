@@ -4,7 +4,7 @@ use Rattle.daemon_cpp.specs.declared.cpp.Told.{Told}
 use Rattle.search_path.specs.Asks.{source_ask}
 use Rattle.daemon_cpp.specs.Prep.{outcome_over}
 use Rattle.daemon_cpp.proofs.Jobs.{at_told, job-found, job-not_found}
-use Rattle.daemon_cpp.proofs.cpp.preprocess.Goals as goal
+use Rattle.daemon_cpp.proofs.cpp.preprocess_for.Goals as goal
 
 pub returns-in_ok-told-in-Ok-Some-clause-outcome : goal.returns-in_ok-told-in-Ok-Some-clause-outcome
 returns-in_ok-told-in-Ok-Some-clause-outcome g c =
