@@ -1,5 +1,5 @@
 // Counts the tokens that the text of C files becomes, or prints them.
-ghost use Rattle.std.specs.Prelude.{◌+◌, ◌<◌, IfOk, IsTrue};
+ghost use Rattle.std.specs.Prelude.{◌≡◌, ◌+◌, ◌<◌, IsTrue, false};
 ghost use Rattle.macro_expand.specs.Stream.{at_hand};
 
 use crate::counts::{Counts, counts_of};
@@ -14,6 +14,7 @@ use macro_expand::{ExpandError, Expander, Lent, Work};
 use pp_tokens::{Tokens, lex_body};
 use std::alloc::Global;
 use std::io::{self, Write};
+use std::mem::forget;
 use std::rt::Files;
 
 /// Prints the counts of a file, or its first error; whether it is read and has none.
@@ -27,7 +28,11 @@ pub fn count<R: Files + AllocGlobal + Print + Eprint>(rt: &R, file: &str) -> io:
 /// Prints what a file's text becomes, or its first error; whether it is read and has none.
 pub fn print_text<R: Files + AllocGlobal + Print + Eprint>(rt: &R, file: &str) -> io::Result<bool> {
     match pieces_of(rt, file) {
-        Ok(pieces) => print_pieces(rt, file, &pieces),
+        Ok(pieces) => {
+            let printed = print_pieces(rt, file, &pieces);
+            forget(pieces);
+            printed
+        }
         Err(error) => not_done(rt, file, &error),
     }
 }
@@ -98,6 +103,7 @@ fn print_pieces<R: AllocGlobal + Print + Eprint>(
     let mut unit = Unit::new(rt.alloc(), file)?;
     let text = laid_out(rt.alloc(), file, pieces, &mut unit);
     print_refused(rt, file, unit.refused())?;
+    forget(unit);
     match text {
         Ok(text) => print_bytes(rt, text.as_slice()),
         Err(error) => print_text_error(rt, file, &error),
@@ -172,30 +178,49 @@ fn lay_out(
 ) -> Result<(), TextError> {
     let mut stream = unit.expansion(alloc, run);
     let mut work = Work { left: UNITS };
-    while lay_next(&mut stream, layout, &mut work)? {}
-    Ok(())
+    let mut failed = None;
+    while lay_next(&mut stream, layout, &mut work, &mut failed) {}
+    match failed {
+        Some(error) => Err(error),
+        None => Ok(()),
+    }
 }
 
-// Lays out what comes next; whether anything did. Most tokens of a text are lent.
+// Lays out what comes next; whether anything did, and nothing failed. Most tokens of a text are lent. What fails goes to a place of its
+// own, since an error is large, and one would be moved about for each token.
 #[inline(always)]
 fn lay_next(
     stream: &mut Expander<'_>,
     layout: &mut Layout,
     work: &mut Work,
-) -> Result<bool, TextError>
-    ensures few { IfOk result (λ more. IsTrue more → at_hand stream.new + work.new.left < at_hand stream.old + work.old.left) }
+    failed: &mut Option<TextError>,
+) -> bool
+    ensures few { IsTrue result → at_hand stream.new + work.new.left < at_hand stream.old + work.old.left }
 {
-    match stream.lend_more() {
-        Some(Lent::Token(token)) => {
-            layout.put(&token)?;
-            Ok(true)
-        }
-        Some(Lent::Stretch(tokens)) => {
-            layout.stretch(tokens)?;
-            Ok(true)
-        }
-        None => lay_expanded(stream, layout, work),
+    let Some(lent) = stream.lend_more() else {
+        return lay_expanded(stream, layout, work, failed);
+    };
+    match lay_lent(layout, lent) {
+        Ok(()) => true,
+        Err(error) => fail(failed, TextError::from(error)),
     }
+}
+
+#[inline(always)]
+fn lay_lent(layout: &mut Layout, lent: Lent<'_>) -> Result<(), LayError> {
+    match lent {
+        Lent::Token(token) => layout.put(&token),
+        Lent::Stretch(tokens) => layout.stretch(tokens),
+    }
+}
+
+// Keeps what failed.
+#[cold]
+fn fail(failed: &mut Option<TextError>, error: TextError) -> bool
+    ensures { result ≡ false }
+{
+    *failed = Some(error);
+    false
 }
 
 // Lays out the next token of an expansion that lends none.
@@ -204,15 +229,17 @@ fn lay_expanded(
     stream: &mut Expander<'_>,
     layout: &mut Layout,
     work: &mut Work,
-) -> Result<bool, TextError>
-    ensures few { IfOk result (λ more. IsTrue more → at_hand stream.new + work.new.left < at_hand stream.old + work.old.left) }
+    failed: &mut Option<TextError>,
+) -> bool
+    ensures few { IsTrue result → at_hand stream.new + work.new.left < at_hand stream.old + work.old.left }
 {
-    match stream.expand_next(work)? {
-        Some(token) => {
-            layout.put(&token.as_ref())?;
-            Ok(true)
-        }
-        None => Ok(false),
+    match stream.expand_next(work) {
+        Ok(Some(token)) => match layout.put(&token.as_ref()) {
+            Ok(()) => true,
+            Err(error) => fail(failed, TextError::from(error)),
+        },
+        Ok(None) => false,
+        Err(error) => fail(failed, TextError::Expand(error)),
     }
 }
 

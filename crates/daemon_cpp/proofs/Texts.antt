@@ -12,7 +12,9 @@ use Rattle.macro_expand.specs.declared.stream.Standing.TheVariants.{Going}
 use Rattle.macro_expand.specs.Expansion.{Expanded, Table, expanded_by}
 use Rattle.macro_expand.specs.Replacement.{Marked, unmarked}
 use Rattle.macro_expand.specs.Seen as seen
-use Rattle.macro_expand.specs.Seen.{marked_of, kept_plain, place_of}
+use Rattle.macro_expand.specs.Seen.{marked_of, kept_plain, place_of, ReportsResult}
+use Rattle.macro_expand.specs.declared.outcome.ExpandError.{ExpandError}
+use Rattle.macro_expand.specs.declared.outcome.ExpandError.TheVariants as expand_error
 use Rattle.macro_expand.specs.Stream.{Given, Stream, given, given_before, to_come, GivesNext}
 use Rattle.macro_expand.proofs.PendingLemmas.{plain_unmarked}
 use Rattle.macro_expand.proofs.StreamLemmas.{given_before-nothing}
@@ -41,6 +43,15 @@ grows o (t ∷ ts) = omega (arith, grows-one o (put t), grows (after_event o (pu
 pub too-long : (o : Laid) (r : Result Given Failure) → IsOkay r → text_limit < length o.text → IsTooLong (laid_from o r)
 too-long o (Ok g) okay long = omega (arith, long, grows o g.tokens)
 too-long o (Err f) okay long = absurd okay
+
+-- an error of an expansion is one of the run that it lays out
+pub reports_laid : (e : ExpandError) (o : Laid) (r : Result Given Failure) → ReportsResult e r → ReportsResult e (laid_from o r)
+reports_laid (expand_error.Count name line) o r is = ap (laid_from o) is
+reports_laid (expand_error.Unclosed name line) o r is = ap (laid_from o) is
+reports_laid (expand_error.Paste left right line) o r is = ap (laid_from o) is
+reports_laid (expand_error.Deep line) o r is = ap (laid_from o) is
+reports_laid expand_error.Work o r is = ap (laid_from o) is
+reports_laid expand_error.Memory o r is = tt
 
 after-both : (o : Laid) (ts us : List Token) → after_events o (map put (ts ++ us)) ≡ after_events (after_events o (map put ts)) (map put us)
 unfolding after_events

@@ -1,5 +1,5 @@
 // Runs of text, and the lines of directives that are expanded (ISO C 6.10.3).
-ghost use Rattle.std.specs.Prelude.{◌≡◌, ◌≤◌, ◌<◌, ◌+◌, Ok, length, map, IfOk, IfErr, OnOk, IsErrOf, IsTrue};
+ghost use Rattle.std.specs.Prelude.{◌≡◌, ◌≤◌, ◌<◌, ◌+◌, Result, Ok, length, map, IfOk, IfErr, OnOk, IsErrOf, IsTrue};
 ghost use Rattle.pp_tokens.specs.Tokens.{rest_of};
 ghost use Rattle.macro_defs.specs.Table.{lookup};
 ghost use Rattle.macro_expand.specs.declared.outcome.Mode.TheVariants as mode;
@@ -7,10 +7,11 @@ ghost use Rattle.macro_expand.specs.declared.stream.Standing.TheVariants.{Going}
 ghost use Rattle.macro_expand.specs.Replacement.{unmarked};
 ghost use Rattle.macro_expand.specs.Expansion.{expanded_by};
 ghost use Rattle.macro_expand.specs.Seen.{ReportsResult, place_of};
-ghost use Rattle.macro_expand.specs.Stream.{given, to_come, at_hand, lent_tokens};
+ghost use Rattle.macro_expand.specs.Asking.{Failure};
+ghost use Rattle.macro_expand.specs.Stream.{Given, given, to_come, at_hand, lent_tokens};
 ghost use Rattle.base_types.specs.Limits.{text_limit};
 ghost use Rattle.cpp_output.specs.Layout.{put};
-ghost use Rattle.cpp_output.specs.Laid.{after_events};
+ghost use Rattle.cpp_output.specs.Laid.{Laid, after_events};
 ghost use Rattle.daemon_cpp.specs.Prep.{text_step, expand_line};
 ghost use Rattle.daemon_cpp.specs.parts.Showing.{Goes, Leads, here_seen, TellsError, TellsText, ReportsText, LaysNext, IsOkay, error_line, laid_from};
 
@@ -118,11 +119,25 @@ fn error_line(error: &ExpandError) -> u32
     }
 }
 
-// Why a run of text isn't laid out: its expansion has an error, or else its text passes the limit.
+// Why a run of text isn't laid out: its expansion has an error, or else its text passes the limit; or no memory was found. An error of
+// expansion is in memory of its own, since it is large, and what may be one is moved about for each token.
 #[derive(Drop)]
 pub enum TextError {
-    Expand(ExpandError),
+    Expand(Box<ExpandError>),
     Full,
+    Memory,
+}
+
+// An error of an expansion.
+#[cold]
+#[tactic(auto, using(crate::proofs::Texts::reports_laid))]
+fn in_expansion(alloc: Global, error: ExpandError) -> TextError
+    ensures { (output : Laid) (r : Result Given Failure) → ReportsResult error r → ReportsText result (laid_from output r) }
+{
+    match Box::new(alloc, error) {
+        Ok(error) => TextError::Expand(error),
+        Err(_) => TextError::Memory,
+    }
 }
 
 fn text_stop(alloc: Global, places: Places<'_>, error: &TextError) -> Stop
@@ -131,6 +146,7 @@ fn text_stop(alloc: Global, places: Places<'_>, error: &TextError) -> Stop
     match error {
         TextError::Expand(error) => expansion_stop(alloc, places, error_line(error), error),
         TextError::Full => refused(alloc, places.source, 0, Problem::TextLimit),
+        TextError::Memory => Stop::Memory,
     }
 }
 
@@ -151,13 +167,14 @@ fn lay_out(
     ensures spends { work.new.left ≤ work.old.left }
 {
     let mut stream = Expander::over(alloc, macros, Run::Lexed(run), here, Mode::Text);
-    while lay_next(&mut stream, layout, work)? {}
+    while lay_next(alloc, &mut stream, layout, work)? {}
     Ok(())
 }
 
 // Lays out what comes next; whether anything did. Most tokens of a text are lent.
 #[inline(always)]
 fn lay_next(
+    alloc: Global,
     stream: &mut Expander<'_>,
     layout: &mut Layout,
     work: &mut Work,
@@ -170,16 +187,17 @@ fn lay_next(
     ensures spends { work.new.left ≤ work.old.left }
 {
     match stream.lend_more() {
-        Some(lent) => match lay_or_end(stream, layout, work, lent) {
+        Some(lent) => match lay_or_end(alloc, stream, layout, work, lent) {
             Ok(()) => Ok(true),
             Err(error) => Err(error),
         },
-        None => lay_expanded(stream, layout, work),
+        None => lay_expanded(alloc, stream, layout, work),
     }
 }
 
 // Lays out the next token of an expansion that lends none.
 fn lay_expanded(
+    alloc: Global,
     stream: &mut Expander<'_>,
     layout: &mut Layout,
     work: &mut Work,
@@ -192,18 +210,25 @@ fn lay_expanded(
     ensures spends { work.new.left ≤ work.old.left }
 {
     match stream.expand_next(work) {
-        Ok(Some(token)) => match lay_or_end(stream, layout, work, Lent::Token(token.as_ref())) {
+        Ok(Some(token)) => match lay_or_end(
+            alloc,
+            stream,
+            layout,
+            work,
+            Lent::Token(token.as_ref()),
+        ) {
             Ok(()) => Ok(true),
             Err(error) => Err(error),
         },
         Ok(None) => Ok(false),
-        Err(error) => Err(TextError::Expand(error)),
+        Err(error) => Err(in_expansion(alloc, error)),
     }
 }
 
 // Lays out what is lent. Where the text passes its limit, the rest is expanded, since an error of it comes first.
 #[inline(always)]
 fn lay_or_end(
+    alloc: Global,
     stream: &mut Expander<'_>,
     layout: &mut Layout,
     work: &mut Work,
@@ -221,9 +246,9 @@ fn lay_or_end(
         Ok(()) => Ok(()),
         Err(LayError::Full) => match expand_rest(stream, work) {
             Ok(()) => Err(TextError::Full),
-            Err(error) => Err(TextError::Expand(error)),
+            Err(error) => Err(in_expansion(alloc, error)),
         },
-        Err(LayError::Memory) => Err(TextError::Expand(ExpandError::Memory)),
+        Err(LayError::Memory) => Err(TextError::Memory),
     }
 }
 

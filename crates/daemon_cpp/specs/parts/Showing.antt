@@ -1,5 +1,6 @@
 -- What the code keeps of a state of preprocessing, and what its functions lead to. No public contract rests on it.
 use Rattle.std.specs.Prelude.{◌≡◌, ◌≤◌, ℕ, List, length, drop, Option, Some, None, Result, Ok, Err, if◌then◌else◌, true, false, Bool, ◌+◌, ◌<◌, map, ◌++◌}
+use Rattle.std.specs.Box.{box_value}
 use Rattle.std.specs.List.{list_any}
 use Rattle.macro_defs.specs.Table.{lookup}
 use Rattle.directive_scan.specs.declared.Piece.{Piece}
@@ -224,8 +225,9 @@ error_line expand_error.Memory = 0
 
 -- why nothing goes on behind an error of a run of text
 abbrev pub TellsText : Path → Path → TextError → Stop → Type 0
-TellsText place main (text_error.Expand e) s = TellsError place main (error_line e) e s
+TellsText place main (text_error.Expand e) s = TellsError place main (error_line (box_value e)) (box_value e) s
 TellsText place main text_error.Full s = Refuses (record { place = spelled main; at = 0; complaint = TextLimit }) s
+TellsText place main text_error.Memory s = s ≡ stop.Memory
 
 -- an output behind the tokens that an expansion gives, and the units left
 abbrev pub laid_from : Laid → Result Given Failure → Result (Laid × ℕ) Failure
@@ -237,10 +239,11 @@ abbrev pub IsTooLong : Result (Laid × ℕ) Failure → Type 0
 IsTooLong (Ok laid) = text_limit < length laid.0.text
 IsTooLong (Err f) = ⊥
 
--- an error of a run that becomes this: that of its expansion, or else its text passes the limit
+-- an error of a run that becomes this: that of its expansion, or else its text passes the limit; want of memory tells nothing
 abbrev pub ReportsText : TextError → Result (Laid × ℕ) Failure → Type 0
-ReportsText (text_error.Expand e) r = ReportsResult e r
+ReportsText (text_error.Expand e) r = ReportsResult (box_value e) r
 ReportsText text_error.Full r = IsTooLong r
+ReportsText text_error.Memory r = Unit {0}
 
 -- a token of a run that becomes this was laid out, and others may come; or none came
 abbrev pub LaysNext : Bool → Result (Laid × ℕ) Failure → Laid → Stream → ℕ → Type 0
