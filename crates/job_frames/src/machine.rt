@@ -2,9 +2,9 @@
 //
 // One field is due at a time: a token, or so many bytes of a body. `run` moves the bytes of a piece to that field; when it is full, `step`
 // hands it to the frame, which judges it, keeps what it says, and makes the next field due, or refuses. So frames may come in any pieces,
-// each byte is moved once, and nothing that was kept is judged again. What each stand means is `left_to_read` of
+// each byte is moved once, or twice in a short body, and nothing that was kept is judged again. What each stand means is `left_to_read` of
 // specs/parts/Machines.antt: what is read of every text that may still come.
-ghost use Rattle.std.specs.Prelude.{◌≡◌, ◌≤◌, length, nat_lt, Some};
+ghost use Rattle.std.specs.Prelude.{◌≡◌, ◌≤◌, [], length, nat_lt, Some, IfOk, OnOk};
 ghost use Rattle.job_frames.specs.parts.Dues.{due_of, size_of};
 ghost use Rattle.job_frames.specs.parts.Machines.{Moves, MachineStands, HasRun};
 ghost use Rattle.job_frames.specs.parts.Filling.{IsTopped};
@@ -15,6 +15,9 @@ use crate::fields::{Number, token_number};
 use crate::{Fed, FrameError};
 use std::alloc::{AllocError, Global};
 use std::mem;
+
+// The most bytes of a body that is copied.
+const SHORT_BODY: usize = 256;
 
 // A frame, and the bytes that came of the field that is due.
 #[derive(Drop)]
@@ -74,6 +77,19 @@ fn token_move<F: Frame>(m: &mut Machine<F>, letters: [u8; 4]) -> Move
     }
 }
 
+// Takes what came of a body. A short one is copied, so that the bytes' room stays for the next token: of most bodies, a word or a path.
+fn take_pending(alloc: Global, pending: &mut Vec<u8>) -> Result<Vec<u8>, AllocError>
+    ensures body { IfOk result (λ body. body.items ≡ pending.old.items) }
+    ensures none_left { OnOk result (pending.new.items ≡ []) }
+{
+    if pending.len() > SHORT_BODY {
+        return Ok(mem::replace(pending, Vec::new(alloc)));
+    }
+    let body = pending.as_slice().to_vec(alloc)?;
+    pending.clear();
+    Ok(body)
+}
+
 // A move where a body is due.
 fn body_move<F: Frame>(m: &mut Machine<F>, n: u32) -> Move
     requires due { due_of (F.format m.old.frame) ≡ Some (due.Body n) }
@@ -83,7 +99,9 @@ fn body_move<F: Frame>(m: &mut Machine<F>, n: u32) -> Move
     if lacks(m.pending.len(), n as usize) {
         return Move::Rest(Fed::More);
     }
-    let body = mem::replace(&mut m.pending, Vec::new(m.alloc));
+    let Ok(body) = take_pending(m.alloc, &mut m.pending) else {
+        return Move::Rest(Fed::Refused(FrameError::Memory));
+    };
     match m.frame.take_body(body) {
         Err(e) => Move::Rest(Fed::Refused(e)),
         Ok(()) => Move::Go,
