@@ -17,7 +17,7 @@ use search_path::Visit;
 use sheet_build::Sheet;
 use std::alloc::{AllocError, Global};
 use std::cmp::Ordering;
-use tree_model::{CanonPath, Located, spellings_are_apart};
+use tree_model::{CanonPath, Located, Nodes, spellings_are_apart};
 
 // The nodes of all files that searches found, and of those that sheets have, without the root, each once, in order of their
 // spellings' bytes.
@@ -92,6 +92,18 @@ fn add_walked(alloc: Global, paths: &[CanonPath], walked: &mut Walked) -> Result
     Ok(())
 }
 
+// Adds those nodes of a walk that aren't there yet.
+#[tactic(auto, unfolding(crate::specs::parts::Walked::with_paths))]
+fn add_nodes(alloc: Global, nodes: &Nodes, walked: &mut Walked) -> Result<(), AllocError>
+    ensures { OnOk result (walked.new ≡ with_paths walked.old nodes.now) }
+{
+    let (front, shared, behind) = nodes.parts();
+    add_walked(alloc, front, walked)?;
+    add_walked(alloc, shared, walked)?;
+    add_walked(alloc, behind, walked)?;
+    Ok(())
+}
+
 // Adds the nodes that were walked for the files that searches found.
 #[tactic(auto, unfolding(crate::specs::parts::Walked::with_paths))]
 fn add_searched(alloc: Global, searches: &Searches, walked: &mut Walked) -> Result<(), AllocError>
@@ -114,7 +126,7 @@ fn add_found(
 {
     match found {
         None => Ok(()),
-        Some((_, located)) => add_walked(alloc, located.walked.as_slice(), walked),
+        Some((_, located)) => add_nodes(alloc, &located.walked, walked),
     }
 }
 
@@ -140,7 +152,7 @@ fn add_hits(alloc: Global, hits: &[(Visit, Located)], walked: &mut Walked) -> Re
     ensures { OnOk result (walked.new ≡ with_paths walked.old (hits_walked hits.now)) }
 {
     for hit in hits {
-        add_walked(alloc, hit.1.walked.as_slice(), walked)?;
+        add_nodes(alloc, &hit.1.walked, walked)?;
     }
     Ok(())
 }
@@ -151,7 +163,7 @@ fn add_files(alloc: Global, files: &[Located], walked: &mut Walked) -> Result<()
     ensures { OnOk result (walked.new ≡ with_paths walked.old (gathering.walked_of files.now)) }
 {
     for file in files {
-        add_walked(alloc, file.walked.as_slice(), walked)?;
+        add_nodes(alloc, &file.walked, walked)?;
     }
     Ok(())
 }

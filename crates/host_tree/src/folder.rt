@@ -74,7 +74,7 @@ impl<R: Files + AllocGlobal> Tree for Folder<R> {
         }
     }
 
-    fn recall(&self, _text: &Bytes) -> Option<&Reached> {
+    fn recall(&self, _text: &[u8]) -> Option<&Reached> {
         None
     }
 

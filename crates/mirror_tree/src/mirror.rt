@@ -85,7 +85,7 @@ impl Tree for Mirror {
         }
     }
 
-    fn recall(&self, text: &Bytes) -> Option<&Reached> {
+    fn recall(&self, text: &[u8]) -> Option<&Reached> {
         self.walks.get(text)
     }
 

@@ -103,10 +103,18 @@ fn say_located(out: &mut String, found: &Located) -> Result<(), Wrong> {
     say(out, "place", found.place.bytes())?;
     say(out, "file", found.real.bytes())?;
     out.push_str("> walked")?;
-    for node in found.walked.as_slice() {
+    let (front, shared, behind) = found.walked.parts();
+    push_nodes(out, front)?;
+    push_nodes(out, shared)?;
+    push_nodes(out, behind)?;
+    Ok(out.push('\n')?)
+}
+
+fn push_nodes(out: &mut String, nodes: &[CanonPath]) -> Result<(), Wrong> {
+    for node in nodes {
         push_bytes(out, node.bytes())?;
     }
-    Ok(out.push('\n')?)
+    Ok(())
 }
 
 fn answer_node<T: Tree>(out: &mut String, tree: &mut T, path: &CanonPath) -> Result<(), Wrong> {

@@ -1,15 +1,16 @@
 -- Answers that are remembered, after one more.
-use Rattle.std.proofs.Common.{◌≡◌, ◌⊎◌, inl, inr, sym, ◌∙◌, ap, subst, cond, Bool, true, false, Option, Some, Result, Ok, Err, OnOk, OnErr, IfSome, refl}
+use Rattle.std.proofs.Common.{◌≡◌, ◌⊎◌, ℕ, inl, inr, sym, ◌∙◌, ap, subst, cond, nat_eq, Bool, true, false, Option, None, Some, Result, Ok, Err, OnOk, OnErr, IfSome, refl}
 use Rattle.std.specs.HashMap.{HashMap, Updates, IsUnchanged, get}
 use Rattle.std.specs.Bool.{Decides}
 use Rattle.std.specs.Map.{lookup}
 use Rattle.std.specs.Option.{unwrap_or}
 use Rattle.std.proofs.lemmas.Bool.{false_from_ne_true}
+use lib.Pointwise.{pointwise, bytes_decides}
 use Rattle.tree_model.specs.Paths.{Text, Path}
 use Rattle.tree_model.specs.Reached.{reached}
 use Rattle.tree_model.specs.declared.reached.Reached.{Reached}
 use Rattle.tree_model.specs.Trees.{FileTree, node_at, IsNode}
-use Rattle.tree_model.specs.parts.Remembered.{RememberedNodes, IsTrueOf, AreTrueWalks}
+use Rattle.tree_model.specs.parts.Remembered.{RememberedNodes, IsTrueOf, AreTrueWalks, number_of, kept_of}
 use Rattle.tree_model.specs.declared.entry.Node.{Node}
 use Rattle.tree_model.proofs.StepLemmas.{node_told}
 
@@ -39,6 +40,30 @@ module _ {K V : Type 0} (test : K → K → Bool) (decides : (one other : K) →
       (found_or_put key other copy answer (get test before other) (test key other) refl (sym (put.0 other) ∙ found))
   one_more before now at key got copy (Err e) here is put same other answer found =
       inl (sym (ap (lookup (test other)) same) ∙ found)
+
+-- what is kept of a text is of it
+told_apart : (other : Text) (answer : Reached) (known : Text) (kept : Reached) (same : Bool) → pointwise nat_eq known other ≡ same → cond same (Some kept) None ≡ Some answer
+    → (known ≡ other) × (kept ≡ answer)
+told_apart other answer known kept true is found = ((bytes_decides known other).0 is, ap (λ o. unwrap_or o kept) found)
+told_apart other answer known kept false is found = absurd (cc)
+
+one_text : (before : Option (Text × Reached)) (text : Text) (it : Reached) (other : Text) (answer : Reached) (now : Option (Text × Reached))
+    → ((got : Text × Reached) → now ≡ Some got → (before ≡ Some got) ⊎ ((number_of other ≡ number_of text) × (got ≡ (text, it)))) → kept_of other now ≡ Some answer
+    → (kept_of other before ≡ Some answer) ⊎ ((other ≡ text) × (answer ≡ it))
+one_text before text it other answer None more found = absurd (cc)
+one_text before text it other answer (Some (known, kept)) more found =
+    either (told_apart other answer known kept (pointwise nat_eq known other) refl found) (more (known, kept) refl)
+  where
+    either : (known ≡ other) × (kept ≡ answer) → (before ≡ Some (known, kept)) ⊎ ((number_of other ≡ number_of text) × (◌≡◌ {A = Text × Reached} (known, kept) (text, it)))
+        → (kept_of other before ≡ Some answer) ⊎ ((other ≡ text) × (answer ≡ it))
+    either same (inl old) = inl (ap (kept_of other) old ∙ found)
+    either same (inr (there, new)) = inr (sym same.0 ∙ ap (λ (p : Text × Reached). p.0) new, sym same.1 ∙ ap (λ (p : Text × Reached). p.1) new)
+
+-- one more by the texts' numbers is one more by the texts
+pub one_text_more : (before now : ℕ → Option (Text × Reached)) (text : Text) (it : Reached) → OneMore before now (number_of text) (text, it)
+    → OneMore (λ other. kept_of other (before (number_of other))) (λ other. kept_of other (now (number_of other))) text it
+one_text_more before now text it more other answer found =
+    one_text (before (number_of other)) text it other answer (now (number_of other)) (more (number_of other)) found
 
 -- with one true answer more of a walk, all are true
 pub walks_still_true : (told : Option FileTree) (before now : Text → Option Reached) (text : Text) (it : Reached) → OneMore before now text it → AreTrueWalks told before

@@ -1,9 +1,10 @@
 -- Each step of a program goes on as the walk does.
-use Rattle.std.proofs.Common.{◌≡◌, ℕ, zero, suc, ◌-◌, ◌<◌, ◌≤◌, List, [], ◌∷◌, ◌++◌, length, refl, sym, ◌∙◌, ap, subst, ◌⊎◌, inl, inr, Option, Some, None, Bool, true, false, cond, is_some, IsSome, IfSome, arith, append_assoc, if◌then◌else◌, ◌==◌, not, ◌&&◌, nat_le, nat_eq}
+use Rattle.std.proofs.Common.{◌≡◌, ℕ, zero, suc, ◌-◌, ◌<◌, ◌≤◌, List, [], ◌∷◌, ◌++◌, length, take, drop, refl, sym, ◌∙◌, ap, subst, ◌⊎◌, inl, inr, Option, Some, None, Bool, true, false, cond, is_some, IsSome, IfSome, arith, append_assoc, if◌then◌else◌, ◌==◌, not, ◌&&◌, nat_le, nat_eq}
 use Rattle.std.proofs.lemmas.Bool.{lt-leb, le-leb, ne_eqb, eqb-false}
 use Rattle.std.specs.Option.{option_map}
 use Rattle.std.specs.List.{onto_first}
 use Rattle.std.proofs.lemmas.List.{append-nil}
+use Rattle.std.proofs.Math.Seq.{take-append_seam, drop-append_seam}
 use Rattle.base_types.specs.Ascii.{slash}
 use Rattle.tree_model.specs.Paths.{Text, Path, parent, child_of, is_canonical}
 use Rattle.tree_model.specs.Trees.{FileTree, entry_at, node_at, node_of_entry, IsTree}
@@ -252,13 +253,23 @@ located-as dir name nodes noted end real place e n p =
     let at : Path → List Path → Option Located = λ place walked. Some (record { place = place; real = real; walked = walked }) in
     ap (λ place. at place noted) p ∙ ap (at (name ∷ dir)) (sym n) ∙ ap (located_at dir name nodes) (sym e)
 
+-- the nodes of a walk that goes on behind some nodes, with shared ones between
+parted : (before more shared noted : List Path) → before ++ more ≡ noted
+    → (before ++ shared) ++ more ≡ take (length before) noted ++ (shared ++ drop (length before) noted)
+parted before more shared noted e = rw (← e, take-append_seam before more, drop-append_seam before more) (append_assoc before shared more)
+
+pub none_behind : (before shared : List Path) → shared ≡ [] → before ++ shared ≡ before
+none_behind before shared e = ap (λ shared. before ++ shared) e ∙ append-nil before
+
 -- a last component that leads to a file locates it
-pub located_file : (look : Look) (links : ℕ) (dir : Path) (name : Text) (before noted : List Path) (place real : Path) → Some place ≡ child_of dir name
+pub located_file : (look : Look) (links : ℕ) (dir : Path) (name : Text) (before shared noted : List Path) (place real : Path) → Some place ≡ child_of dir name
     → GoesOn before (walk look links dir (name ∷ [])) noted (walk_ended (AtFile real))
-    → ◌≡◌ {A = Option Located} (Some (record { place = place; real = real; walked = noted })) (located_in dir name before (walk look links dir (name ∷ [])))
-located_file look links dir name before noted place real child h =
+    → ◌≡◌ {A = Option Located} (Some (record { place = place; real = real; walked = take (length before) noted ++ (shared ++ drop (length before) noted) }))
+    (located_in dir name (before ++ shared) (walk look links dir (name ∷ [])))
+located_file look links dir name before shared noted place real child h =
     let w : Walked = walk look links dir (name ∷ []) in
-    located-as dir name (before ++ w.nodes) noted w.end real place h.end (h.nodes ∙ append-nil noted) (child-is (is_canonical (name ∷ dir)) place (name ∷ dir) child)
+    located-as dir name ((before ++ shared) ++ w.nodes) (take (length before) noted ++ (shared ++ drop (length before) noted)) w.end real place h.end
+    (parted before w.nodes shared noted (h.nodes ∙ append-nil noted)) (child-is (is_canonical (name ∷ dir)) place (name ∷ dir) child)
 
 -- one that doesn't locates nothing
 pub located_nothing : (look : Look) (links : ℕ) (dir : Path) (name : Text) (before noted : List Path) (how : Stop) → ((real : Path) → how ≡ stop.File real → ⊥)

@@ -2,6 +2,8 @@
 --     Remembered  the nodes that a tree remembers of another
 --     Steps       how the steps of a program go on as a walk does
 --     Glances     what two looks at a tree tell of a text
+--     Shared      the nodes that walks share
 pub mod Steps
 pub mod Glances
 pub mod Remembered
+pub mod Shared

@@ -141,7 +141,7 @@ impl<T: Tree> Tree for Cached<T> {
         Ok(got)
     }
 
-    fn recall(&self, text: &Bytes) -> Option<&Reached> {
+    fn recall(&self, text: &[u8]) -> Option<&Reached> {
         self.walks.get(text)
     }
 

@@ -2,7 +2,7 @@
 //
 // The texts of a search begin with `/`, stand below few directories, and many lead nowhere. So what the walk of a text up to its last `/`
 // reached is remembered (reached.rt), and from then on a copy of the directory's path and one look tell whether a file is there. The nodes
-// walked are wanted where one is, and are copied there alone.
+// walked are wanted where one is: those of the walk that is remembered are shared.
 ghost use Rattle.std.specs.Prelude.{◌≡◌, ◌∷◌, ◌++◌, List, [], IfOk, IfSome, IsErrOf};
 ghost use Rattle.std.specs.Option.{ForSome};
 ghost use Rattle.base_types.specs.Causes.{HasCause};
@@ -13,9 +13,9 @@ ghost use Rattle.tree_model.specs.Walk.{components, walk};
 ghost use Rattle.tree_model.specs.Reached.{reached};
 ghost use Rattle.tree_model.specs.parts.Glances.{Recalls, Tells, TellsLocated, located_below};
 
-use crate::walk::push_copies;
+use crate::nodes::Nodes;
+use crate::walk::nodes_before;
 use crate::{CanonPath, Located, Node, Reached, Tree, TreeError};
-use base_types::{Bytes, List};
 use std::alloc::{AllocError, Global};
 
 // What a glance tells of a name below a text: that it locates nothing, or a file to which no link leads from there, or neither.
@@ -45,7 +45,7 @@ pub(crate) enum Recalled {
 pub(crate) fn recall_child<T: Tree>(
     alloc: Global,
     tree: &T,
-    text: &Bytes,
+    text: &[u8],
     name: &[u8],
 ) -> Result<Recalled, AllocError>
     ensures { IfOk result (λ it. ForSome (T.told tree.now) (λ told. Recalls (reached told text.now) name.now it)) }
@@ -64,7 +64,7 @@ pub(crate) fn recall_child<T: Tree>(
 fn glance_below<T: Tree>(
     alloc: Global,
     tree: &mut T,
-    text: &Bytes,
+    text: &[u8],
     name: &[u8],
 ) -> Result<Glance, TreeError>
     ensures same { T.told tree.new ≡ T.told tree.old }
@@ -90,22 +90,20 @@ fn nodes_to<T: Tree>(
     alloc: Global,
     tree: &T,
     from: &CanonPath,
-    text: &Bytes,
+    text: &[u8],
     path: &CanonPath,
-) -> Result<Option<List<CanonPath>>, AllocError>
+) -> Result<Option<Nodes>, AllocError>
     ensures { IfOk result (λ o. IfSome o (λ nodes. ForSome (T.told tree.now) (λ told.
         nodes ≡ ((from.now ∷ [] ∷ []) ++ (walk (entry_at told) link_limit [] (components text.now)).nodes) ++ path.now ∷ []))) }
 {
     let Some(Reached::Dir(_, walked)) = tree.recall(text) else {
         return Ok(None);
     };
-    let mut nodes = Vec::with_capacity(alloc, walked.len().saturating_add(3))?;
-    nodes.push(from.copy(alloc)?)?;
-    nodes.push(CanonPath::root(alloc)?)?;
-    let mut nodes = List::of(nodes);
-    push_copies(alloc, &mut nodes, walked.as_slice())?;
-    nodes.push(path.copy(alloc)?)?;
-    Ok(Some(nodes))
+    let shared = walked.share()?;
+    let mut own = nodes_before(alloc, from)?;
+    let front = own.len();
+    own.push(path.copy(alloc)?)?;
+    Ok(Some(Nodes::around(own, front, shared)))
 }
 
 // Glances at a text: at the name below what stands before its last `/`.
@@ -122,11 +120,10 @@ pub(crate) fn glance_at<T: Tree>(
     ensures never_large { IsErrOf result TreeError.Large → ⊥ }
     ensures no_read { T.reads tree.new ≡ T.reads tree.old }
 {
-    let text = Bytes::copy_of(alloc, front)?;
-    match glance_below(alloc, tree, &text, name)? {
+    match glance_below(alloc, tree, front, name)? {
         Glance::Missing => Ok(Glanced::Missing),
         Glance::Unsure => Ok(Glanced::Unsure),
-        Glance::File(real) => match nodes_to(alloc, tree, from, &text, &real)? {
+        Glance::File(real) => match nodes_to(alloc, tree, from, front, &real)? {
             Some(walked) => {
                 let place = real.copy(alloc)?;
                 Ok(Glanced::File(Located {

@@ -12,8 +12,9 @@ ghost use Rattle.tree_model.specs.Walk.{components, walk};
 ghost use Rattle.tree_model.specs.parts.Glances.{TellsLocated, located_below, reached_below};
 
 use crate::glance::{Glanced, Recalled, glance_at, recall_child};
-use crate::walk::{cut_last, push_copies};
-use crate::{CanonPath, Node, Reached, Tree, TreeError};
+use crate::nodes::push_copies;
+use crate::walk::cut_last;
+use crate::{CanonPath, Node, Reached, SharedNodes, Tree, TreeError};
 use base_types::{Bytes, List};
 use std::alloc::{AllocError, Global};
 
@@ -21,26 +22,27 @@ use std::alloc::{AllocError, Global};
 fn nodes_and<T: Tree>(
     alloc: Global,
     tree: &T,
-    text: &Bytes,
+    text: &[u8],
     path: &CanonPath,
-) -> Result<Option<List<CanonPath>>, AllocError>
+) -> Result<Option<SharedNodes>, AllocError>
     ensures { IfOk result (λ o. IfSome o (λ nodes. ForSome (T.told tree.now) (λ told.
         nodes ≡ (walk (entry_at told) link_limit [] (components text.now)).nodes ++ path.now ∷ []))) }
 {
     let Some(Reached::Dir(_, walked)) = tree.recall(text) else {
         return Ok(None);
     };
+    let walked = walked.as_slice();
     let mut nodes = List::of(Vec::with_capacity(alloc, walked.len().saturating_add(1))?);
-    push_copies(alloc, &mut nodes, walked.as_slice())?;
+    push_copies(alloc, &mut nodes, walked)?;
     nodes.push(path.copy(alloc)?)?;
-    Ok(Some(nodes))
+    Ok(Some(SharedNodes::of(alloc, nodes)?))
 }
 
 // What the walk of a text with one more component reaches, as far as what is remembered of the text and one look tell.
 fn look_below<T: Tree>(
     alloc: Global,
     tree: &mut T,
-    text: &Bytes,
+    text: &[u8],
     name: &[u8],
 ) -> Result<Option<Reached>, TreeError>
     ensures same { T.told tree.new ≡ T.told tree.old }
@@ -75,14 +77,13 @@ fn learn<T: Tree>(alloc: Global, tree: &mut T, text: &[u8]) -> Result<bool, Tree
     let Some(front) = head else {
         return Ok(false);
     };
-    let whole = Bytes::copy_of(alloc, text)?;
-    if tree.recall(&whole).is_some() {
+    if tree.recall(text).is_some() {
         return Ok(false);
     }
-    let Some(it) = look_below(alloc, tree, &Bytes::copy_of(alloc, front)?, name)? else {
+    let Some(it) = look_below(alloc, tree, front, name)? else {
         return Ok(false);
     };
-    tree.remember(whole, it);
+    tree.remember(Bytes::copy_of(alloc, text)?, it);
     Ok(true)
 }
 

@@ -10,6 +10,7 @@ mod glance;
 mod laws;
 mod learn;
 mod mem_tree;
+mod nodes;
 mod order;
 mod path;
 mod reached;
@@ -26,6 +27,7 @@ pub use laws::{
     looked_up_by_bytes, parents_make_trees, spellings_are_apart, tests_decide,
 };
 pub use mem_tree::{MemTree, MirrorError, entry_at};
+pub use nodes::{Nodes, SharedNodes};
 pub use order::{entry_spelled, judge_entries, judge_path};
 pub use path::CanonPath;
 pub use reached::{Reached, Walks};

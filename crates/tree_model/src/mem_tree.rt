@@ -172,7 +172,7 @@ impl<F: Frozen> Tree for MemTree<F> {
         node_among(self.alloc, &self.entries, path)
     }
 
-    fn recall(&self, text: &Bytes) -> Option<&Reached> {
+    fn recall(&self, text: &[u8]) -> Option<&Reached> {
         self.walks.get(text)
     }
 

@@ -87,7 +87,7 @@ pub trait Tree {
         ensures one_read { reads self.new ≡ raised (reads self.old) };
 
     /// What is remembered of the walk of a text from the root; None where nothing is.
-    fn recall(&self, text: &Bytes) -> Option<&Reached>
+    fn recall(&self, text: &[u8]) -> Option<&Reached>
         ensures { IfSome (told self.now) (λ tree. IfSome result (λ it. it.now ≡ reached tree text.now)) };
 
     /// Remembers what the walk of a text from the root reached, if the object remembers walks and there is memory for it.

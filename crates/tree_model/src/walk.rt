@@ -22,6 +22,7 @@ ghost use Rattle.tree_model.specs.parts.Steps.{GoesOn, components_left, asked, o
 
 use crate::glance::Glanced;
 use crate::learn::glance_or_learn;
+use crate::nodes::{Nodes, SharedNodes};
 use crate::{CanonPath, Node, Reached, Tree, TreeError};
 use base_types::limits::{LINK_LIMIT, PATH_LIMIT};
 use base_types::{Bytes, List};
@@ -36,7 +37,7 @@ pub struct Located {
     pub real: CanonPath,
     /// The nodes walked, in order: the starting directory, the root where the text begins with `/`, and each
     /// node met, links and the targets of `..` included.
-    pub walked: List<CanonPath>,
+    pub walked: Nodes,
 }
 
 impl Located {
@@ -46,28 +47,13 @@ impl Located {
     {
         let place = self.place.copy(alloc)?;
         let real = self.real.copy(alloc)?;
-        let mut walked = List::new(alloc);
-        push_copies(alloc, &mut walked, self.walked.as_slice())?;
+        let walked = self.walked.copy(alloc)?;
         Ok(Located {
             place,
             real,
             walked,
         })
     }
-}
-
-// Copies of paths behind others.
-pub(crate) fn push_copies(
-    alloc: Global,
-    paths: &mut List<CanonPath>,
-    more: &[CanonPath],
-) -> Result<(), AllocError>
-    ensures { OnOk result (paths.new ≡ paths.old ++ more.now) }
-{
-    for path in more {
-        paths.push(path.copy(alloc)?)?;
-    }
-    Ok(())
 }
 
 // What a component asks for: to stay, to go up, or to go down to a name.
@@ -330,18 +316,20 @@ fn walk_on<T: Tree>(
     }
 }
 
-// The file that a last component leads to from the directory in which it is looked up, after the nodes walked before.
+// The file that a last component leads to from the directory in which it is looked up, after the nodes walked before: some, and then
+// shared ones.
 fn locate_last<T: Tree>(
     alloc: Global,
     tree: &mut T,
     dir: CanonPath,
     links: u32,
     name: &[u8],
-    mut walked: List<CanonPath>,
+    before: List<CanonPath>,
+    shared: SharedNodes,
 ) -> Result<Option<Located>, TreeError>
     requires { components name.now ≡ name.now ∷ [] }
     ensures same { T.told tree.new ≡ T.told tree.old }
-    ensures found { IfOk result (λ found. ForSome (T.told tree.old) (λ told. found ≡ located_in dir name.now walked (walk (entry_at told) links dir (name.now ∷ [])))) }
+    ensures found { IfOk result (λ found. ForSome (T.told tree.old) (λ told. found ≡ located_in dir name.now (before ++ shared) (walk (entry_at told) links dir (name.now ∷ [])))) }
     ensures cause { HasCause TreeError.Fault (T.faults tree.old) (T.faults tree.new) result }
     ensures never_large { IsErrOf result TreeError.Large → ⊥ }
     ensures no_read { T.reads tree.new ≡ T.reads tree.old }
@@ -349,62 +337,58 @@ fn locate_last<T: Tree>(
     let Some(place) = dir.child(alloc, name)? else {
         return Ok(None);
     };
-    match walk_on(alloc, tree, dir, links, Some(name), &mut walked)? {
+    let front = before.len();
+    let mut own = before;
+    match walk_on(alloc, tree, dir, links, Some(name), &mut own)? {
         Stop::File(real) => Ok(Some(Located {
             place,
             real,
-            walked,
+            walked: Nodes::around(own, front, shared),
         })),
         _ => Ok(None),
     }
 }
 
 // What a walk from the root with these nodes reached.
-fn reached_by(alloc: Global, stop: &Stop, nodes: &[CanonPath]) -> Result<Reached, AllocError>
+fn reached_by(alloc: Global, stop: &Stop, nodes: &SharedNodes) -> Result<Reached, AllocError>
     ensures { IfOk result (λ it. it ≡ reached_at nodes.now (end_of stop.now)) }
 {
     let Stop::Dir(dir, _) = stop else {
         return Ok(Reached::Nowhere);
     };
-    let mut walked = List::new(alloc);
-    push_copies(alloc, &mut walked, nodes)?;
-    Ok(Reached::Dir(dir.copy(alloc)?, walked))
+    Ok(Reached::Dir(dir.copy(alloc)?, nodes.share()?))
 }
 
-// Walks a text from the root, and has the tree remember what that reached.
+// Walks a text from the root, and has the tree remember what that reached. The nodes walked are answered too.
 fn walk_front<T: Tree>(
     alloc: Global,
     tree: &mut T,
     text: &[u8],
-    nodes: &mut List<CanonPath>,
-) -> Result<Stop, TreeError>
-    requires { nodes.old ≡ [] }
+) -> Result<(Stop, SharedNodes), TreeError>
     ensures same { T.told tree.new ≡ T.told tree.old }
-    ensures stop { IfOk result (λ stop. ForSome (T.told tree.old) (λ told. GoesOn [] (walk (entry_at told) link_limit [] (components text.now)) nodes.new (walk_ended (end_of stop)))) }
+    ensures stop { IfOk result (λ it. ForSome (T.told tree.old) (λ told. GoesOn [] (walk (entry_at told) link_limit [] (components text.now)) it.1 (walk_ended (end_of it.0)))) }
     ensures cause { HasCause TreeError.Fault (T.faults tree.old) (T.faults tree.new) result }
     ensures never_large { IsErrOf result TreeError.Large → ⊥ }
     ensures no_read { T.reads tree.new ≡ T.reads tree.old }
 {
+    let mut nodes = List::new(alloc);
     let root = CanonPath::root_with_room(alloc, text.len())?;
-    let stop = walk_on(alloc, tree, root, LINK_LIMIT, Some(text), nodes)?;
-    let reached = reached_by(alloc, &stop, nodes.as_slice())?;
+    let stop = walk_on(alloc, tree, root, LINK_LIMIT, Some(text), &mut nodes)?;
+    let shared = SharedNodes::of(alloc, nodes)?;
+    let reached = reached_by(alloc, &stop, &shared)?;
     tree.remember(Bytes::copy_of(alloc, text)?, reached);
-    Ok(stop)
+    Ok((stop, shared))
 }
 
-// The nodes of a walk from the root, behind the directory that the text was asked from and the root.
-fn nodes_behind(
-    alloc: Global,
-    dir: &CanonPath,
-    nodes: &[CanonPath],
-) -> Result<List<CanonPath>, AllocError>
-    ensures { IfOk result (λ walked. walked ≡ (dir.now ∷ [] ∷ []) ++ nodes.now) }
+// The nodes in front of those of a walk from the root: the directory that the text was asked from, and the root.
+pub(crate) fn nodes_before(alloc: Global, dir: &CanonPath) -> Result<List<CanonPath>, AllocError>
+    ensures { IfOk result (λ nodes. nodes ≡ dir.now ∷ [] ∷ []) }
 {
-    let mut walked = List::new(alloc);
-    walked.push(dir.copy(alloc)?)?;
-    walked.push(CanonPath::root(alloc)?)?;
-    push_copies(alloc, &mut walked, nodes)?;
-    Ok(walked)
+    // and room for the file's
+    let mut nodes = List::of(Vec::with_capacity(alloc, 3)?);
+    nodes.push(dir.copy(alloc)?)?;
+    nodes.push(CanonPath::root(alloc)?)?;
+    Ok(nodes)
 }
 
 // The file of a last component below a text, which is walked from the root.
@@ -422,11 +406,11 @@ fn walk_below<T: Tree>(
     ensures never_large { IsErrOf result TreeError.Large → ⊥ }
     ensures no_read { T.reads tree.new ≡ T.reads tree.old }
 {
-    let mut nodes = List::new(alloc);
-    match walk_front(alloc, tree, text, &mut nodes)? {
+    let (stop, shared) = walk_front(alloc, tree, text)?;
+    match stop {
         Stop::Dir(last, links) => {
-            let walked = nodes_behind(alloc, dir, nodes.as_slice())?;
-            locate_last(alloc, tree, last, links, name, walked)
+            let before = nodes_before(alloc, dir)?;
+            locate_last(alloc, tree, last, links, name, before, shared)
         }
         _ => Ok(None),
     }
@@ -480,7 +464,9 @@ pub fn locate<T: Tree>(
     let mut walked = first_nodes(alloc, dir, text)?;
     let from = begin(alloc, dir, text)?;
     match walk_on(alloc, tree, from, LINK_LIMIT, head, &mut walked)? {
-        Stop::Dir(last, links) => locate_last(alloc, tree, last, links, name, walked),
+        Stop::Dir(last, links) => {
+            locate_last(alloc, tree, last, links, name, walked, SharedNodes::none())
+        }
         _ => Ok(None),
     }
 }

@@ -1,5 +1,6 @@
 -- The answers that a tree remembers of another tree within it.
-use Rattle.std.specs.Prelude.{◌≡◌, ◌⊎◌, ℕ, nat_eq, List, Option, None, Some, refl}
+use Rattle.std.specs.Prelude.{◌≡◌, ◌⊎◌, ℕ, nat_eq, cond, List, Option, None, Some, refl}
+use Rattle.std.specs.Hash.FoldHasher as folding
 use Rattle.std.specs.HashMap.{HashMap, get}
 use Rattle.std.specs.Coded.{Coded, Coded-set, code_by, coded⊎, coded×, coded_list, coded_option, coded_ℕ}
 use base.Stored.{coded_unit}
@@ -27,9 +28,18 @@ pub record IsTrueOf (told : Option FileTree) (known : RememberedNodes) : Type 0 
   pub form : (path : Path) (got : Option Node) → known path ≡ Some got → IsNode got
   pub same : (path : Path) (got : Option Node) → known path ≡ Some got → (tree : FileTree) → told ≡ Some tree → got ≡ node_at tree path
 
+-- a number of 64 bits that is made of a text's bytes
+unfoldable pub number_of : Text → ℕ
+number_of text = folding.finish (folding.write folding.initial text)
+
+-- what is kept, where it is of this text
+abbrev pub kept_of : Text → Option (Text × Reached) → Option Reached
+kept_of text None = None
+kept_of text (Some (known, it)) = cond (pointwise nat_eq known text) (Some it) None
+
 -- what is remembered of the walk of a text, where there is something
 abbrev pub walks_known : Walks → Text → Option Reached
-walks_known walks = get (pointwise nat_eq) walks.known
+walks_known walks text = kept_of text (get nat_eq walks.known (number_of text))
 
 -- where a tree is told, it is what the walk reaches
 pub record AreTrueWalks (told : Option FileTree) (known : Text → Option Reached) : Type 0 where

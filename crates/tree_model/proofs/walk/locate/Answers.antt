@@ -1,11 +1,11 @@
-use Rattle.std.proofs.Common.{rules, ◌≡◌, ◌∙◌, ◌<◌, ◌⊎◌, length, ap, sym, subst, inl, inr}
+use Rattle.std.proofs.Common.{rules, ◌≡◌, ◌∙◌, ◌<◌, ◌⊎◌, length, [], ◌∷◌, ap, sym, subst, inl, inr}
 use Rattle.std.specs.Option.{option_map}
 use Rattle.std.proofs.lemmas.Bool.{eqb-true, eqb-false}
 use Rattle.std.proofs.lemmas.Result.{IfOk-weaker}
 use Rattle.tree_model.specs.Trees.{entry_at}
-use Rattle.tree_model.specs.Walk.{components, last_of, first_nodes, walk, start, walk_ended}
+use Rattle.tree_model.specs.Walk.{components, last_of, first_nodes, walk, start, walk_ended, located_in}
 use Rattle.tree_model.specs.parts.Steps.{GoesOn, components_left, end_of}
-use Rattle.tree_model.proofs.StepLemmas.{if_each, refused, from_dir, from_elsewhere, below_whole, begun}
+use Rattle.tree_model.proofs.StepLemmas.{if_each, refused, from_dir, from_elsewhere, below_whole, begun, none_behind}
 use Rattle.tree_model.proofs.walk.locate.Goals as goal
 use Rattle.tree_model.proofs.walk.locate.Goals.{then-text-gt-PATH_LIMIT-via-then-text-gt-PATH_LIMIT, then-text-gt-PATH_LIMIT-via-else-text-gt-PATH_LIMIT+then-is_empty}
 
@@ -32,6 +32,8 @@ returns-in-Dir-clause-found g c =
     IfOk-weaker c.locate_last.result _ _
     (λ found h. if_each (g.T.Tree.told c.args.tree.now) _ (λ told is.
     h told (c.in_ok-last.ensures.same ∙ is)
+    ∙ ap (λ before. located_in c.in-Dir.last c.cut_last.result.1.now before (walk (entry_at told) c.in-Dir.links c.in-Dir.last (c.cut_last.result.1.now ∷ [])))
+    (none_behind c.walk_on.new.walked c.none.result c.none.ensures)
     ∙ from_dir (entry_at told) c.args.dir.now c.args.text.now head c.cut_last.result.1.now c.walk_on.new.walked c.in-Dir.last c.in-Dir.links
     c.if-text-gt-PATH_LIMIT.false
     (λ z. eqb-false (length c.cut_last.result.1.now) 0 (sym c.if-is_empty.ensures) (ap length c.cut_last.ensures.name ∙ z))

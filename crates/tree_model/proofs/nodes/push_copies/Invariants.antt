@@ -1,5 +1,5 @@
 use Rattle.std.proofs.Common.{◌≡◌, ◌++◌, take}
-use Rattle.tree_model.proofs.walk.push_copies.Given as goal
+use Rattle.tree_model.proofs.nodes.push_copies.Given as goal
 
 abbrev pub invariant-loop-path : goal.invariant-loop-path
 invariant-loop-path l = l.paths ≡ l.initial.paths ++ take l.path-index l.more
