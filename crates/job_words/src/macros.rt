@@ -12,8 +12,8 @@ ghost use Rattle.pp_tokens.specs.Grammar.{kind_of};
 ghost use Rattle.pp_tokens.specs.Tokens.{rest_of};
 
 use crate::{MacroWord, WordError};
-use base_types::{Bytes, List};
-use macro_defs::{DefineError, Definition, Shape, names_macro, read_define};
+use base_types::Bytes;
+use macro_defs::{DefineError, Definition, names_macro, read_define};
 use pp_tokens::{Kind, Lexed, Token, TokenRef, Tokens, lex_body, single_token};
 use std::alloc::{AllocError, Global};
 
@@ -109,9 +109,7 @@ fn word_macro(alloc: Global, kind: Kind, value: &[u8]) -> Result<Definition, All
         kind,
         space: true,
     };
-    let mut body = Vec::with_capacity(alloc, 1)?;
-    body.push(token)?;
-    Definition::new(alloc, Shape::Object, List::of(body))
+    Ok(Definition::of_token(token))
 }
 
 // What `-D` defines, as what stands behind `#define`.

@@ -1,8 +1,8 @@
 -- The numbers of the parameters that tokens name.
-use Rattle.std.proofs.Common.{◌≡◌, ℕ, zero, suc, ◌+◌, ◌<◌, Bool, true, false, cond, if◌then◌else◌, List, [], ◌∷◌, ◌++◌, map, take, length, drop, get_or, slice_get, position, Option, None, Some, bytes_eq, refl, sym, ap, ◌∙◌, subst, arith}
+use Rattle.std.proofs.Common.{◌≡◌, ℕ, zero, suc, ◌+◌, ◌<◌, Bool, true, false, ◌||◌, cond, if◌then◌else◌, List, [], ◌∷◌, ◌++◌, map, take, length, drop, get_or, slice_get, position, Option, None, Some, bytes_eq, refl, sym, ap, ◌∙◌, arith}
 use Rattle.std.specs.Prelude.{Vec, Result, Ok, Err, IfOk}
 use Rattle.std.specs.Borrow.{Bor}
-use Rattle.std.specs.List.{position_from}
+use Rattle.std.specs.List.{position_from, list_any}
 use Rattle.std.specs.Option.{option_and_then, option_flatten}
 use Rattle.std.proofs.lemmas.List.{map-append, take_more}
 use Rattle.std.proofs.lemmas.Cmp.{nat_list_eq_equiv}
@@ -11,7 +11,8 @@ use Rattle.indexmap.specs.IndexMap.{IndexMap}
 use Rattle.pp_tokens.specs.declared.Token.{Token}
 use Rattle.pp_tokens.specs.Marks.{is_identifier}
 use Rattle.macro_defs.specs.declared.definition.Shape.{Shape}
-use Rattle.macro_defs.specs.MacroDefinition.{MacroDefinition, without_line}
+use Rattle.macro_defs.specs.declared.definition.Shape.TheVariants.{Object, Function}
+use Rattle.macro_defs.specs.MacroDefinition.{MacroDefinition, without_line, has_operators, is_operator}
 use Rattle.macro_defs.specs.Arguments.{argument_named, parameters_in, parameter_at}
 use Rattle.macro_defs.specs.Defining.{definition_from}
 use Rattle.macro_defs.specs.parts.Stored.{number_for_name, number_named, numbers_kept}
@@ -83,3 +84,16 @@ module _ (shape : Shape) (body : List Token) (named : List (Option ℕ)) (d : Ma
     (view : definition_from shape body ≡ d) (kept : named ≡ numbers_kept (parameters_in shape) body) where
   pub kept_here : option_flatten (slice_get named place) ≡ parameter_at d place
   kept_here = ap (λ ns. option_flatten (slice_get ns place)) kept ∙ kept_at (parameters_in shape) body place ∙ ap (λ e. parameter_at e place) view
+
+-- the lines of tokens don't tell whether one is a `#` or a `##`
+operator_unlined : (body : List Token) → list_any is_operator body ≡ list_any is_operator (map without_line body)
+operator_unlined [] = refl
+operator_unlined (t ∷ body) = ap (λ b. is_operator t || b) (operator_unlined body)
+
+operators_unlined : (shape : Shape) (body : List Token) → has_operators shape body ≡ has_operators shape (map without_line body)
+operators_unlined Object body = refl
+operators_unlined (Function params variadic) body = operator_unlined body
+
+pub operators_here : (shape : Shape) (body : List Token) (operators : Bool) (d : MacroDefinition) → definition_from shape body ≡ d
+    → operators ≡ has_operators shape body → operators ≡ has_operators d.shape d.body
+operators_here shape body operators d is kept = kept ∙ operators_unlined shape body ∙ ap (λ d. has_operators d.shape d.body) is

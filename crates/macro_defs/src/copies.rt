@@ -43,7 +43,8 @@ pub(crate) fn copy_tokens(alloc: Global, tokens: &[Token]) -> Result<List<Token>
     Ok(List::of(copies))
 }
 
-fn copy_token(alloc: Global, token: &Token) -> Result<Token, AllocError>
+// A copy of a token.
+pub(crate) fn copy_token(alloc: Global, token: &Token) -> Result<Token, AllocError>
     ensures { IfOk result (λ copy. copy ≡ token.now) }
 {
     let text = Bytes::copy_of(alloc, token.text.as_slice())?;

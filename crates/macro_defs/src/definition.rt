@@ -2,12 +2,13 @@
 ghost use Rattle.std.specs.Prelude.{◌≡◌, IfOk, slice_get};
 ghost use Rattle.std.specs.Option.{option_flatten};
 ghost use Rattle.macro_defs.specs.Arguments.{parameters_in};
-ghost use Rattle.macro_defs.specs.MacroDefinition.{shape_lent};
-ghost use Rattle.macro_defs.specs.parts.Kept.{shape_kept, numbers_of};
+ghost use Rattle.macro_defs.specs.MacroDefinition.{shape_lent, has_operators};
+ghost use Rattle.macro_defs.specs.parts.Kept.{shape_kept, numbers_of, operators_of};
 ghost use Rattle.macro_defs.specs.parts.Stored.{numbers_kept};
 
 use crate::body::Body;
 use crate::copies::{copy_numbers, copy_shape};
+use crate::marks::has_operator;
 use crate::numbers::numbers_in;
 use crate::run::Run;
 use crate::sameness::{same_params, same_tokens};
@@ -41,28 +42,31 @@ pub(crate) struct Function {
     shape: Shape,
     // for each token of the body the number of the parameter that it names; empty where there are no parameters
     named: Vec<Option<u32>>,
+    // whether a token of the body is a `#` or a `##`
+    operators: bool,
 }
 
 impl Model for Definition {
     ghost use Rattle.std.specs.Prelude.{◌≡◌, map};
-    ghost use Rattle.macro_defs.specs.MacroDefinition.{MacroDefinition, without_line};
+    ghost use Rattle.macro_defs.specs.MacroDefinition.{MacroDefinition, without_line, has_operators};
     ghost use Rattle.macro_defs.specs.Arguments.{parameters_in};
     ghost use Rattle.macro_defs.specs.parts.Stored.{numbers_kept};
-    ghost use Rattle.macro_defs.specs.parts.Kept.{body_tokens, shape_kept, numbers_of, MayShare};
+    ghost use Rattle.macro_defs.specs.parts.Kept.{body_tokens, shape_kept, numbers_of, operators_of, MayShare};
 
     ghost Value = { MacroDefinition };
 
     ghost view = { λ d. record { shape = shape_kept d.function; body = map without_line (body_tokens d.body) } };
 
-    ghost invariant = { λ d. (numbers_of d.function ≡ numbers_kept (parameters_in (shape_kept d.function)) (body_tokens d.body)) × MayShare (shape_kept d.function) d.body };
+    ghost invariant = { λ d. (numbers_of d.function ≡ numbers_kept (parameters_in (shape_kept d.function)) (body_tokens d.body))
+        × ((operators_of d.function ≡ has_operators (shape_kept d.function) (body_tokens d.body)) × MayShare (shape_kept d.function) d.body) };
 }
 
 impl Definition {
-    ghost use Rattle.std.specs.Prelude.{◌≡◌, ◌-◌, map, take, drop, IfOk};
+    ghost use Rattle.std.specs.Prelude.{◌≡◌, ◌-◌, ◌∷◌, [], map, take, drop, IfOk};
     ghost use Rattle.std.specs.Arc.{arc_value};
     ghost use Rattle.pp_tokens.specs.Lines.{all_tokens};
     ghost use Rattle.macro_defs.specs.Defining.{definition_from};
-    ghost use Rattle.macro_defs.specs.MacroDefinition.{without_line, shape_lent};
+    ghost use Rattle.macro_defs.specs.MacroDefinition.{without_line, has_operators, shape_lent};
     ghost use Rattle.macro_defs.specs.Arguments.{parameter_at};
     ghost use Rattle.macro_defs.specs.Runs.{run_tokens};
     ghost use Rattle.macro_defs.specs.declared.definition.Shape.TheVariants.{Object};
@@ -81,6 +85,17 @@ impl Definition {
             body: Body::Listed(body),
             function,
         })
+    }
+
+    /// The definition of an object-like macro with one token in its replacement list. It takes no memory but the token's.
+    #[inline(always)]
+    pub fn of_token(token: Token) -> Definition
+        ensures { result ≡ definition_from Object (token ∷ []) }
+    {
+        Definition {
+            body: Body::One(token),
+            function: None,
+        }
     }
 
     // An object-like macro, whose replacement list is the tokens of a file from one number up to another.
@@ -132,12 +147,25 @@ impl Definition {
     /// The number, from 0, of the parameter that the token at a place of the replacement list names: the first one whose name
     /// is the token's spelling (ISO C 6.10.3.1 paragraph 1). None where the token names none, past the last token, and for an
     /// object-like macro. It takes constant time.
+    #[inline(always)]
     pub fn parameter_at(&self, place: usize) -> Option<usize>
         ensures { result ≡ parameter_at self.now place }
     {
         match &self.function {
             Some(function) => number_at(&function.named, place),
             None => None,
+        }
+    }
+
+    /// Whether the replacement list of a function-like macro has a `#` or a `##` (ISO C 6.10.3.2, 6.10.3.3). Of an object-like macro it
+    /// isn't told. It takes constant time.
+    #[inline(always)]
+    pub fn has_operators(&self) -> bool
+        ensures { result ≡ has_operators self.now.shape self.now.body }
+    {
+        match &self.function {
+            Some(function) => function.operators,
+            None => false,
         }
     }
 }
@@ -154,6 +182,7 @@ fn lent(shape: &Shape) -> Option<(&[Bytes], bool)>
 }
 
 // The number at a place, where one is.
+#[inline(always)]
 fn number_at(numbers: &[Option<u32>], place: usize) -> Option<usize>
     ensures { result ≡ option_flatten (slice_get numbers.now place) }
 {
@@ -174,12 +203,18 @@ fn function_of(
 ) -> Result<Option<Box<Function>>, AllocError>
     ensures shape { IfOk result (λ function. shape_kept function ≡ shape) }
     ensures numbers { IfOk result (λ function. numbers_of function ≡ numbers_kept (parameters_in shape) body.now) }
+    ensures operators { IfOk result (λ function. operators_of function ≡ has_operators shape body.now) }
 {
     match shape {
         Shape::Object => Ok(None),
         Shape::Function { .. } => {
             let named = numbers_in(alloc, &shape, body)?;
-            Ok(Some(Box::new(alloc, Function { shape, named })?))
+            let function = Function {
+                shape,
+                named,
+                operators: has_operator(body),
+            };
+            Ok(Some(Box::new(alloc, function)?))
         }
     }
 }
@@ -190,13 +225,19 @@ fn copy_function(
 ) -> Result<Option<Box<Function>>, AllocError>
     ensures shape { IfOk result (λ copy. shape_kept copy ≡ shape_kept function.now) }
     ensures numbers { IfOk result (λ copy. numbers_of copy ≡ numbers_of function.now) }
+    ensures operators { IfOk result (λ copy. operators_of copy ≡ operators_of function.now) }
 {
     let Some(function) = function else {
         return Ok(None);
     };
     let shape = copy_shape(alloc, &function.shape)?;
     let named = copy_numbers(alloc, function.named.as_slice())?;
-    Ok(Some(Box::new(alloc, Function { shape, named })?))
+    let copy = Function {
+        shape,
+        named,
+        operators: function.operators,
+    };
+    Ok(Some(Box::new(alloc, copy)?))
 }
 
 // Equal exactly where contracts see the same definition, which doesn't tell the lines of its tokens.

@@ -5,6 +5,7 @@ ghost use Rattle.pp_tokens.specs.Marks as spec;
 ghost use Rattle.pp_tokens.specs.Marks.{is_open, is_mark};
 ghost use Rattle.pp_tokens.specs.Tokens.{token_seen, rest_of};
 ghost use Rattle.macro_defs.specs.Defining.{IsParted};
+ghost use Rattle.macro_defs.specs.MacroDefinition.{is_operator};
 
 use pp_tokens::{Token, TokenRef, Tokens};
 
@@ -41,6 +42,18 @@ pub(crate) fn has_pasting(tokens: Tokens<'_>) -> bool
 {
     for token in tokens {
         if is_pasting(&token) {
+            return true;
+        }
+    }
+    false
+}
+
+// Whether there is a `#` or a `##` among the tokens (ISO C 6.10.3.2, 6.10.3.3).
+pub(crate) fn has_operator(tokens: &[Token]) -> bool
+    ensures { result ≡ list_any is_operator tokens.now }
+{
+    for token in tokens {
+        if token.is_hash() || token.is_pasting() {
             return true;
         }
     }

@@ -15,6 +15,7 @@ pub mod OperandLaws
 pub mod CallLaws
 pub mod TrieLaws
 pub mod PartLemmas
+pub mod TokenPartLemmas
 pub mod StringLemmas
 pub mod PlacingLemmas
 pub mod PieceLemmas

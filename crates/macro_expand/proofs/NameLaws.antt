@@ -15,7 +15,8 @@ use Rattle.macro_expand.specs.Asking.{Failure, Count, Unclosed, Deep}
 use Rattle.macro_expand.specs.Replacement.{Marked, after_open, BodyPart, body_parts, stands_alone}
 use Rattle.macro_expand.specs.Expansion.{Expanded, ExpandedEach, head_role, object_replacement, variable_of, call_replacement}
 use Rattle.macro_expand.specs.Answered.{Answerer, ByFailure, Answered, after_result, answered_and_then, before, expanded_for, charged_for, argument_for, arguments_for}
-use Rattle.macro_expand.specs.Seen.{marked_of, lists_of, parts_seen, Reports, Stops, ReadsCall, RefusesCall, KeepsWritten, call_replaced_by}
+use Rattle.macro_expand.specs.Seen.{marked_of, lists_of, Reports, Stops, ReadsCall, RefusesCall, KeepsWritten, call_replaced_by}
+use Rattle.macro_expand.specs.parts.Parts.{parts_told}
 use Rattle.macro_expand.specs.parts.Naming.{StandAlone, called_for}
 use Rattle.macro_expand.specs.parts.Steps.{EachStaysFor}
 use Rattle.base_types.specs.Limits.{argument_depth_limit}
@@ -74,9 +75,9 @@ module _ {S : Type 0} (w : Answerer S) (s u : S) (mode : Mode) (depth units : �
         -- the call that was read, with what is kept of its arguments as written
         pub head_called : (written : List (List Marked)) (close : Kept) (after : List Marked) →
             ReadsCall (length params) variadic within written (marked_of close) after →
-            (call : MacroCall) (given : List (List Marked)) → given ≡ written → parts_seen call.parts.items ≡ body_parts params d.body →
+            (call : MacroCall) (given : List (List Marked)) → given ≡ written → parts_told call.parts ≡ body_parts params d.body →
             call.variable ≡ variable_of params variadic → call.read.close ≡ close →
-            KeepsWritten (parts_seen call.parts.items) written (lists_of call.read.written.items) →
+            KeepsWritten (parts_told call.parts) written (lists_of call.read.written.items) →
             Head ≡ called_for w u mode depth units t call given after
         unfolding call_replacement called_for
         head_called written close after reads call given same seen which closes keeps =
@@ -84,11 +85,11 @@ module _ {S : Type 0} (w : Answerer S) (s u : S) (mode : Mode) (depth units : �
             within opened (record { within = reads.within; close = marked_of close; after = after }) reads.read written reads.counted
             ∙ ap (λ (ps : List BodyPart). answered_and_then (arguments_for w u mode depth t.token ps 0 units written) (λ e v.
             charged_for w v mode depth e.units (call_replaced_by t ps (variable_of params variadic) written (marked_of close) e.lists) after)) (sym seen)
-            ∙ ap (λ (o : Option ℕ). answered_and_then (arguments_for w u mode depth t.token (parts_seen call.parts.items) 0 units written) (λ e v.
-            charged_for w v mode depth e.units (call_replaced_by t (parts_seen call.parts.items) o written (marked_of close) e.lists) after)) (sym which)
-            ∙ ap (answered_and_then (arguments_for w u mode depth t.token (parts_seen call.parts.items) 0 units written))
+            ∙ ap (λ (o : Option ℕ). answered_and_then (arguments_for w u mode depth t.token (parts_told call.parts) 0 units written) (λ e v.
+            charged_for w v mode depth e.units (call_replaced_by t (parts_told call.parts) o written (marked_of close) e.lists) after)) (sym which)
+            ∙ ap (answered_and_then (arguments_for w u mode depth t.token (parts_told call.parts) 0 units written))
             (fun_ext (λ e. fun_ext (λ v. ap (λ r. charged_for w v mode depth e.units r after)
-            (sym (written_is t (parts_seen call.parts.items) call.variable written (lists_of call.read.written.items) e.lists close call.read.close keeps closes)))))
+            (sym (written_is t (parts_told call.parts) call.variable written (lists_of call.read.written.items) e.lists close call.read.close keeps closes)))))
             ∙ ap (λ (q : List (List Marked)). called_for w u mode depth units t call q after) (sym same)
 
 -- the same lists of tokens are as many
@@ -101,33 +102,33 @@ stand_alone-same alone a b parts same stand =
 -- A call whose arguments are expanded.
 module _ {S : Type 0} (w : Answerer S) (s v : S) (mode : Mode) (depth units : ℕ) (t : Kept) (call : MacroCall) (given : List (List Marked)) where
   module _ (rest : List Marked) where
-    pub argument_stops : (e : RunError) → Stops e v (arguments_for w s mode depth t.token (parts_seen call.parts.items) 0 units given) →
+    pub argument_stops : (e : RunError) → Stops e v (arguments_for w s mode depth t.token (parts_told call.parts) 0 units given) →
         Stops e v (called_for w s mode depth units t call given rest)
     unfolding called_for answered_and_then after_result
     argument_stops e stops =
-        Stops-same e v _ _ (λ f failed. ap (λ r. answered_and_then r (λ e u. charged_for w u mode depth e.units (call_replaced_by t (parts_seen call.parts.items)
+        Stops-same e v _ _ (λ f failed. ap (λ r. answered_and_then r (λ e u. charged_for w u mode depth e.units (call_replaced_by t (parts_told call.parts)
         call.variable (lists_of call.read.written.items) (marked_of call.read.close) e.lists) rest)) failed) stops
 
     module _ (lists : List (List Marked)) (left : ℕ)
-        (expanded : arguments_for w s mode depth t.token (parts_seen call.parts.items) 0 units given
+        (expanded : arguments_for w s mode depth t.token (parts_told call.parts) 0 units given
         ≡ record { result = Ok (record { lists = lists; units = left }); state = v }) where
       Replaced : Result (List Marked) Failure
-      Replaced = call_replaced_by t (parts_seen call.parts.items) call.variable (lists_of call.read.written.items) (marked_of call.read.close) lists
+      Replaced = call_replaced_by t (parts_told call.parts) call.variable (lists_of call.read.written.items) (marked_of call.read.close) lists
 
       called_is : called_for w s mode depth units t call given rest ≡ charged_for w v mode depth left Replaced rest
       unfolding called_for answered_and_then after_result Replaced
       called_is =
-          ap (λ r. answered_and_then r (λ e u. charged_for w u mode depth e.units (call_replaced_by t (parts_seen call.parts.items)
+          ap (λ r. answered_and_then r (λ e u. charged_for w u mode depth e.units (call_replaced_by t (parts_told call.parts)
           call.variable (lists_of call.read.written.items) (marked_of call.read.close) e.lists) rest)) expanded
 
       pub call_replaced : (made : List Kept) →
-          call_replaced_by t (parts_seen call.parts.items) call.variable (lists_of call.read.written.items) (marked_of call.read.close) lists ≡ Ok (map marked_of made) →
+          call_replaced_by t (parts_told call.parts) call.variable (lists_of call.read.written.items) (marked_of call.read.close) lists ≡ Ok (map marked_of made) →
           called_for w s mode depth units t call given rest ≡ charged_for w v mode depth left (Ok (map marked_of made)) rest
       unfolding Replaced
       call_replaced made is = called_is ∙ ap (λ r. charged_for w v mode depth left r rest) is
 
       pub paste_stops : (e : RunError) →
-          Reports e (call_replaced_by t (parts_seen call.parts.items) call.variable (lists_of call.read.written.items) (marked_of call.read.close) lists) →
+          Reports e (call_replaced_by t (parts_told call.parts) call.variable (lists_of call.read.written.items) (marked_of call.read.close) lists) →
           Stops e v (called_for w s mode depth units t call given rest)
       unfolding Replaced
       paste_stops e reports =

@@ -164,7 +164,7 @@ abbrev pub part_before : Bool → Option BodyPart
 part_before joined = if joined then Some Join else None
 
 -- only whether a `##` stands before counts
-alone-before : (i : ℕ) (p : BodyPart) (joined : Bool) (ps : List BodyPart) → joined ≡ is_join (Some p) → stands_alone i (part_before joined) ps ≡ stands_alone i (Some p) ps
+pub alone-before : (i : ℕ) (p : BodyPart) (joined : Bool) (ps : List BodyPart) → joined ≡ is_join (Some p) → stands_alone i (part_before joined) ps ≡ stands_alone i (Some p) ps
 unfolding stands_alone
 alone-before i p joined [] e = refl
 alone-before i p joined (q ∷ ps) e = ap (λ b. b || stands_alone i (Some q) ps) (same q p joined ps e)
@@ -178,7 +178,7 @@ alone-before i p joined (q ∷ ps) e = ap (λ b. b || stands_alone i (Some q) ps
     same (Spelling j space) p joined ps e = refl
     same Join p joined ps e = refl
 
-or_both : (a b c : Bool) → ((a || b) || c) ≡ (a || (b || c))
+pub or_both : (a b c : Bool) → ((a || b) || c) ≡ (a || (b || c))
 or_both true b c = refl
 or_both false b c = refl
 

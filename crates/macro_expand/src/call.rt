@@ -4,14 +4,14 @@ ghost use Rattle.macro_expand.specs.Replacement.{Marked as MarkedToken};
 ghost use Rattle.macro_expand.specs.parts.Reading as reading;
 ghost use Rattle.macro_expand.specs.parts.Reading.{CutsCall, arguments_cut, call_mark, cut_from, cuts_for, ends_call, is_cut, nesting_after, read_arguments};
 ghost use Rattle.std.specs.List.{list_any};
-ghost use Rattle.macro_expand.specs.parts.Parts.{takes_written};
+ghost use Rattle.macro_expand.specs.parts.Parts.{takes_written, parts_told};
 ghost use Rattle.macro_expand.specs.Seen.{marked_of, lists_of, part_seen, parts_seen, ReadsCall, RefusesCall, KeepsWritten};
 ghost use Rattle.macro_expand.specs.parts.Stamps.{Stamps, Stamped, AllStamped, EachStamped, CutStamped, CallStamped};
 
 use crate::marked::Marked;
 use crate::outcome::RunError;
 use crate::pending::Pending;
-use crate::replace::Part;
+use crate::replace::{Part, Parts};
 use base_types::Bytes;
 use pp_tokens::{Kind, TokenCow};
 use std::alloc::{AllocError, Global};
@@ -73,7 +73,7 @@ fn takes_written(p: &Part) -> bool
     matches!(p, Part::Spelling(_, _) | Part::Join)
 }
 
-fn take_written(parts: &[Part]) -> bool
+pub(crate) fn take_written(parts: &[Part]) -> bool
     ensures { result ≡ list_any takes_written (parts_seen parts.now) }
 {
     for p in parts {
@@ -112,16 +112,16 @@ fn each_copied<'a>(
 // there is no `#` and no `##`, so that they are moved.
 pub(crate) fn with_kept<'a>(
     alloc: Global,
-    parts: &[Part],
+    parts: &Parts,
     call: ReadCall<'a>,
 ) -> Result<(Vec<Vec<Marked<'a>>>, ReadCall<'a>), AllocError>
     ensures written { IfOk result (λ r. lists_of r.0.items ≡ lists_of call.entry.written.items) }
     ensures stamped { (sets : Stamps) (next : ℕ) → EachStamped sets next call.entry.written.items → IfOk result (λ r. EachStamped sets next r.0.items) }
     ensures close { IfOk result (λ r. r.1.close ≡ call.entry.close) }
-    ensures kept { IfOk result (λ r. KeepsWritten (parts_seen parts.now) (lists_of call.entry.written.items) (lists_of r.1.written.items)) }
+    ensures kept { IfOk result (λ r. KeepsWritten (parts_told parts.now) (lists_of call.entry.written.items) (lists_of r.1.written.items)) }
 {
     let ReadCall { written, close } = call;
-    let kept = if take_written(parts) {
+    let kept = if parts.take_written() {
         each_copied(alloc, written.as_slice())?
     } else {
         Vec::new(alloc)

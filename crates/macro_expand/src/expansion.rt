@@ -14,7 +14,8 @@ ghost use Rattle.base_types.specs.Limits.{argument_depth_limit};
 ghost use Rattle.macro_expand.specs.parts.Naming.{StandAlone, called_for};
 ghost use Rattle.macro_expand.specs.parts.Steps.{StaysFor, EachStaysFor};
 ghost use Rattle.macro_expand.specs.parts.Stamps.{Stamps, Stamped, AllStamped, EachStamped, KeepsStamps, StampsAfter, ArePutIn, stamp_of};
-ghost use Rattle.macro_expand.specs.Seen.{marked_of, kept_token, parts_seen, lists_of, StepKeepsResult, Stops, public_of, HasTokens};
+ghost use Rattle.macro_expand.specs.Seen.{marked_of, kept_token, lists_of, StepKeepsResult, Stops, public_of, HasTokens};
+ghost use Rattle.macro_expand.specs.parts.Parts.{parts_told};
 
 use crate::answers::Answers;
 use crate::builtin::{expand_file_name, expand_line_number};
@@ -173,16 +174,16 @@ fn expand_arguments<'s, S, A: Answers<S>>(
 ) -> Result<Vec<Vec<Marked<'s>>>, RunError>
     requires stamped { (sets : Stamps) × EachStamped sets stamps.old written.items }
     requires shallow { depth ≤ argument_depth_limit }
-    requires alone { StandAlone call.now.alone.items (length written.items) (parts_seen call.now.parts.items) }
+    requires alone { StandAlone call.now.alone.items (length written.items) (parts_told call.now.parts) }
     ensures ok { IfOk result (λ out. arguments_for (A.answerer source.now) answers.old mode depth t.now.token
-        (parts_seen call.now.parts.items) 0 work.old.left (lists_of written.entry.items)
+        (parts_told call.now.parts) 0 work.old.left (lists_of written.entry.items)
         ≡ record { result = Ok (record { lists = lists_of out.items; units = work.new.left }); state = answers.new }) }
     ensures spends { work.new.left ≤ work.old.left }
     ensures stamps { stamps.old ≤ stamps.new }
     ensures stamped { (sets : Stamps) → EachStamped sets stamps.old written.entry.items
         → IfOk result (λ out. (after : Stamps) × (KeepsStamps sets stamps.old after × EachStamped after stamps.new out.items)) }
     ensures err { IfErr result (λ e. Stops e answers.new (arguments_for (A.answerer source.now) answers.old mode depth t.now.token
-        (parts_seen call.now.parts.items) 0 work.old.left (lists_of written.entry.items))) }
+        (parts_told call.now.parts) 0 work.old.left (lists_of written.entry.items))) }
 {
     let mut out = Vec::with_capacity(alloc, written.len())?;
     let mut left = VecDeque::from_vec(written);
@@ -253,7 +254,7 @@ fn expand_call<'s, S, A: Answers<S>>(
 ) -> Result<(), RunError>
     requires stamped { (sets : Stamps) × (Stamped sets stamps.old t.now × (EachStamped sets stamps.old written.items × Stamped sets stamps.old call.now.read.close)) }
     requires shallow { depth ≤ argument_depth_limit }
-    requires alone { StandAlone call.now.alone.items (length written.items) (parts_seen call.now.parts.items) }
+    requires alone { StandAlone call.now.alone.items (length written.items) (parts_told call.now.parts) }
     ensures stamps { stamps.old ≤ stamps.new }
     ensures stamped { (sets : Stamps) → Stamped sets stamps.old t.now → EachStamped sets stamps.old written.entry.items → Stamped sets stamps.old call.now.read.close
         → AllStamped sets stamps.old pending.old → OnOk result ((after : Stamps) × (KeepsStamps sets stamps.old after × AllStamped after stamps.new pending.new)) }
@@ -267,11 +268,10 @@ fn expand_call<'s, S, A: Answers<S>>(
     let expanded = expand_arguments(
         alloc, source, answers, mode, depth, t, call, written, stamps, work,
     )?;
-    let parts = call.parts.as_slice();
     let made = call_tokens(
         alloc,
         t,
-        parts,
+        &call.parts,
         call.variable,
         &call.read,
         expanded.as_slice(),

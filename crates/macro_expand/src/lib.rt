@@ -20,6 +20,7 @@ mod replace;
 mod run;
 mod stream;
 mod stringize;
+mod token_parts;
 
 pub use answers::{Answers, Presumed, TablePlace};
 pub use expansion::expand_for;

@@ -4,7 +4,8 @@ ghost use Rattle.macro_defs.specs.declared.definition.Shape.TheVariants.{Object}
 ghost use Rattle.macro_defs.specs.Arguments.{parameters_in};
 ghost use Rattle.macro_expand.specs.Replacement.{body_parts};
 ghost use Rattle.macro_expand.specs.Expansion.{variable_of};
-ghost use Rattle.macro_expand.specs.Seen.{lists_of, parts_seen, KeepsWritten};
+ghost use Rattle.macro_expand.specs.Seen.{lists_of, KeepsWritten};
+ghost use Rattle.macro_expand.specs.parts.Parts.{parts_told};
 ghost use Rattle.macro_expand.specs.parts.Naming.{StandAlone, ReadsName, KnowsAlone, NameStops};
 ghost use Rattle.macro_expand.specs.parts.Stamps.{Stamps, AllStamped, EachStamped, NameStamped};
 
@@ -13,7 +14,7 @@ use crate::call::{ReadCall, read_call, with_kept};
 use crate::marked::Marked;
 use crate::outcome::RunError;
 use crate::pending::Pending;
-use crate::replace::{Part, object_tokens, read_parts, standing_alone, variable_number};
+use crate::replace::{Parts, object_tokens, variable_number};
 use base_types::Bytes;
 use macro_defs::Definition;
 use std::alloc::{AllocError, Global};
@@ -22,7 +23,7 @@ use std::alloc::{AllocError, Global};
 // stand alone in it, the number of the variable one, and what was written.
 #[derive(Drop)]
 pub(crate) struct MacroCall<'d> {
-    pub(crate) parts: Vec<Part<'d>>,
+    pub(crate) parts: Parts<'d>,
     pub(crate) alone: Vec<bool>,
     pub(crate) variable: Option<usize>,
     pub(crate) read: ReadCall<'d>,
@@ -50,15 +51,15 @@ fn macro_call<'d>(
     requires { d.now.shape ≡ Object → ⊥ }
     ensures written { IfOk result (λ r. lists_of r.0.items ≡ lists_of read.entry.written.items) }
     ensures stamped { (sets : Stamps) (next : ℕ) → EachStamped sets next read.entry.written.items → IfOk result (λ r. EachStamped sets next r.0.items) }
-    ensures parts { IfOk result (λ r. parts_seen r.1.parts.items ≡ body_parts (parameters_in d.now.shape) d.now.body) }
-    ensures alone { IfOk result (λ r. StandAlone r.1.alone.items (length read.entry.written.items) (parts_seen r.1.parts.items)) }
+    ensures parts { IfOk result (λ r. parts_told r.1.parts ≡ body_parts (parameters_in d.now.shape) d.now.body) }
+    ensures alone { IfOk result (λ r. StandAlone r.1.alone.items (length read.entry.written.items) (parts_told r.1.parts)) }
     ensures variable { IfOk result (λ r. r.1.variable ≡ variable_of params.now variadic) }
     ensures close { IfOk result (λ r. r.1.read.close ≡ read.entry.close) }
-    ensures kept { IfOk result (λ r. KeepsWritten (parts_seen r.1.parts.items) (lists_of read.entry.written.items) (lists_of r.1.read.written.items)) }
+    ensures kept { IfOk result (λ r. KeepsWritten (parts_told r.1.parts) (lists_of read.entry.written.items) (lists_of r.1.read.written.items)) }
 {
-    let parts = read_parts(alloc, d)?;
-    let alone = standing_alone(alloc, parts.as_slice(), read.written.len())?;
-    let (written, read) = with_kept(alloc, parts.as_slice(), read)?;
+    let parts = Parts::of(alloc, d)?;
+    let alone = parts.standing_alone(alloc, read.written.len())?;
+    let (written, read) = with_kept(alloc, &parts, read)?;
     let variable = variable_number(params, variadic);
     Ok((
         written,

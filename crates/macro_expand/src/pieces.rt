@@ -26,7 +26,7 @@ pub(crate) struct Arguments<'a, 't> {
 }
 
 // The tokens of the argument of a number.
-fn argument_at<'a, 't>(arguments: &'a [Vec<Marked<'t>>], i: usize) -> &'a [Marked<'t>]
+pub(crate) fn argument_at<'a, 't>(arguments: &'a [Vec<Marked<'t>>], i: usize) -> &'a [Marked<'t>]
     ensures tokens { map marked_of result.now ≡ argument_at i (lists_of arguments.now) }
     ensures alike { (t : Kept) → EachAlike t arguments.now → AllAlike t result.now }
 {
@@ -90,7 +90,7 @@ fn drops_comma(arguments: &Arguments, t: &Token, rest: &[Part]) -> bool
 }
 
 // A token of a replacement list, with no hidden name.
-fn plain(t: &Token) -> Marked<'_>
+pub(crate) fn plain(t: &Token) -> Marked<'_>
     ensures unmarked { marked_of result ≡ unmarked (without_line t.now) }
     ensures unstamped { result.stamp ≡ 0 }
 {
@@ -121,7 +121,7 @@ fn put<'t>(out: &mut Vec<Piece<'t>>, p: Piece<'t>) -> Result<(), AllocError>
 
 // Puts in a token, as it is.
 #[inline(always)]
-fn put_marked<'t>(out: &mut Vec<Marked<'t>>, m: Marked<'t>) -> Result<(), AllocError>
+pub(crate) fn put_marked<'t>(out: &mut Vec<Marked<'t>>, m: Marked<'t>) -> Result<(), AllocError>
     ensures put { OnOk result (map marked_of out.new.items ≡ map marked_of out.old.items ++ marked_of m.entry ∷ []) }
     ensures alike { (t : Kept) → AllAlike t out.old.items → Alike t m.entry → OnOk result (AllAlike t out.new.items) }
 {
@@ -130,7 +130,7 @@ fn put_marked<'t>(out: &mut Vec<Marked<'t>>, m: Marked<'t>) -> Result<(), AllocE
 }
 
 // Puts in copies of the tokens of an argument, the first with the parameter's space.
-fn put_copies<'t>(
+pub(crate) fn put_copies<'t>(
     out: &mut Vec<Marked<'t>>,
     space: bool,
     tokens: &[Marked<'t>],

@@ -5,7 +5,7 @@ ghost use Rattle.macro_defs.specs.declared.definition.Shape.TheVariants.{Object}
 ghost use Rattle.macro_defs.specs.Arguments.{parameters_in};
 ghost use Rattle.pp_tokens.specs.Marks.{is_pasting};
 ghost use Rattle.macro_expand.specs.Replacement.{parts_after, body_parts, one_joins, stands_alone, object_parts, is_join, first_body_part, with_name, common_names, replacement, pieces_of, joins_made};
-ghost use Rattle.macro_expand.specs.parts.Parts.{operand_part, body_part, begins_spelling, object_part, joins, Marks};
+ghost use Rattle.macro_expand.specs.parts.Parts.{operand_part, body_part, begins_spelling, object_part, joins, Marks, parts_told};
 ghost use Rattle.std.specs.List.{list_any};
 ghost use Rattle.macro_expand.specs.parts.Pieces.{arguments_seen};
 ghost use Rattle.macro_expand.specs.Sets.{names_in};
@@ -13,13 +13,14 @@ ghost use Rattle.macro_expand.specs.Expansion.{object_replacement, variable_of};
 ghost use Rattle.macro_expand.specs.Seen.{marked_of, lists_of, part_seen, parts_seen, Reports, ReportsPaste, call_replaced_by};
 ghost use Rattle.macro_expand.specs.parts.Stamps.{Alike, AllAlike, EachAlike, AllFresh, ArePutIn};
 
-use crate::call::ReadCall;
+use crate::call::{ReadCall, take_written};
 use crate::hide_set::HideSet;
 use crate::marked::Marked;
 use crate::outcome::RunError;
 use crate::paste::join_pieces;
 use crate::pieces::{Arguments, read_pieces, read_tokens};
 use crate::placing::{Stamping, lend_for, put_in_for};
+use crate::token_parts::TokenParts;
 use base_types::Bytes;
 use macro_defs::{Definition, Run};
 use pp_tokens::Token;
@@ -33,6 +34,67 @@ pub(crate) enum Part<'d> {
     Argument(usize, bool),
     Spelling(usize, bool),
     Join,
+}
+
+// The parts of a function-like macro's replacement list: a list of them where it has a `#` or a `##`, else its tokens.
+#[derive(Drop)]
+pub(crate) enum Parts<'d> {
+    Listed(Vec<Part<'d>>),
+    Tokens(TokenParts<'d>),
+}
+
+impl<'d> Parts<'d> {
+    ghost use Rattle.std.specs.Prelude.{◌≡◌, ◌<◌, ℕ, false, None, length, get_or, IfOk};
+    ghost use Rattle.std.specs.List.{list_any};
+    ghost use Rattle.macro_defs.specs.declared.definition.Shape.TheVariants.{Object};
+    ghost use Rattle.macro_defs.specs.Arguments.{parameters_in};
+    ghost use Rattle.macro_expand.specs.Replacement.{body_parts, stands_alone};
+    ghost use Rattle.macro_expand.specs.parts.Parts.{parts_told, takes_written, joins};
+
+    pub(crate) fn of(alloc: Global, d: &'d Definition) -> Result<Parts<'d>, AllocError>
+        requires { d.now.shape ≡ Object → ⊥ }
+        ensures { IfOk result (λ parts. parts_told parts ≡ body_parts (parameters_in d.now.shape) d.now.body) }
+    {
+        if d.has_operators() {
+            return Ok(Parts::Listed(read_parts(alloc, d)?));
+        }
+        Ok(Parts::Tokens(TokenParts::of(d)))
+    }
+
+    // For each argument, whether it stands somewhere beside no `##`, so that it is expanded by itself (6.10.3.1).
+    pub(crate) fn standing_alone(
+        &self,
+        alloc: Global,
+        count: usize,
+    ) -> Result<Vec<bool>, AllocError>
+        ensures length { IfOk result (λ alone. length alone.items ≡ count) }
+        ensures each { IfOk result (λ alone. (i : ℕ) → i < count → get_or alone.items i false ≡ stands_alone i None (parts_told self.now)) }
+    {
+        match self {
+            Parts::Listed(parts) => standing_alone(alloc, parts.as_slice(), count),
+            Parts::Tokens(parts) => parts.standing_alone(alloc, count),
+        }
+    }
+
+    // Whether an argument is needed as it is written.
+    pub(crate) fn take_written(&self) -> bool
+        ensures { result ≡ list_any takes_written (parts_told self.now) }
+    {
+        match self {
+            Parts::Listed(parts) => take_written(parts.as_slice()),
+            Parts::Tokens(_) => false,
+        }
+    }
+
+    // Whether there is a `##`.
+    fn have_join(&self) -> bool
+        ensures { result ≡ list_any joins (parts_told self.now) }
+    {
+        match self {
+            Parts::Listed(parts) => have_join(parts.as_slice()),
+            Parts::Tokens(_) => false,
+        }
+    }
 }
 
 // What a token that is no join stands for, by the parameter that it names.
@@ -80,7 +142,7 @@ fn begins_spelling(hash: Option<bool>, t: &Token) -> bool
 }
 
 // The parts of a function-like macro's replacement list, with `##` several times in a row as one.
-pub(crate) fn read_parts<'d>(alloc: Global, d: &'d Definition) -> Result<Vec<Part<'d>>, AllocError>
+fn read_parts<'d>(alloc: Global, d: &'d Definition) -> Result<Vec<Part<'d>>, AllocError>
     requires { d.now.shape ≡ Object → ⊥ }
     ensures { IfOk result (λ parts. parts_seen parts.items ≡ body_parts (parameters_in d.now.shape) d.now.body) }
 {
@@ -165,11 +227,7 @@ fn mark_alone(alone: &mut Vec<bool>, joined: bool, p: &Part, rest: &[Part])
 }
 
 // For each argument, whether it stands somewhere beside no `##`, so that it is expanded by itself (6.10.3.1).
-pub(crate) fn standing_alone(
-    alloc: Global,
-    parts: &[Part],
-    count: usize,
-) -> Result<Vec<bool>, AllocError>
+fn standing_alone(alloc: Global, parts: &[Part], count: usize) -> Result<Vec<bool>, AllocError>
     ensures length { IfOk result (λ alone. length alone.items ≡ count) }
     ensures each { IfOk result (λ alone. (i : ℕ) → i < count → get_or alone.items i false ≡ stands_alone i None (parts_seen parts.now)) }
 {
@@ -206,8 +264,31 @@ fn have_join(parts: &[Part]) -> bool
     false
 }
 
-// What the parts of a replacement list make of the arguments: their tokens, or where there is a `##`, their pieces joined.
+// What the parts of a replacement list make of the arguments.
 fn made_of<'d>(
+    alloc: Global,
+    t: &Marked,
+    parts: &Parts<'d>,
+    joined: bool,
+    arguments: &Arguments<'_, 'd>,
+) -> Result<Vec<Marked<'d>>, RunError>
+    requires { joined ≡ list_any joins (parts_told parts.now) }
+    ensures alike { joined ≡ false → EachAlike t.now arguments.now.expanded.now → IfOk result (λ ts. AllAlike t.now ts.items) }
+    ensures ok { IfOk result (λ ts. joins_made None false (pieces_of (arguments_seen arguments.now) None (parts_told parts.now)) ≡ Ok (map marked_of ts.items)) }
+    ensures err { IfErr result (λ e. ReportsPaste e t.now.token.line
+        (joins_made None false (pieces_of (arguments_seen arguments.now) None (parts_told parts.now)))) }
+{
+    match parts {
+        Parts::Listed(parts) => made_of_list(alloc, t, parts.as_slice(), joined, arguments),
+        Parts::Tokens(parts) => {
+            let made = parts.made(alloc, arguments)?;
+            Ok(made)
+        }
+    }
+}
+
+// What a list of parts makes of the arguments: its tokens, or where there is a `##`, its pieces joined.
+fn made_of_list<'d>(
     alloc: Global,
     t: &Marked,
     parts: &[Part<'d>],
@@ -234,18 +315,18 @@ fn replaced<'d>(
     t: &Marked,
     hidden: &HideSet,
     stamping: Stamping,
-    parts: &[Part<'d>],
+    parts: &Parts<'d>,
     arguments: &Arguments<'_, 'd>,
 ) -> Result<Vec<Marked<'d>>, RunError>
     requires head { (stamping.head ≡ 0 → ⊥) → (stamping.head ≡ t.now.stamp) × ((n : List ℕ) → names_in t.now.hidden n ≡ true → names_in hidden.now n ≡ true) }
     requires alike { EachAlike t.now arguments.now.expanded.now }
     ensures fresh { IfOk result (λ ts. AllFresh stamping.made hidden.now ts.items) }
-    ensures ok { IfOk result (λ ts. replacement t.now.token (names_in hidden.now) (parts_seen parts.now) (arguments_seen arguments.now)
+    ensures ok { IfOk result (λ ts. replacement t.now.token (names_in hidden.now) (parts_told parts.now) (arguments_seen arguments.now)
         ≡ Ok (map marked_of ts.items)) }
     ensures err { IfErr result (λ e. Reports e
-        (replacement t.now.token (names_in hidden.now) (parts_seen parts.now) (arguments_seen arguments.now))) }
+        (replacement t.now.token (names_in hidden.now) (parts_told parts.now) (arguments_seen arguments.now))) }
 {
-    let joined = have_join(parts);
+    let joined = parts.have_join();
     let made = made_of(alloc, t, parts, joined, arguments)?;
     // What is known of the stamps of arguments isn't kept where tokens are joined.
     let stamping = Stamping {
@@ -314,7 +395,7 @@ fn joined_tokens<'d>(
     ensures err { IfErr result (λ e. Reports e (replacement t.now.token (names_in hidden.now) (object_parts (map without_line body.now))
         (record { written = []; expanded = []; variable = None }))) }
 {
-    let parts = read_object_parts(alloc, body)?;
+    let parts = Parts::Listed(read_object_parts(alloc, body)?);
     let arguments = Arguments {
         written: &[],
         expanded: &[],
@@ -350,7 +431,7 @@ pub(crate) fn object_tokens<'d>(
 pub(crate) fn call_tokens<'d>(
     alloc: Global,
     t: &Marked,
-    parts: &[Part<'d>],
+    parts: &Parts<'d>,
     variable: Option<usize>,
     call: &ReadCall<'d>,
     expanded: &[Vec<Marked<'d>>],
@@ -359,9 +440,9 @@ pub(crate) fn call_tokens<'d>(
     requires close { Alike t.now call.now.close }
     requires alike { EachAlike t.now expanded.now }
     ensures fresh { IfOk result (λ ts. ArePutIn stamp ts.items) }
-    ensures ok { IfOk result (λ ts. call_replaced_by t.now (parts_seen parts.now) variable (lists_of call.now.written.items)
+    ensures ok { IfOk result (λ ts. call_replaced_by t.now (parts_told parts.now) variable (lists_of call.now.written.items)
         (marked_of call.now.close) (lists_of expanded.now) ≡ Ok (map marked_of ts.items)) }
-    ensures err { IfErr result (λ e. Reports e (call_replaced_by t.now (parts_seen parts.now) variable
+    ensures err { IfErr result (λ e. Reports e (call_replaced_by t.now (parts_told parts.now) variable
         (lists_of call.now.written.items) (marked_of call.now.close) (lists_of expanded.now))) }
 {
     let hidden = hidden_by_call(alloc, t, &call.close)?;

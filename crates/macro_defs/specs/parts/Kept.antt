@@ -1,5 +1,5 @@
 -- What a definition keeps of its form and its replacement list.
-use Rattle.std.specs.Prelude.{◌≡◌, ◌-◌, ℕ, List, [], false, map, take, drop, Option, Some, None, Box}
+use Rattle.std.specs.Prelude.{◌≡◌, ◌-◌, ℕ, Bool, List, [], ◌∷◌, false, map, take, drop, Option, Some, None, Box}
 use Rattle.std.specs.Arc.{arc_value}
 use Rattle.std.specs.Box.{box_value}
 use Rattle.std.specs.List.{list_any}
@@ -19,6 +19,7 @@ use Rattle.macro_defs.specs.declared.run.Run.TheVariants as run
 -- the tokens of a replacement list, wherever they are
 abbrev pub body_tokens : Body → List Token
 body_tokens (body.Listed tokens) = tokens
+body_tokens (body.One token) = token ∷ []
 body_tokens (body.Shared file from end) = take (end - from) (drop from (all_tokens (arc_value file)))
 
 -- the form, which is kept of a function-like macro alone
@@ -31,6 +32,11 @@ abbrev pub numbers_of : {A : Type 0} → Option (Box Function A) → List (Optio
 numbers_of None = []
 numbers_of (Some function) = (box_value function).named.items
 
+-- whether a function-like macro's tokens have a `#` or a `##`
+abbrev pub operators_of : {A : Type 0} → Option (Box Function A) → Bool
+operators_of None = false
+operators_of (Some function) = (box_value function).operators
+
 -- tokens of an object-like macro that have no `##`
 abbrev pub IsPlain : Shape → List Token → Type 0
 IsPlain shape tokens = (shape ≡ Object) × (list_any is_pasting (map without_line tokens) ≡ false)
@@ -38,6 +44,7 @@ IsPlain shape tokens = (shape ≡ Object) × (list_any is_pasting (map without_l
 -- only such a replacement list is in a file
 abbrev pub MayShare : Shape → Body → Type 0
 MayShare shape (body.Listed tokens) = Unit {0}
+MayShare shape (body.One token) = Unit {0}
 MayShare shape (body.Shared file from end) = IsPlain shape (take (end - from) (drop from (all_tokens (arc_value file))))
 
 -- the same of a replacement list that is lent

@@ -10,7 +10,8 @@ use Rattle.macro_expand.specs.declared.name.ReadName.TheVariants.{Itself, Object
 use Rattle.macro_expand.specs.Replacement.{Marked, BodyPart, stands_alone}
 use Rattle.macro_expand.specs.Expansion.{Expanded, head_role}
 use Rattle.macro_expand.specs.Answered.{Answerer, Answered, answered_and_then, before, expanded_for, charged_for, arguments_for}
-use Rattle.macro_expand.specs.Seen.{marked_of, lists_of, parts_seen, call_replaced_by, Stops}
+use Rattle.macro_expand.specs.Seen.{marked_of, lists_of, call_replaced_by, Stops}
+use Rattle.macro_expand.specs.parts.Parts.{parts_told}
 
 -- which of so many arguments stand alone somewhere
 abbrev pub StandAlone : List Bool → ℕ → List BodyPart → Type 0
@@ -20,9 +21,9 @@ StandAlone alone count parts =
 -- what becomes of a call with these arguments and the tokens after it
 unfoldable pub called_for : {S : Type 0} → Answerer S → S → Mode → ℕ → ℕ → Kept → MacroCall → List (List Marked) → List Marked → Answered Expanded S
 called_for w s mode depth units t call written rest =
-    answered_and_then (arguments_for w s mode depth t.token (parts_seen call.parts.items) 0 units written) (λ e u.
+    answered_and_then (arguments_for w s mode depth t.token (parts_told call.parts) 0 units written) (λ e u.
     charged_for w u mode depth e.units
-    (call_replaced_by t (parts_seen call.parts.items) call.variable (lists_of call.read.written.items) (marked_of call.read.close) e.lists) rest)
+    (call_replaced_by t (parts_told call.parts) call.variable (lists_of call.read.written.items) (marked_of call.read.close) e.lists) rest)
 
 -- what a name that was read and the tokens after it become
 abbrev pub named_for : {S : Type 0} → Answerer S → S → Mode → ℕ → ℕ → Kept → ReadName → List Marked → Answered Expanded S
@@ -34,7 +35,7 @@ named_for w s mode depth units t (Call written call) rest = called_for w s mode 
 abbrev pub KnowsAlone : ReadName → Type 0
 KnowsAlone Itself = Unit {0}
 KnowsAlone (Object made) = Unit {0}
-KnowsAlone (Call written call) = StandAlone call.alone.items (length written.items) (parts_seen call.parts.items)
+KnowsAlone (Call written call) = StandAlone call.alone.items (length written.items) (parts_told call.parts)
 
 -- a name that isn't hidden and the pending tokens become what was read becomes, with the tokens that are left
 abbrev pub ReadsName : {S : Type 0} → Answerer S → S → Kept → List Kept → ReadName → S → List Kept → Type 0

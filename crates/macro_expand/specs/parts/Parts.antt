@@ -1,8 +1,14 @@
 -- What one token of a replacement list stands for (6.10.3.1 to 6.10.3.3), as code reads it.
-use Rattle.std.specs.Prelude.{◌≡◌, ◌<◌, ℕ, Bool, true, false, ◌||◌, List, length, get_or, Option, Some, None, if◌then◌else◌}
+use Rattle.std.specs.Prelude.{◌≡◌, ◌<◌, ◌+◌, ◌==◌, ℕ, Bool, true, false, ◌||◌, List, [], ◌∷◌, map, length, get_or, Option, Some, None, if◌then◌else◌}
 use Rattle.pp_tokens.specs.declared.Token.{Token}
 use Rattle.pp_tokens.specs.Marks.{Pasting, mark_of, is_hash}
+use Rattle.macro_defs.specs.MacroDefinition.{MacroDefinition, without_line}
+use Rattle.macro_defs.specs.Arguments.{parameter_at}
+use Rattle.macro_expand.specs.declared.replace.Parts.{Parts as KeptParts}
+use Rattle.macro_expand.specs.declared.replace.Parts.TheVariants.{Listed, Tokens}
+use Rattle.macro_expand.specs.declared.token_parts.TokenParts.{TokenParts}
 use Rattle.macro_expand.specs.Replacement.{BodyPart, Plain, Argument, Spelling, Join, is_alone, is_join}
+use Rattle.macro_expand.specs.Seen.{parts_seen}
 
 -- a token that is no join, nor a `#` that begins a spelling
 abbrev pub operand_part : Option Bool → Token → Option ℕ → BodyPart
@@ -41,3 +47,27 @@ takes_written Join = true
 -- whether a part is a `##`
 abbrev pub joins : BodyPart → Bool
 joins p = is_join (Some p)
+
+-- what tokens stand for that are a replacement list without `#` and `##` from this place on, by the definition (6.10.3.1)
+abbrev pub parts_from : MacroDefinition → ℕ → List Token → List BodyPart
+parts_from d place [] = []
+parts_from d place (t ∷ ts) = operand_part None t (parameter_at d place) ∷ parts_from d (place + 1) ts
+
+-- the parts of such a list
+abbrev pub token_parts : TokenParts → List BodyPart
+token_parts parts = parts_from parts.definition.now 0 (map without_line parts.tokens.now)
+
+-- the parts of a replacement list that code keeps
+abbrev pub parts_told : KeptParts → List BodyPart
+parts_told (Listed parts) = parts_seen parts.items
+parts_told (Tokens parts) = token_parts parts
+
+-- whether a token that names this parameter, if any, stands for argument `i`
+abbrev pub is_named : ℕ → Option ℕ → Bool
+is_named i None = false
+is_named i (Some j) = i == j
+
+-- the arguments that are known to stand alone, with one more: that of the parameter that a token names
+abbrev pub MarksNamed : List Bool → List Bool → Option ℕ → Type 0
+MarksNamed old new named =
+    (length new ≡ length old) × ((i : ℕ) → i < length old → get_or new i false ≡ (get_or old i false || is_named i named))

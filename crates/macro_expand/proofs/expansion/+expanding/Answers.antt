@@ -5,7 +5,8 @@ use Rattle.macro_expand.specs.Answered.{expanded_for, arguments_for}
 use Rattle.macro_expand.specs.declared.marked.Marked.{Marked as Kept}
 use Rattle.macro_expand.specs.parts.Naming.{named_for, called_for}
 use Rattle.macro_expand.specs.parts.Steps.{EachStaysFor}
-use Rattle.macro_expand.specs.Seen.{marked_of, lists_of, parts_seen}
+use Rattle.macro_expand.specs.Seen.{marked_of, lists_of}
+use Rattle.macro_expand.specs.parts.Parts.{parts_told}
 use Rattle.macro_expand.proofs.AnsweredLaws.{before-nothing, before_all-nothing}
 use Rattle.macro_expand.proofs.LoopLaws.{Stops-is, on_ok-map, on_ok-both, if_err-map, put_in-paid, put_in-stops, goes_on-left, goes_on-behind, goes_on-ordinary, keeps_step, stops_step, keeps_end}
 use Rattle.macro_expand.specs.parts.Stamps.{Stamped, AllStamped, Alike, NameStamped, ArePutIn}
@@ -49,23 +50,23 @@ expand_arguments-loop-argument-init g t c =
 pub expand_arguments-returns-in_err-expanded-clause-err : goal.expand_arguments-returns-in_err-expanded-clause-err
 expand_arguments-returns-in_err-expanded-clause-err g t c =
     let p = err_from_is_err_and c.from_residual-in_err-expanded.result c.from_residual-in_err-expanded.ensures.1 in
-    rw (p.1, p.2) (turn_stops (g.A.Answers.answerer c.args.source.now) c.loop-argument.answers c.args.mode c.args.depth c.args.t.now.token (parts_seen c.args.call.now.parts.items)
-    (arguments_for (g.A.Answers.answerer c.args.source.now) c.args.answers.now c.args.mode c.args.depth c.args.t.now.token (parts_seen c.args.call.now.parts.items) 0
+    rw (p.1, p.2) (turn_stops (g.A.Answers.answerer c.args.source.now) c.loop-argument.answers c.args.mode c.args.depth c.args.t.now.token (parts_told c.args.call.now.parts)
+    (arguments_for (g.A.Answers.answerer c.args.source.now) c.args.answers.now c.args.mode c.args.depth c.args.t.now.token (parts_told c.args.call.now.parts) 0
     c.args.work.now.left (lists_of c.args.written.items)) c.loop-argument.out.items
     c.loop-argument.left.items c.pop_front.new.self.items c.loop-argument.work.left c.in-Some.argument c.in-Some.ensures.items c.loop-argument.invariant.0 c.index-alone.result.now
     (stands_next c.args.call.now.alone.items _ c.len-in-Some.result c.loop-argument.out.items c.loop-argument.left.items c.pop_front.new.self.items c.in-Some.argument
-    (parts_seen c.args.call.now.parts.items) c.index-alone.result.now c.requires.alone.0 c.requires.alone.1 c.loop-argument.invariant.1.0 c.in-Some.ensures.items
+    (parts_told c.args.call.now.parts) c.index-alone.result.now c.requires.alone.0 c.requires.alone.1 c.loop-argument.invariant.1.0 c.in-Some.ensures.items
     (omega (arith, c.len-in-Some.ensures, c.loop-argument.out.ok.0)) c.index-alone.ensures)
     c.expand_argument.new.answers _ c.in_err-expanded.ensures.err)
 
 pub expand_arguments-loop-argument-preserved : goal.expand_arguments-loop-argument-preserved
 expand_arguments-loop-argument-preserved g t c = (
-  turn_expanded (g.A.Answers.answerer c.args.source.now) c.loop-argument.answers c.args.mode c.args.depth c.args.t.now.token (parts_seen c.args.call.now.parts.items)
-      (arguments_for (g.A.Answers.answerer c.args.source.now) c.args.answers.now c.args.mode c.args.depth c.args.t.now.token (parts_seen c.args.call.now.parts.items) 0
+  turn_expanded (g.A.Answers.answerer c.args.source.now) c.loop-argument.answers c.args.mode c.args.depth c.args.t.now.token (parts_told c.args.call.now.parts)
+      (arguments_for (g.A.Answers.answerer c.args.source.now) c.args.answers.now c.args.mode c.args.depth c.args.t.now.token (parts_told c.args.call.now.parts) 0
       c.args.work.now.left (lists_of c.args.written.items)) c.loop-argument.out.items
       c.loop-argument.left.items c.pop_front.new.self.items c.loop-argument.work.left c.in-Some.argument c.in-Some.ensures.items c.loop-argument.invariant.0 c.index-alone.result.now
       (stands_next c.args.call.now.alone.items _ c.len-in-Some.result c.loop-argument.out.items c.loop-argument.left.items c.pop_front.new.self.items c.in-Some.argument
-      (parts_seen c.args.call.now.parts.items) c.index-alone.result.now c.requires.alone.0 c.requires.alone.1 c.loop-argument.invariant.1.0 c.in-Some.ensures.items
+      (parts_told c.args.call.now.parts) c.index-alone.result.now c.requires.alone.0 c.requires.alone.1 c.loop-argument.invariant.1.0 c.in-Some.ensures.items
       (omega (arith, c.len-in-Some.ensures, c.loop-argument.out.ok.0)) c.index-alone.ensures)
       c.put_list.new.out.items c.in_ok-expanded.expanded c.expand_argument.new.answers c.expand_argument.new.work.left c.in_ok-put_list.ensures.ok c.in_ok-expanded.ensures.ok,
   (
@@ -86,7 +87,7 @@ expand_arguments-loop-argument-preserved g t c = (
 
 pub expand_arguments-returns-clause-ok : goal.expand_arguments-returns-clause-ok
 expand_arguments-returns-clause-ok g t c =
-    arguments_end (g.A.Answers.answerer c.args.source.now) c.loop-argument.answers c.args.mode c.args.depth c.args.t.now.token (parts_seen c.args.call.now.parts.items) _
+    arguments_end (g.A.Answers.answerer c.args.source.now) c.loop-argument.answers c.args.mode c.args.depth c.args.t.now.token (parts_told c.args.call.now.parts) _
     (lists_of c.loop-argument.out.items) c.loop-argument.left.items (length c.loop-argument.out.items) c.loop-argument.work.left
     (nil_from_length c.loop-argument.left.items (omega (arith, c.in_default.ensures.cases.0, c.loop-argument.left.ok.0))) c.loop-argument.invariant.0
 
@@ -102,7 +103,7 @@ expand_call-returns-in_err-made-clause-err g t c =
     rw (p.1, p.2) (paste_stops (g.A.Answers.answerer c.args.source.now) c.args.answers.now c.expand_arguments.new.answers c.args.mode c.args.depth c.args.work.now.left c.args.t.now c.args.call.now
     (lists_of c.args.written.items) (map marked_of c.args.pending.now)
     (lists_of c.in_ok-expanded.expanded.items) c.expand_arguments.new.work.left c.in_ok-expanded.ensures.ok _
-    (rw (c.as_slice-parts.ensures.value, c.as_slice.ensures.value) at c.in_err-made.ensures.err))
+    (rw c.as_slice.ensures.value at c.in_err-made.ensures.err))
 
 pub expand_call-returns-clause-ok : goal.expand_call-returns-clause-ok
 expand_call-returns-clause-ok g t c =
@@ -113,7 +114,7 @@ expand_call-returns-clause-ok g t c =
     (call_replaced (g.A.Answers.answerer c.args.source.now) c.args.answers.now c.expand_arguments.new.answers c.args.mode c.args.depth c.args.work.now.left c.args.t.now c.args.call.now
     (lists_of c.args.written.items) (map marked_of c.args.pending.now)
     (lists_of c.in_ok-expanded.expanded.items) c.expand_arguments.new.work.left c.in_ok-expanded.ensures.ok c.in_ok-made.made.items
-    (rw (c.as_slice-parts.ensures.value, c.as_slice.ensures.value) at c.in_ok-made.ensures.ok))
+    (rw c.as_slice.ensures.value at c.in_ok-made.ensures.ok))
     c.put_in.new.work.left c.put_in.new.pending) c.put_in.ensures.ok c.put_in.ensures.paid
 
 pub expand_call-returns-clause-err : goal.expand_call-returns-clause-err
@@ -124,7 +125,7 @@ expand_call-returns-clause-err g t c =
     (call_replaced (g.A.Answers.answerer c.args.source.now) c.args.answers.now c.expand_arguments.new.answers c.args.mode c.args.depth c.args.work.now.left c.args.t.now c.args.call.now
     (lists_of c.args.written.items) (map marked_of c.args.pending.now)
     (lists_of c.in_ok-expanded.expanded.items) c.expand_arguments.new.work.left c.in_ok-expanded.ensures.ok c.in_ok-made.made.items
-    (rw (c.as_slice-parts.ensures.value, c.as_slice.ensures.value) at c.in_ok-made.ensures.ok))
+    (rw c.as_slice.ensures.value at c.in_ok-made.ensures.ok))
     c.put_in.result c.put_in.ensures.err
 
 pub expand_head-returns-in-Ordinary-clause-ok : goal.expand_head-returns-in-Ordinary-clause-ok

@@ -1,7 +1,8 @@
 use Rattle.std.proofs.Common.{◌≡◌, ◌+◌, ◌-◌, ◌*◌, ◌≤◌, map, length, deque_len}
 use Rattle.base_types.specs.Limits.{argument_depth_limit}
 use Rattle.macro_expand.specs.Answered.{before, expanded_for, arguments_for}
-use Rattle.macro_expand.specs.Seen.{marked_of, lists_of, parts_seen}
+use Rattle.macro_expand.specs.Seen.{marked_of, lists_of}
+use Rattle.macro_expand.specs.parts.Parts.{parts_told}
 use Rattle.macro_expand.specs.parts.Stamps.{Stamps, AllStamped, EachStamped, StampsAfter}
 use Rattle.macro_expand.proofs.StampLaws.{ArgumentsAfter}
 use Rattle.macro_expand.proofs.AnsweredLaws.{before_all}
@@ -29,9 +30,9 @@ decreases-expand_argument g l = 6 * (argument_depth_limit - l.depth)
 -- the arguments expanded so far, before what the others become with the work that is left
 abbrev pub invariant-expand_arguments-loop-argument : goal.invariant-expand_arguments-loop-argument
 invariant-expand_arguments-loop-argument g l =
-    (arguments_for (g.A.Answers.answerer l.source) l.initial.answers l.mode l.depth l.t.token (parts_seen l.call.parts.items) 0 l.initial.work.left (lists_of l.fn.written.items)
+    (arguments_for (g.A.Answers.answerer l.source) l.initial.answers l.mode l.depth l.t.token (parts_told l.call.parts) 0 l.initial.work.left (lists_of l.fn.written.items)
     ≡ before_all (lists_of l.out.items)
-    (arguments_for (g.A.Answers.answerer l.source) l.answers l.mode l.depth l.t.token (parts_seen l.call.parts.items) (length l.out.items) l.work.left (lists_of l.left.items)))
+    (arguments_for (g.A.Answers.answerer l.source) l.answers l.mode l.depth l.t.token (parts_told l.call.parts) (length l.out.items) l.work.left (lists_of l.left.items)))
     × ((length l.out.items + length l.left.items ≡ length l.call.alone.items) × ((l.work.left ≤ l.initial.work.left)
     × ((l.initial.stamps ≤ l.stamps)
     × ((sets : Stamps) → EachStamped sets l.initial.stamps l.fn.written.items → ArgumentsAfter sets l.initial.stamps l.stamps l.out.items l.left.items))))

@@ -3,7 +3,8 @@ use Rattle.std.proofs.lemmas.Result.{err_from_is_err_and}
 use Rattle.macro_defs.specs.Arguments.{parameters_in}
 use Rattle.macro_defs.specs.MacroDefinition.{shape_lent}
 use Rattle.macro_expand.specs.Replacement.{body_parts}
-use Rattle.macro_expand.specs.Seen.{marked_of, lists_of, parts_seen}
+use Rattle.macro_expand.specs.Seen.{marked_of, lists_of}
+use Rattle.macro_expand.specs.parts.Parts.{parts_told}
 use Rattle.macro_expand.proofs.NameLaws.{head_undefined, head_object, head_object_error, head_not_called, head_refused, head_called, stand_alone-same}
 use Rattle.macro_expand.specs.parts.Stamps.{Stamped}
 use Rattle.macro_expand.proofs.name.read_name.Goals as goal
@@ -50,7 +51,7 @@ returns-clause-ok g c =
 pub returns-clause-alone : goal.returns-clause-alone
 returns-clause-alone g c =
     stand_alone-same c.in_ok-written.call.alone.items c.in_ok-read.read.written.items c.in_ok-written.written.items
-    (parts_seen c.in_ok-written.call.parts.items) c.in_ok-written.ensures.written c.in_ok-written.ensures.alone
+    (parts_told c.in_ok-written.call.parts) c.in_ok-written.ensures.written c.in_ok-written.ensures.alone
 
 pub returns-clause-stamped : goal.returns-clause-stamped
 returns-clause-stamped g c sets next all =

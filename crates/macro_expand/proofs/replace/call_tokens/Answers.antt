@@ -1,7 +1,8 @@
 use Rattle.std.proofs.Common.{◌∙◌, ap}
 use Rattle.macro_expand.specs.Replacement.{replacement}
 use Rattle.macro_expand.specs.Sets.{names_in}
-use Rattle.macro_expand.specs.Seen.{marked_of, parts_seen, lists_of, call_replaced_by}
+use Rattle.macro_expand.specs.Seen.{marked_of, lists_of, call_replaced_by}
+use Rattle.macro_expand.specs.parts.Parts.{parts_told}
 use Rattle.macro_expand.proofs.PieceLemmas.{call-same, ok-same, err-same}
 use Rattle.macro_expand.proofs.StampLaws.{head-within}
 use Rattle.macro_expand.proofs.replace.call_tokens.Goals as goal
@@ -10,26 +11,26 @@ use Rattle.macro_expand.proofs.replace.call_tokens.Goals.{then-call-t, else-call
 pub returns-clause-ok : goal.returns-clause-ok
 returns-clause-ok c =
     ok-same c.replaced.result
-    (replacement c.args.t.now.token (names_in c.in_ok-hidden.hidden) (parts_seen c.args.parts.now)
+    (replacement c.args.t.now.token (names_in c.in_ok-hidden.hidden) (parts_told c.args.parts.now)
     (record { written = lists_of c.deref.result.now; expanded = lists_of c.args.expanded.now; variable = c.args.variable }))
-    (call_replaced_by c.args.t.now (parts_seen c.args.parts.now) c.args.variable (lists_of c.args.call.now.written.items) (marked_of c.args.call.now.close)
+    (call_replaced_by c.args.t.now (parts_told c.args.parts.now) c.args.variable (lists_of c.args.call.now.written.items) (marked_of c.args.call.now.close)
     (lists_of c.args.expanded.now))
-    (call-same c.args.t.now c.args.call.now.close (parts_seen c.args.parts.now) c.args.variable (lists_of c.deref.result.now)
+    (call-same c.args.t.now c.args.call.now.close (parts_told c.args.parts.now) c.args.variable (lists_of c.deref.result.now)
     (lists_of c.args.expanded.now) c.in_ok-hidden.hidden c.in_ok-hidden.ensures
-    ∙ ap (λ w. call_replaced_by c.args.t.now (parts_seen c.args.parts.now) c.args.variable (lists_of w) (marked_of c.args.call.now.close)
+    ∙ ap (λ w. call_replaced_by c.args.t.now (parts_told c.args.parts.now) c.args.variable (lists_of w) (marked_of c.args.call.now.close)
     (lists_of c.args.expanded.now)) c.deref.ensures.value)
     c.replaced.ensures.ok
 
 pub returns-clause-err : goal.returns-clause-err
 returns-clause-err c =
     err-same c.replaced.result
-    (replacement c.args.t.now.token (names_in c.in_ok-hidden.hidden) (parts_seen c.args.parts.now)
+    (replacement c.args.t.now.token (names_in c.in_ok-hidden.hidden) (parts_told c.args.parts.now)
     (record { written = lists_of c.deref.result.now; expanded = lists_of c.args.expanded.now; variable = c.args.variable }))
-    (call_replaced_by c.args.t.now (parts_seen c.args.parts.now) c.args.variable (lists_of c.args.call.now.written.items) (marked_of c.args.call.now.close)
+    (call_replaced_by c.args.t.now (parts_told c.args.parts.now) c.args.variable (lists_of c.args.call.now.written.items) (marked_of c.args.call.now.close)
     (lists_of c.args.expanded.now))
-    (call-same c.args.t.now c.args.call.now.close (parts_seen c.args.parts.now) c.args.variable (lists_of c.deref.result.now)
+    (call-same c.args.t.now c.args.call.now.close (parts_told c.args.parts.now) c.args.variable (lists_of c.deref.result.now)
     (lists_of c.args.expanded.now) c.in_ok-hidden.hidden c.in_ok-hidden.ensures
-    ∙ ap (λ w. call_replaced_by c.args.t.now (parts_seen c.args.parts.now) c.args.variable (lists_of w) (marked_of c.args.call.now.close)
+    ∙ ap (λ w. call_replaced_by c.args.t.now (parts_told c.args.parts.now) c.args.variable (lists_of w) (marked_of c.args.call.now.close)
     (lists_of c.args.expanded.now)) c.deref.ensures.value)
     c.replaced.ensures.err
 
