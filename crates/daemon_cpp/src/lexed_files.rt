@@ -1,13 +1,14 @@
 // The files that a job lexed. A header without a guard that is known at its include is opened again and again, and so is one
 // that is read for a part at a time: its lines are lexed once.
 ghost use Rattle.std.specs.Prelude.{◌≡◌, ◌≤◌, ◌+◌, suc, length, IfOk, IfSome};
+ghost use Rattle.directive_scan.specs.Groups.{malformed_by, outline, role_of};
 ghost use Rattle.base_types.specs.Limits.{body_limit};
 ghost use Rattle.pp_tokens.specs.Lines.{lexed};
 ghost use Rattle.daemon_cpp.specs.parts.Reading.{token_count};
 ghost use Rattle.daemon_cpp.specs.parts.FileTexts.{IsTextOf, HasFewPieces};
 
 use base_types::Bytes;
-use directive_scan::Pieces;
+use directive_scan::{Malformed, Pieces};
 use pp_tokens::{Lexed, lex_body};
 use std::alloc::{AllocError, Global};
 use std::collections::HashMap;
@@ -18,12 +19,14 @@ use tree_model::CanonPath;
 // take some three times as much.
 const ROOM: usize = 8_388_608;
 
-/// A file as it is read: its pieces, how many tokens stand on its lines, and the line of a comment that never ends.
+/// A file as it is read: its pieces, how many tokens stand on its lines, the line of a comment that never ends, and what is wrong with
+/// its conditionals.
 #[derive(Drop)]
 pub struct FileText {
     pub pieces: Pieces,
     pub tokens: u64,
     pub open_comment: Option<u32>,
+    pub malformed: Option<Malformed>,
 }
 
 impl FileText {
@@ -35,10 +38,13 @@ impl FileText {
         let lexed = lex_body(alloc, body.into_vec()?, trigraphs)?;
         let tokens = count_tokens(&lexed);
         let open_comment = lexed.open_comment();
+        let pieces = Pieces::of(alloc, lexed)?;
+        let malformed = pieces.malformed(alloc)?;
         Ok(FileText {
-            pieces: Pieces::of(alloc, lexed)?,
+            pieces,
             tokens,
             open_comment,
+            malformed,
         })
     }
 }
@@ -50,19 +56,39 @@ fn count_tokens(file: &Lexed) -> u64
     file.tokens_before(file.line_count()) as u64
 }
 
-// What a body is read as, where these are its pieces.
-fn known_text(known: &Pieces, body: &[u8], trigraphs: bool) -> Result<Option<FileText>, AllocError>
+// The pieces of a file that was lexed, and what is wrong with its conditionals.
+#[derive(Drop)]
+struct Known {
+    pieces: Pieces,
+    malformed: Option<Malformed>,
+}
+
+impl Model for Known {
+    ghost use Rattle.std.specs.Prelude.{◌≡◌, List};
+    ghost use Rattle.directive_scan.specs.declared.Piece.{Piece};
+    ghost use Rattle.directive_scan.specs.Groups.{malformed_by, outline, role_of};
+
+    ghost Value = { List Piece };
+
+    ghost view = { λ k. k.pieces };
+
+    ghost invariant = { λ k. k.malformed ≡ malformed_by (outline role_of k.pieces) };
+}
+
+// What a body is read as, where this is what it was lexed to.
+fn known_text(known: &Known, body: &[u8], trigraphs: bool) -> Result<Option<FileText>, AllocError>
     requires { length body.now ≤ body_limit }
     ensures { IfOk result (λ found. IfSome found (IsTextOf (lexed trigraphs body.now))) }
 {
-    let file = known.lexed();
+    let file = known.pieces.lexed();
     if !file.is_of(body, trigraphs) {
         return Ok(None);
     }
     Ok(Some(FileText {
         tokens: count_tokens(file),
         open_comment: file.open_comment(),
-        pieces: known.copy()?,
+        malformed: known.malformed,
+        pieces: known.pieces.copy()?,
     }))
 }
 
@@ -70,7 +96,7 @@ fn known_text(known: &Pieces, body: &[u8], trigraphs: bool) -> Result<Option<Fil
 /// and so takes a small part of the time of lexing it.
 #[derive(Drop)]
 pub struct LexedFiles {
-    known: HashMap<CanonPath, Pieces>,
+    known: HashMap<CanonPath, Known>,
     room: usize,
 }
 
@@ -110,21 +136,27 @@ impl LexedFiles {
         let size = body.len();
         let text = FileText::of_body(alloc, body, trigraphs)?;
         if size <= self.room {
-            self.keep(alloc, path, size, &text.pieces)?;
+            self.keep(alloc, path, size, &text)?;
         }
         Ok(text)
     }
 
-    // Keeps the pieces of a body of so many bytes.
+    // Keeps what a body of so many bytes is read as.
     fn keep(
         &mut self,
         alloc: Global,
         path: &CanonPath,
         size: usize,
-        pieces: &Pieces,
-    ) -> Result<(), AllocError> {
+        text: &FileText,
+    ) -> Result<(), AllocError>
+        requires { text.now.malformed ≡ malformed_by (outline role_of text.now.pieces) }
+    {
         self.room = self.room.saturating_sub(size);
-        self.known.insert(path.copy(alloc)?, pieces.copy()?)?;
+        let known = Known {
+            pieces: text.pieces.copy()?,
+            malformed: text.malformed,
+        };
+        self.known.insert(path.copy(alloc)?, known)?;
         Ok(())
     }
 }

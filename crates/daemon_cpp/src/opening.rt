@@ -3,7 +3,7 @@ ghost use Rattle.std.specs.Prelude.{◌≡◌, ◌≤◌, ◌+◌, ◌++◌, ◌
 ghost use Rattle.std.specs.Option.{ForSome};
 ghost use Rattle.base_types.specs.Causes.{HasCause};
 ghost use Rattle.base_types.specs.Limits.{body_limit};
-ghost use Rattle.directive_scan.specs.Groups.{outline, role_of};
+ghost use Rattle.directive_scan.specs.Groups.{malformed_by, outline, role_of};
 ghost use Rattle.pp_tokens.specs.Lines.{lexed, LexedFile};
 ghost use Rattle.daemon_cpp.specs.Prep.{World, Here, world_of, and_then, say, run_outline, run_file, open_file};
 ghost use Rattle.daemon_cpp.specs.parts.Reading.{front_events, work_after, run_body, malformed_told, run_flat, reading};
@@ -100,6 +100,7 @@ fn open_text(
     included: bool,
     text: FileText,
 ) -> Result<Pieces, Stop>
+    requires { text.malformed ≡ malformed_by (outline role_of text.pieces) }
     ensures begins { (world : World) (file : Here) (lexed : LexedFile) → file.place ≡ place.now → IsTextOf lexed text → BeginsFile kept.old kept.new source.now file world
         (λ entering state. run_file world entering (front_events included place.now) lexed lexed.unended state) result }
     ensures pieces { IfOk result (λ opened. opened ≡ text.pieces) }
@@ -109,7 +110,15 @@ fn open_text(
     if let Some(line) = text.open_comment {
         return Err(refused(alloc, place, line, Problem::OpenComment));
     }
-    open_pieces(alloc, kept, source, place, included, text.pieces)
+    open_pieces(
+        alloc,
+        kept,
+        source,
+        place,
+        included,
+        text.pieces,
+        text.malformed,
+    )
 }
 
 // A file whose comments are ended.
@@ -120,7 +129,9 @@ fn open_pieces(
     place: &CanonPath,
     included: bool,
     pieces: Pieces,
+    wrong: Option<Malformed>,
 ) -> Result<Pieces, Stop>
+    requires { wrong ≡ malformed_by (outline role_of pieces) }
     ensures begins { (world : World) (file : Here) → file.place ≡ place.now → BeginsFile kept.old kept.new source.now file world
         (λ entering state. run_outline world entering (front_events included place.now) (outline role_of pieces) state) result }
     ensures pieces { IfOk result (λ opened. opened ≡ pieces) }
@@ -129,7 +140,7 @@ fn open_pieces(
 {
     nesting_told();
     one_outline();
-    match pieces.malformed(alloc)? {
+    match wrong {
         Some(what) => Err(malformed(alloc, place, what)),
         None => announced(alloc, kept, source, place, included, pieces),
     }
