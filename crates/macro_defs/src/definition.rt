@@ -157,8 +157,8 @@ impl Definition {
         }
     }
 
-    /// Whether the replacement list of a function-like macro has a `#` or a `##` (ISO C 6.10.3.2, 6.10.3.3). Of an object-like macro it
-    /// isn't told. It takes constant time.
+    /// Whether the replacement list of a function-like macro has a `#` or a `##` (ISO C 6.10.3.2, 6.10.3.3); `false` for an object-like
+    /// macro, also where its list has a `##`. It takes constant time.
     #[inline(always)]
     pub fn has_operators(&self) -> bool
         ensures { result ≡ has_operators self.now.shape self.now.body }
@@ -196,6 +196,7 @@ fn number_at(numbers: &[Option<u32>], place: usize) -> Option<usize>
 }
 
 // What a macro of this form has beside this replacement list.
+#[inline(always)]
 fn function_of(
     alloc: Global,
     shape: Shape,

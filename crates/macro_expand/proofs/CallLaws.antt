@@ -1,8 +1,8 @@
 -- Calls, read token by token and cut at their commas.
-use Rattle.std.proofs.Common.{◌≡◌, ℕ, zero, suc, ◌-◌, ◌<◌, ◌≤◌, Bool, true, false, ◌&&◌, ◌==◌, if◌then◌else◌, nat_lt, List, [], ◌∷◌, ◌++◌, length, map, Vec, Option, Some, None, Result, Ok, Err, inl, inr, refl, ap, sym, subst, ◌∙◌, append_assoc, arith}
+use Rattle.std.proofs.Common.{◌≡◌, ℕ, zero, suc, ◌+◌, ◌-◌, ◌<◌, ◌≤◌, Bool, true, false, ◌&&◌, ◌==◌, if◌then◌else◌, nat_lt, List, [], ◌∷◌, ◌++◌, length, map, take, get_or, Vec, Option, Some, None, Result, Ok, Err, inl, inr, refl, ap, sym, subst, ◌∙◌, append_assoc, arith}
 use Rattle.std.specs.Prelude.{◌⊎◌, IfOk, IfErr}
 use Rattle.std.proofs.lemmas.Bool.{and_parts, cond-false, false≢true, eqb-true, ltb-true, lt-ltb, ne_eqb}
-use Rattle.std.proofs.lemmas.List.{append-nil, map-append}
+use Rattle.std.proofs.lemmas.List.{append-nil, map-append, take_more}
 use Rattle.std.specs.declared.alloc.Global.{Global}
 use Rattle.pp_tokens.specs.Marks.{Mark, Opening, Closing, Comma, Hash, Pasting, NoMark, mark_of}
 use Rattle.macro_expand.specs.declared.marked.Marked.{Marked as Kept}
@@ -13,7 +13,7 @@ use Rattle.macro_expand.specs.declared.call.CallMark.TheVariants.{Opens, Closes,
 use Rattle.macro_expand.specs.declared.call.Cutting.{Cutting}
 use Rattle.macro_expand.specs.declared.call.ReadCall.{ReadCall}
 use Rattle.macro_expand.specs.Replacement.{Marked, Call, call_with, call_in, argument_with, argument_at, cut_at_outer_commas, arguments_of}
-use Rattle.macro_expand.specs.Seen.{marked_of, lists_of, ReadsCall, RefusesCall}
+use Rattle.macro_expand.specs.Seen.{marked_of, lists_of, ReadsCall, RefusesCall, SameWhereAlone}
 use Rattle.macro_expand.specs.parts.Reading.{mark_in_call, call_mark, nesting_after, ends_call, is_cut, arguments_with, cut_from, CutsCall, cuts_for, arguments_cut}
 
 not_zero : (n : ℕ) → suc n ≡ 0 → ⊥
@@ -367,3 +367,38 @@ module _ (count : ℕ) (variadic : Bool) (ts after : List Marked) (call : ReadCa
   call_refused t (Err e) (inr (is, none)) =
       subst (λ e. RefusesCall e t count variadic ts) (sym is)
       (refl, refl, (record { within = cuts.0; close = marked_of call.close; after = after }, cuts.1, given None none))
+
+-- The arguments that are given to be expanded.
+
+same-more : (alone : List Bool) (written given : List (List Marked)) (b : Bool) (a g : List Marked) → SameWhereAlone alone written given → (b ≡ true → g ≡ a) →
+    SameWhereAlone (alone ++ b ∷ []) (written ++ a ∷ []) (given ++ g ∷ [])
+same-more [] [] [] b a g same one = (one, tt)
+same-more (x ∷ xs) (y ∷ ys) (z ∷ zs) b a g same one = (same.0, same-more xs ys zs b a g same.1 one)
+same-more [] [] (z ∷ zs) b a g same one = absurd same
+same-more [] (y ∷ ys) given b a g same one = absurd same
+same-more (x ∷ xs) [] given b a g same one = absurd same
+same-more (x ∷ xs) (y ∷ ys) [] b a g same one = absurd same
+
+-- all that were written are given
+pub all-given : (alone : List Bool) (written : List (Vec Kept Global)) → length alone ≡ length written → SameWhereAlone alone (lists_of written) (lists_of written)
+all-given [] [] long = tt
+all-given (x ∷ xs) (v ∷ vs) long = ((λ is. refl), all-given xs vs (omega (arith, long)))
+all-given [] (v ∷ vs) long = absurd (not_zero (length vs) (sym long))
+all-given (x ∷ xs) [] long = absurd (not_zero (length xs) long)
+
+-- one more is given
+pub given-turn : (alone : List Bool) (lists copies next : List (Vec Kept Global)) (i : ℕ) (list copy : Vec Kept Global) → i < length alone → i < length lists →
+    list ≡ get_or lists i list → copy.items ≡ (if get_or alone i false then list.items else []) → next ≡ copies ++ copy ∷ [] →
+    SameWhereAlone (take i alone) (lists_of (take i lists)) (lists_of copies) →
+    SameWhereAlone (take (i + 1) alone) (lists_of (take (i + 1) lists)) (lists_of next)
+given-turn alone lists copies next i list copy within below at_list is made same =
+    let f : Vec Kept Global → List Marked = λ v. map marked_of v.items in
+    let b : Bool = get_or alone i false in
+    let front : take (i + 1) lists ≡ take i lists ++ list ∷ [] = take_more lists i list below ∙ ap (λ v. take i lists ++ v ∷ []) (sym at_list) in
+    let one : b ≡ true → map marked_of copy.items ≡ map marked_of list.items = λ e. ap (map marked_of) (is ∙ ap (λ x. if x then list.items else []) e) in
+    let more : SameWhereAlone (take i alone ++ b ∷ []) (lists_of (take i lists) ++ map marked_of list.items ∷ []) (lists_of copies ++ map marked_of copy.items ∷ []) =
+    same-more (take i alone) (lists_of (take i lists)) (lists_of copies) b (map marked_of list.items) (map marked_of copy.items) same one in
+    subst (SameWhereAlone (take (i + 1) alone) (lists_of (take (i + 1) lists))) (sym (ap lists_of made ∙ map-append f copies (copy ∷ [])))
+    (subst (λ q. SameWhereAlone (take (i + 1) alone) q (lists_of copies ++ map marked_of copy.items ∷ []))
+    (sym (ap lists_of front ∙ map-append f (take i lists) (list ∷ [])))
+    (subst (λ bs. SameWhereAlone bs (lists_of (take i lists) ++ map marked_of list.items ∷ []) (lists_of copies ++ map marked_of copy.items ∷ [])) (sym (take_more alone i false within)) more))

@@ -152,9 +152,6 @@ keeps_none parts written none t variable close expanded =
     ap (λ ps. put_in t.token (with_name t.token.text (common_names (names_in t.hidden) close.hidden)) (joins_made None false ps))
     (pieces_of-unwritten [] written expanded variable None parts refl none)
 
-pub keeps_all : (parts : List BodyPart) (written kept : List (List Marked)) → kept ≡ written → KeepsWritten parts written kept
-keeps_all parts written kept same t variable close expanded = ap (λ w. call_replaced_by t parts variable w close expanded) same
-
 -- what a name is replaced by, by a hide set that code keeps
 
 pub object-same : (t : Kept) (body : List Token) (hidden : List (List ℕ)) (parts : List BodyPart) →

@@ -42,6 +42,11 @@ module _ (P : Kept → Type 0) where
   pub all-push : (a : List Kept) (m : Kept) → All P a → P m → All P (a ++ m ∷ [])
   all-push a m pa pm = all-append a (m ∷ []) pa (pm, tt)
 
+  -- tokens that are kept or not
+  pub all-if : (b : Bool) (ms kept : List Kept) → kept ≡ (if b then ms else []) → All P ms → All P kept
+  all-if true ms kept is p = subst (All P) (sym is) p
+  all-if false ms kept is p = subst (All P) (sym is) tt
+
   pub each-append : (a b : List (Vec Kept Global)) → Each P a → Each P b → Each P (a ++ b)
   each-append [] b pa pb = pb
   each-append (v ∷ a) b pa pb = (pa.0, each-append a b pa.1 pb)

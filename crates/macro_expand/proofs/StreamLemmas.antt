@@ -1,5 +1,5 @@
 -- Expansion that gives its tokens one after another, by the expansion of the whole list.
-use Rattle.std.proofs.Common.{◌≡◌, ℕ, suc, true, false, ◌+◌, length, List, [], ◌∷◌, ◌++◌, map, inl, inr, reverse, Some, None, Option, MatchOption, option_to_list, Result, Ok, Err, refl, ap, sym, ◌∙◌, append_assoc, arith}
+use Rattle.std.proofs.Common.{◌≡◌, ℕ, true, false, ◌+◌, length, List, [], ◌∷◌, ◌++◌, map, inl, inr, reverse, Some, None, Option, MatchOption, option_to_list, Result, Ok, Err, refl, ap, sym, ◌∙◌, append_assoc, arith}
 use Rattle.std.proofs.lemmas.List.{nil_from_length, map-append, append-nil, reverse-append, reverse-reverse}
 use Rattle.std.specs.Prelude.{codes, bytes_eq}
 use Rattle.std.proofs.lemmas.Bool.{and_parts}

@@ -1,5 +1,5 @@
 -- What code's values mean: tables, places, marked tokens and errors.
-use Rattle.std.specs.Prelude.{◌≡◌, ℕ, Bool, Vec, List, [], ◌∷◌, map, Option, Some, None, Result, Ok, Err}
+use Rattle.std.specs.Prelude.{◌≡◌, ℕ, Bool, true, Vec, List, [], ◌∷◌, map, Option, Some, None, Result, Ok, Err}
 use Rattle.macro_expand.specs.declared.marked.Marked.{Marked as Kept}
 use Rattle.macro_expand.specs.declared.answers.Presumed.{Presumed}
 use Rattle.macro_expand.specs.declared.outcome.RunError.{RunError}
@@ -75,6 +75,12 @@ abbrev pub KeepsWritten : List BodyPart → List (List Marked) → List (List Ma
 KeepsWritten parts written kept =
     (t : Kept) (variable : Option ℕ) (close : Marked) (expanded : List (List Marked)) →
     call_replaced_by t parts variable kept close expanded ≡ call_replaced_by t parts variable written close expanded
+
+-- of arguments, by which of them stand alone somewhere: those are given to be expanded as they were written
+abbrev pub SameWhereAlone : List Bool → List (List Marked) → List (List Marked) → Type 0
+SameWhereAlone [] [] [] = Unit {0}
+SameWhereAlone (b ∷ bs) (w ∷ ws) (g ∷ gs) = (b ≡ true → g ≡ w) × SameWhereAlone bs ws gs
+SameWhereAlone _ _ _ = ⊥
 
 -- the parts that code keeps
 abbrev pub part_seen : KeptPart → BodyPart

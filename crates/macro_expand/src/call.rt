@@ -1,11 +1,11 @@
 // Calls of function-like macros (ISO C 6.10.3 paragraphs 10 and 11).
-ghost use Rattle.std.specs.Prelude.{◌≡◌, ◌⊎◌, ℕ, IfSome, ◌+◌, ◌-◌, ◌^◌, ◌<◌, ◌≤◌, ◌++◌, ◌∷◌, [], List, true, false, Some, None, map, length, IfOk, IfErr, OnOk, IsTrue, IsFalse};
+ghost use Rattle.std.specs.Prelude.{◌≡◌, ◌⊎◌, ℕ, IfSome, ◌+◌, ◌-◌, ◌^◌, ◌<◌, ◌≤◌, ◌++◌, ◌∷◌, [], if◌then◌else◌, List, true, false, Some, None, map, length, IfOk, IfErr, OnOk, IsTrue, IsFalse};
 ghost use Rattle.macro_expand.specs.Replacement.{Marked as MarkedToken};
 ghost use Rattle.macro_expand.specs.parts.Reading as reading;
 ghost use Rattle.macro_expand.specs.parts.Reading.{CutsCall, arguments_cut, call_mark, cut_from, cuts_for, ends_call, is_cut, nesting_after, read_arguments};
 ghost use Rattle.std.specs.List.{list_any};
 ghost use Rattle.macro_expand.specs.parts.Parts.{takes_written, parts_told};
-ghost use Rattle.macro_expand.specs.Seen.{marked_of, lists_of, part_seen, parts_seen, ReadsCall, RefusesCall, KeepsWritten};
+ghost use Rattle.macro_expand.specs.Seen.{marked_of, lists_of, part_seen, parts_seen, ReadsCall, RefusesCall, KeepsWritten, SameWhereAlone};
 ghost use Rattle.macro_expand.specs.parts.Stamps.{Stamps, Stamped, AllStamped, EachStamped, CutStamped, CallStamped};
 
 use crate::marked::Marked;
@@ -95,44 +95,67 @@ fn copied<'a>(alloc: Global, ts: &[Marked<'a>]) -> Result<Vec<Marked<'a>>, Alloc
     Ok(copy)
 }
 
-fn each_copied<'a>(
+// A copy of the tokens of an argument that stands `alone`, else no tokens.
+fn copied_alone<'a>(
     alloc: Global,
+    alone: bool,
+    ts: &[Marked<'a>],
+) -> Result<Vec<Marked<'a>>, AllocError>
+    ensures { IfOk result (λ copy. copy.items ≡ (if alone then ts.now else [])) }
+{
+    if alone {
+        copied(alloc, ts)
+    } else {
+        Ok(Vec::new(alloc))
+    }
+}
+
+// Copies of the arguments that stand `alone`, and no tokens in place of the others.
+fn each_copied_alone<'a>(
+    alloc: Global,
+    alone: &[bool],
     lists: &[Vec<Marked<'a>>],
 ) -> Result<Vec<Vec<Marked<'a>>>, AllocError>
-    ensures { IfOk result (λ copies. lists_of copies.items ≡ lists_of lists.now) }
+    requires { length alone.now ≡ length lists.now }
+    ensures same { IfOk result (λ copies. SameWhereAlone alone.now (lists_of lists.now) (lists_of copies.items)) }
+    ensures stamped { (sets : Stamps) (next : ℕ) → EachStamped sets next lists.now → IfOk result (λ copies. EachStamped sets next copies.items) }
 {
     let mut copies = Vec::with_capacity(alloc, lists.len())?;
-    for list in lists {
-        copies.push(copied(alloc, list.as_slice())?)?;
+    for i in 0..lists.len() {
+        let list = &lists[i];
+        let copy = copied_alone(alloc, alone[i], list.as_slice())?;
+        copies.push(copy)?;
     }
     Ok(copies)
 }
 
-// The arguments of a call, to be expanded, and the call with what its replacement needs of them as written: nothing where
-// there is no `#` and no `##`, so that they are moved.
+// The arguments of a call, to be expanded where they stand `alone`, and the call with what its replacement needs of them as
+// written: nothing where there is no `#` and no `##`, so that they are moved.
 pub(crate) fn with_kept<'a>(
     alloc: Global,
     parts: &Parts,
+    alone: &[bool],
     call: ReadCall<'a>,
 ) -> Result<(Vec<Vec<Marked<'a>>>, ReadCall<'a>), AllocError>
-    ensures written { IfOk result (λ r. lists_of r.0.items ≡ lists_of call.entry.written.items) }
+    requires { length alone.now ≡ length call.written.items }
+    ensures given { IfOk result (λ r. SameWhereAlone alone.now (lists_of call.entry.written.items) (lists_of r.0.items)) }
     ensures stamped { (sets : Stamps) (next : ℕ) → EachStamped sets next call.entry.written.items → IfOk result (λ r. EachStamped sets next r.0.items) }
     ensures close { IfOk result (λ r. r.1.close ≡ call.entry.close) }
     ensures kept { IfOk result (λ r. KeepsWritten (parts_told parts.now) (lists_of call.entry.written.items) (lists_of r.1.written.items)) }
 {
     let ReadCall { written, close } = call;
-    let kept = if parts.take_written() {
-        each_copied(alloc, written.as_slice())?
-    } else {
-        Vec::new(alloc)
-    };
-    Ok((
-        written,
-        ReadCall {
-            written: kept,
-            close,
-        },
-    ))
+    if !parts.take_written() {
+        let kept = Vec::new(alloc);
+        return Ok((
+            written,
+            ReadCall {
+                written: kept,
+                close,
+            },
+        ));
+    }
+    let given = each_copied_alone(alloc, alone, written.as_slice())?;
+    Ok((given, ReadCall { written, close }))
 }
 
 fn unclosed(alloc: Global, t: &Marked) -> RunError
@@ -245,6 +268,7 @@ impl<'a> Cutting<'a> {
     }
 
     // Ends the piece.
+    #[inline(always)]
     fn cut(&mut self, alloc: Global) -> Result<(), AllocError>
         requires { 0 < self.old.cuts }
         ensures pieces { OnOk result (self.new.pieces.items ≡ self.old.pieces.items ++ self.old.piece ∷ []) }
@@ -259,6 +283,7 @@ impl<'a> Cutting<'a> {
     }
 
     // The call that ends with this `)`, its last piece the one that grew.
+    #[inline(always)]
     fn ended(self, close: Marked<'a>) -> Result<ReadCall<'a>, AllocError>
         ensures pieces { IfOk result (λ call. lists_of call.written.items ≡ cut_from self.entry []) }
         ensures stamped { (sets : Stamps) (next : ℕ) → CutStamped sets next self.entry → IfOk result (λ call. EachStamped sets next call.written.items) }

@@ -5,7 +5,7 @@
 // it. A call's arguments are expanded before that, each by itself, by a recursion of depth 400 at most. Who answers which definition a name
 // has is a parameter (`Answers`), so that a table of macros and a choice among definitions share one loop. It ends, since each
 // replacement is paid for from `work`.
-ghost use Rattle.std.specs.Prelude.{◌≡◌, ◌⊎◌, ◌+◌, ◌<◌, ◌≤◌, ◌++◌, ◌∷◌, [], map, length, Ok, IfOk, IfErr, IsTrue, OnOk};
+ghost use Rattle.std.specs.Prelude.{◌≡◌, ◌⊎◌, ◌+◌, ◌<◌, ◌≤◌, ◌++◌, ◌∷◌, [], map, length, take, drop, Ok, IfOk, IfErr, IsTrue, OnOk};
 ghost use Rattle.macro_expand.specs.declared.marked.Role.TheVariants.{Name};
 ghost use Rattle.macro_expand.specs.Replacement.{unmarked};
 ghost use Rattle.macro_expand.specs.Expansion.{head_role};
@@ -13,12 +13,15 @@ ghost use Rattle.macro_expand.specs.Answered.{argument_for, arguments_for, expan
 ghost use Rattle.base_types.specs.Limits.{argument_depth_limit};
 ghost use Rattle.macro_expand.specs.parts.Naming.{StandAlone, called_for};
 ghost use Rattle.macro_expand.specs.parts.Steps.{StaysFor, EachStaysFor};
+ghost use Rattle.macro_defs.specs.Runs.{run_tokens};
+ghost use Rattle.macro_expand.specs.parts.Placing.{lent_in};
 ghost use Rattle.macro_expand.specs.parts.Stamps.{Stamps, Stamped, AllStamped, EachStamped, KeepsStamps, StampsAfter, ArePutIn, stamp_of};
 ghost use Rattle.macro_expand.specs.Seen.{marked_of, kept_token, lists_of, StepKeepsResult, Stops, public_of, HasTokens};
 ghost use Rattle.macro_expand.specs.parts.Parts.{parts_told};
 
 use crate::answers::Answers;
 use crate::builtin::{expand_file_name, expand_line_number};
+use crate::hide_set::HideSet;
 use crate::marked::{Marked, Role};
 use crate::name::{MacroCall, ReadName, read_name};
 use crate::operand::{expand_defined, has_operand};
@@ -28,9 +31,9 @@ use crate::replace::call_tokens;
 use base_types::List;
 use base_types::limits::ARGUMENT_DEPTH_LIMIT;
 use macro_defs::Run;
-use pp_tokens::Token;
+use pp_tokens::{Token, TokenCow};
 use std::alloc::{AllocError, Global};
-use std::collections::VecDeque;
+use std::mem::replace;
 
 #[tactic(auto, unfolding(crate::specs::Expansion::head_role))]
 #[inline(always)]
@@ -158,6 +161,28 @@ fn expand_argument<'s, S, A: Answers<S>>(
     )
 }
 
+// Takes an argument from its place, where nothing stays.
+#[inline(always)]
+fn take_argument<'s>(alloc: Global, lists: &mut Vec<Vec<Marked<'s>>>, i: usize) -> Vec<Marked<'s>>
+    requires { i < length lists.old.items }
+    ensures taken { drop i lists.old.items ≡ result ∷ drop (i + 1) lists.new.items }
+    ensures front { take i lists.new.items ≡ take i lists.old.items }
+    ensures same { length lists.new.items ≡ length lists.old.items }
+{
+    replace(&mut lists[i], Vec::new(alloc))
+}
+
+// Puts what an argument became in its place.
+#[inline(always)]
+fn put_argument<'s>(lists: &mut Vec<Vec<Marked<'s>>>, i: usize, expanded: Vec<Marked<'s>>)
+    requires { i < length lists.old.items }
+    ensures front { take (i + 1) lists.new.items ≡ take i lists.old.items ++ expanded.entry ∷ [] }
+    ensures behind { drop (i + 1) lists.new.items ≡ drop (i + 1) lists.old.items }
+    ensures same { length lists.new.items ≡ length lists.old.items }
+{
+    lists[i] = expanded;
+}
+
 // The arguments of a call of `t`, expanded by themselves where their parameters stand alone; for the others no tokens.
 #[cycle(expanding)]
 fn expand_arguments<'s, S, A: Answers<S>>(
@@ -185,27 +210,16 @@ fn expand_arguments<'s, S, A: Answers<S>>(
     ensures err { IfErr result (λ e. Stops e answers.new (arguments_for (A.answerer source.now) answers.old mode depth t.now.token
         (parts_told call.now.parts) 0 work.old.left (lists_of written.entry.items))) }
 {
-    let mut out = Vec::with_capacity(alloc, written.len())?;
-    let mut left = VecDeque::from_vec(written);
-    while let Some(argument) = left.pop_front() {
-        let alone = call.alone[out.len()];
+    let mut lists = written;
+    for i in 0..lists.len() {
+        let alone = call.alone[i];
+        let argument = take_argument(alloc, &mut lists, i);
         let expanded = expand_argument(
             alloc, source, answers, mode, depth, t, alone, argument, stamps, work,
         )?;
-        put_list(&mut out, expanded)?;
+        put_argument(&mut lists, i, expanded);
     }
-    Ok(out)
-}
-
-#[inline(always)]
-fn put_list<'s>(out: &mut Vec<Vec<Marked<'s>>>, ts: Vec<Marked<'s>>) -> Result<(), RunError>
-    ensures ok { OnOk result (out.new.items ≡ out.old.items ++ ts.entry ∷ []) }
-    ensures err { IfErr result (λ e. e ≡ RunError.Memory) }
-{
-    match out.push(ts) {
-        Ok(()) => Ok(()),
-        Err(_) => Err(RunError::Memory),
-    }
+    Ok(lists)
 }
 
 // Puts in what a name is replaced by, before the tokens that are pending, where the work for it can be paid.
@@ -228,6 +242,32 @@ fn put_in<'s>(
     charge(work, made.len())?;
     *stamps = stamps.saturating_add(1);
     pending.put_back(made)
+}
+
+// The same of the tokens of a replacement list, lent, for the name `t`.
+#[inline(always)]
+fn put_in_lent<'s>(
+    pending: &mut Pending<'s>,
+    stamps: &mut u32,
+    work: &mut Work,
+    t: &TokenCow,
+    hidden: &HideSet,
+    body: Run<'s>,
+) -> Result<(), RunError>
+    ensures stamps { stamps.old ≤ stamps.new }
+    ensures stamped { (sets : Stamps) → AllStamped sets stamps.old pending.old
+        → OnOk result ((after : Stamps) × (KeepsStamps sets stamps.old after × AllStamped after stamps.new pending.new)) }
+    ensures ok { OnOk result (pending.new ≡ lent_in t.now hidden.now (stamp_of stamps.old) (run_tokens body.entry) ++ pending.old) }
+    ensures paid { OnOk result (work.new.left + length (lent_in t.now hidden.now (stamp_of stamps.old) (run_tokens body.entry)) + 1 ≡ work.old.left) }
+    ensures spends { work.new.left ≤ work.old.left }
+    ensures shorter { OnOk result (work.new.left + length pending.new ≤ work.old.left + length pending.old) }
+    ensures err { IfErr result (λ e. (e ≡ RunError.Memory) ⊎ ((e ≡ RunError.Work)
+        × (work.old.left ≤ length (lent_in t.now hidden.now (stamp_of stamps.old) (run_tokens body.entry))))) }
+{
+    charge(work, body.len())?;
+    let given = *stamps;
+    *stamps = given.saturating_add(1);
+    pending.put_lent(t, hidden, stamp_of(given), body)
 }
 
 // The stamp that a replacement gets where so many were given: none where there is no greater number.
@@ -311,6 +351,7 @@ fn expand_name<'s, S, A: Answers<S>>(
     match read_name(alloc, source, answers, &t, stamp_of(*stamps), pending)? {
         ReadName::Itself => put(out, t),
         ReadName::Object(made) => put_in(pending, stamps, work, made),
+        ReadName::Lent(hidden, body) => put_in_lent(pending, stamps, work, &t.token, &hidden, body),
         ReadName::Call(written, call) => expand_call(
             alloc, source, answers, mode, depth, &t, &call, written, pending, stamps, work,
         ),

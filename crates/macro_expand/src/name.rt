@@ -3,20 +3,21 @@ ghost use Rattle.std.specs.Prelude.{◌≡◌, ℕ, ◌≤◌, map, length, Some
 ghost use Rattle.macro_defs.specs.declared.definition.Shape.TheVariants.{Object};
 ghost use Rattle.macro_defs.specs.Arguments.{parameters_in};
 ghost use Rattle.macro_expand.specs.Replacement.{body_parts};
-ghost use Rattle.macro_expand.specs.Expansion.{variable_of};
-ghost use Rattle.macro_expand.specs.Seen.{lists_of, KeepsWritten};
+ghost use Rattle.macro_expand.specs.Expansion.{variable_of, object_replacement};
+ghost use Rattle.macro_expand.specs.Seen.{marked_of, lists_of, KeepsWritten, SameWhereAlone, Reports};
 ghost use Rattle.macro_expand.specs.parts.Parts.{parts_told};
-ghost use Rattle.macro_expand.specs.parts.Naming.{StandAlone, ReadsName, KnowsAlone, NameStops};
+ghost use Rattle.macro_expand.specs.parts.Naming.{StandAlone, ReadsName, ReadsObject, KnowsAlone, NameStops};
 ghost use Rattle.macro_expand.specs.parts.Stamps.{Stamps, AllStamped, EachStamped, NameStamped};
 
 use crate::answers::Answers;
 use crate::call::{ReadCall, read_call, with_kept};
+use crate::hide_set::HideSet;
 use crate::marked::Marked;
 use crate::outcome::RunError;
 use crate::pending::Pending;
-use crate::replace::{Parts, object_tokens, variable_number};
+use crate::replace::{Parts, hidden_by_name, joined_tokens, variable_number, with_pasting};
 use base_types::Bytes;
-use macro_defs::Definition;
+use macro_defs::{Definition, Run};
 use std::alloc::{AllocError, Global};
 
 // A call of a function-like macro, but for its arguments to be expanded: the parts of the replacement list, which arguments
@@ -34,13 +35,15 @@ pub(crate) struct MacroCall<'d> {
 pub(crate) enum ReadName<'d> {
     // itself: it has no definition, or it is a function-like macro's and no `(` follows
     Itself,
-    // the tokens of an object-like macro's replacement
+    // the tokens of an object-like macro's replacement, which has a `##`
     Object(Vec<Marked<'d>>),
+    // the tokens of another one's replacement list, as they are lent there, and the names that they hide
+    Lent(HideSet, Run<'d>),
     // a call, with its arguments to be expanded
     Call(Vec<Vec<Marked<'d>>>, MacroCall<'d>),
 }
 
-// The call that was read of a macro with this definition and these parameters, and its arguments.
+// The call that was read of a macro with this definition and these parameters, and its arguments to be expanded.
 fn macro_call<'d>(
     alloc: Global,
     d: &'d Definition,
@@ -49,7 +52,7 @@ fn macro_call<'d>(
     read: ReadCall<'d>,
 ) -> Result<(Vec<Vec<Marked<'d>>>, MacroCall<'d>), AllocError>
     requires { d.now.shape ≡ Object → ⊥ }
-    ensures written { IfOk result (λ r. lists_of r.0.items ≡ lists_of read.entry.written.items) }
+    ensures given { IfOk result (λ r. SameWhereAlone r.1.alone.items (lists_of read.entry.written.items) (lists_of r.0.items)) }
     ensures stamped { (sets : Stamps) (next : ℕ) → EachStamped sets next read.entry.written.items → IfOk result (λ r. EachStamped sets next r.0.items) }
     ensures parts { IfOk result (λ r. parts_told r.1.parts ≡ body_parts (parameters_in d.now.shape) d.now.body) }
     ensures alone { IfOk result (λ r. StandAlone r.1.alone.items (length read.entry.written.items) (parts_told r.1.parts)) }
@@ -59,10 +62,10 @@ fn macro_call<'d>(
 {
     let parts = Parts::of(alloc, d)?;
     let alone = parts.standing_alone(alloc, read.written.len())?;
-    let (written, read) = with_kept(alloc, &parts, read)?;
+    let (given, read) = with_kept(alloc, &parts, alone.as_slice(), read)?;
     let variable = variable_number(params, variadic);
     Ok((
-        written,
+        given,
         MacroCall {
             parts,
             alone,
@@ -72,8 +75,27 @@ fn macro_call<'d>(
     ))
 }
 
-// What a name that isn't hidden from itself stands for. A call's tokens are taken from those that are pending. The tokens of an
-// object-like macro's replacement get this stamp.
+// What the name of an object-like macro stands for. Tokens that `##` makes get this stamp.
+fn read_object<'d>(
+    alloc: Global,
+    t: &Marked,
+    d: &'d Definition,
+    stamp: u32,
+) -> Result<ReadName<'d>, RunError>
+    ensures ok { IfOk result (λ name. ReadsObject t.now d.now.body name) }
+    ensures alone { IfOk result (λ name. KnowsAlone name) }
+    ensures stamped { (sets : Stamps) (next : ℕ) → IfOk result (λ name. NameStamped sets next stamp name) }
+    ensures err { IfErr result (λ e. Reports e (object_replacement (marked_of t.now) d.now.body)) }
+{
+    let hidden = hidden_by_name(alloc, t)?;
+    let Some(body) = with_pasting(d) else {
+        return Ok(ReadName::Lent(hidden, d.body()));
+    };
+    let made = joined_tokens(alloc, t, &hidden, stamp, body)?;
+    Ok(ReadName::Object(made))
+}
+
+// What a name that isn't hidden from itself stands for. A call's tokens are taken from those that are pending.
 pub(crate) fn read_name<'s, S, A: Answers<S>>(
     alloc: Global,
     source: &'s S,
@@ -92,12 +114,12 @@ pub(crate) fn read_name<'s, S, A: Answers<S>>(
         return Ok(ReadName::Itself);
     };
     let Some((names, variadic)) = d.params() else {
-        return Ok(ReadName::Object(object_tokens(alloc, t, d, stamp)?));
+        return Ok(read_object(alloc, t, d, stamp)?);
     };
     if !pending.take_open() {
         return Ok(ReadName::Itself);
     }
     let read = read_call(alloc, t, names, variadic, pending)?;
-    let (written, call) = macro_call(alloc, d, names, variadic, read)?;
-    Ok(ReadName::Call(written, call))
+    let (given, call) = macro_call(alloc, d, names, variadic, read)?;
+    Ok(ReadName::Call(given, call))
 }

@@ -133,6 +133,7 @@ fn paste_two<'t>(
 }
 
 // Puts out the operand on the left, where there is one.
+#[inline(always)]
 fn put_operand<'t>(out: &mut Vec<Marked<'t>>, left: Option<Marked<'t>>) -> Result<(), RunError>
     ensures ok { OnOk result (map marked_of out.new.items ≡ map marked_of out.old.items ++ operand_tokens (paste_operand left.entry)) }
     ensures err { IfErr result (λ e. e ≡ RunError.Memory) }

@@ -9,12 +9,15 @@ ghost use Rattle.macro_expand.specs.Stream.{lent_tokens};
 ghost use Rattle.macro_expand.specs.parts.Steps.{IsUntouched, EachUntouched, TakesUntouched, TakesEach, TakesDefined};
 ghost use Rattle.macro_defs.specs.Runs.{run_tokens};
 ghost use Rattle.macro_expand.specs.Seen.{marked_of, kept_plain, kept_token};
+ghost use Rattle.macro_expand.specs.parts.Placing.{lent_in};
 ghost use Rattle.macro_expand.specs.parts.Stamps.{Stamps, AllStamped};
 
+use crate::hide_set::HideSet;
 use crate::lent::Lent;
 use crate::marked::Marked;
 use crate::operand::defined_name;
 use crate::outcome::{Mode, RunError};
+use crate::placing::lend_before;
 use crate::run;
 use macro_defs::{MacroTable, Run};
 use pp_tokens::{TokenCow, TokenRef, Tokens};
@@ -149,6 +152,23 @@ impl<'a> Pending<'a> {
         true
     }
 
+    // Puts the tokens of a replacement list before the others, lent, as they are put in for `t`.
+    pub(crate) fn put_lent(
+        &mut self,
+        t: &TokenCow,
+        hidden: &HideSet,
+        stamp: u32,
+        body: Run<'a>,
+    ) -> Result<(), RunError>
+        ensures ok { OnOk result (self.new ≡ lent_in t.now hidden.now stamp (run_tokens body.entry) ++ self.old) }
+        ensures err { IfErr result (λ e. e ≡ RunError.Memory) }
+    {
+        match lend_before(&mut self.made, t, hidden, stamp, body) {
+            Ok(()) => Ok(()),
+            Err(_) => Err(RunError::Memory),
+        }
+    }
+
     // Puts tokens before the others.
     #[inline(always)]
     pub(crate) fn put_back(&mut self, made: Vec<Marked<'a>>) -> Result<(), RunError>
@@ -256,6 +276,7 @@ fn pop_first<'a>(made: &mut Vec<Marked<'a>>) -> Option<Marked<'a>>
 }
 
 // Puts tokens before others.
+#[inline(always)]
 fn put_before<'a>(pending: &mut Vec<Marked<'a>>, mut made: Vec<Marked<'a>>) -> Result<(), RunError>
     ensures ok { OnOk result (reverse pending.new.items ≡ made.entry.items ++ reverse pending.old.items) }
     ensures err { IfErr result (λ e. e ≡ RunError.Memory) }

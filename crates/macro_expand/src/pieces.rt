@@ -130,6 +130,7 @@ pub(crate) fn put_marked<'t>(out: &mut Vec<Marked<'t>>, m: Marked<'t>) -> Result
 }
 
 // Puts in copies of the tokens of an argument, the first with the parameter's space.
+#[inline(always)]
 pub(crate) fn put_copies<'t>(
     out: &mut Vec<Marked<'t>>,
     space: bool,

@@ -1,12 +1,11 @@
 // The tokens of a replacement as they are put in for a name (ISO C 6.10.3 paragraphs 9 and 10, 6.10.3.4).
-ghost use Rattle.std.specs.Prelude.{◌≡◌, ℕ, List, true, map, length, IfOk, IfSome, OnOk};
+ghost use Rattle.std.specs.Prelude.{◌≡◌, ◌++◌, ◌∷◌, [], ℕ, List, true, map, length, reverse, IfOk, IfSome, OnOk, MatchOption};
 ghost use Rattle.macro_expand.specs.Sets.{names_in};
-ghost use Rattle.macro_expand.specs.Replacement.{unmarked, with_space, put_in_for};
+ghost use Rattle.macro_expand.specs.Replacement.{with_space, put_in_for};
 ghost use Rattle.pp_tokens.specs.Tokens.{token_seen};
-ghost use Rattle.macro_defs.specs.MacroDefinition.{without_line};
 ghost use Rattle.macro_defs.specs.Runs.{run_tokens};
 ghost use Rattle.macro_expand.specs.Seen.{marked_of};
-ghost use Rattle.macro_expand.specs.parts.Placing.{placed, HasNamesOfBoth, KnowsUnion};
+ghost use Rattle.macro_expand.specs.parts.Placing.{placed, lent_at, with_space_of, lent_in, HasNamesOfBoth, KnowsUnion};
 ghost use Rattle.macro_expand.specs.parts.Stamps.{Fresh, AllFresh, Within, AllWithin};
 
 use crate::hide_set::HideSet;
@@ -157,8 +156,7 @@ fn lent_at<'t>(
     stamp: u32,
     u: TokenRef<'t>,
 ) -> Result<Marked<'t>, AllocError>
-    ensures placed { IfOk result (λ m. marked_of m ≡ placed line (names_in hidden.now) (unmarked (without_line (token_seen u.entry)))) }
-    ensures fresh { IfOk result (λ m. Fresh stamp hidden.now m) }
+    ensures { IfOk result (λ m. m ≡ lent_at line hidden.now stamp (token_seen u.entry)) }
 {
     let mut token = TokenCow::lent(u);
     token.set_line(line);
@@ -169,21 +167,73 @@ fn lent_at<'t>(
     })
 }
 
-// The tokens of a replacement list that stand for themselves, as they are put in for `t`.
-pub(crate) fn lend_for<'t>(
-    alloc: Global,
+// The same, with the space of the name.
+fn lent_first<'t>(
+    t: &TokenCow,
+    hidden: &HideSet,
+    stamp: u32,
+    u: TokenRef<'t>,
+) -> Result<Marked<'t>, AllocError>
+    ensures { IfOk result (λ m. m ≡ with_space_of t.now.space (lent_at t.now.line hidden.now stamp (token_seen u.entry))) }
+{
+    let mut first = lent_at(t.line(), hidden, stamp, u)?;
+    first.token.set_space(t.space());
+    Ok(first)
+}
+
+// The last token of a run, and the run before it. It costs the same however many there are.
+#[inline(always)]
+fn last_of<'t>(run: Run<'t>) -> Option<(Run<'t>, TokenRef<'t>)>
+    ensures { MatchOption result (run_tokens run.entry ≡ []) (λ p. run_tokens run.entry ≡ run_tokens p.0 ++ token_seen p.1 ∷ []) }
+{
+    match run {
+        Run::Listed(tokens) => {
+            let [front @ .., last] = tokens else {
+                return None;
+            };
+            Some((Run::Listed(front), last.as_ref()))
+        }
+        Run::Lexed(tokens) => {
+            let (front, mut behind) = tokens.split_at(tokens.len().saturating_sub(1));
+            match behind.next() {
+                Some(last) => Some((Run::Lexed(front), last)),
+                None => None,
+            }
+        }
+    }
+}
+
+// Puts tokens of a replacement list that stand for themselves before others, whose first stands last, as they are put in on this line.
+fn lend_each<'t>(
+    pending: &mut Vec<Marked<'t>>,
+    line: u32,
+    hidden: &HideSet,
+    stamp: u32,
+    mut body: Run<'t>,
+) -> Result<(), AllocError>
+    ensures { OnOk result (reverse pending.new.items ≡ map (lent_at line hidden.now stamp) (run_tokens body.entry) ++ reverse pending.old.items) }
+{
+    while let Some((front, u)) = last_of(body) {
+        pending.push(lent_at(line, hidden, stamp, u)?)?;
+        body = front;
+    }
+    Ok(())
+}
+
+// The same of a whole list, with the space of the name `t`.
+pub(crate) fn lend_before<'t>(
+    pending: &mut Vec<Marked<'t>>,
     t: &TokenCow,
     hidden: &HideSet,
     stamp: u32,
     mut body: Run<'t>,
-) -> Result<Vec<Marked<'t>>, AllocError>
-    ensures fresh { IfOk result (λ ts. AllFresh stamp hidden.now ts.items) }
-    ensures placed { IfOk result (λ ts. map marked_of ts.items ≡ put_in_for t.now (names_in hidden.now) (map unmarked (map without_line (run_tokens body.entry)))) }
+) -> Result<(), AllocError>
+    ensures { OnOk result (reverse pending.new.items ≡ lent_in t.now hidden.now stamp (run_tokens body.entry) ++ reverse pending.old.items) }
 {
-    let line = t.line();
-    let mut made = Vec::with_capacity(alloc, body.len())?;
-    while let Some(u) = body.next() {
-        made.push(lent_at(line, hidden, stamp, u)?)?;
-    }
-    Ok(spaced(made, t.space()))
+    let Some(first) = body.next() else {
+        return Ok(());
+    };
+    lend_each(pending, t.line(), hidden, stamp, body)?;
+    pending.push(lent_first(t, hidden, stamp, first)?)?;
+    Ok(())
 }

@@ -19,7 +19,7 @@ use crate::marked::Marked;
 use crate::outcome::RunError;
 use crate::paste::join_pieces;
 use crate::pieces::{Arguments, read_pieces, read_tokens};
-use crate::placing::{Stamping, lend_for, put_in_for};
+use crate::placing::{Stamping, put_in_for};
 use crate::token_parts::TokenParts;
 use base_types::Bytes;
 use macro_defs::{Definition, Run};
@@ -338,7 +338,7 @@ fn replaced<'d>(
 }
 
 // The names that an object-like macro's replacement hides: those of its name, and itself (6.10.3.4).
-fn hidden_by_name(alloc: Global, t: &Marked) -> Result<HideSet, AllocError>
+pub(crate) fn hidden_by_name(alloc: Global, t: &Marked) -> Result<HideSet, AllocError>
     ensures { IfOk result (λ h. (n : List ℕ) → names_in h n ≡ with_name t.now.token.text (names_in t.now.hidden) n) }
 {
     t.hidden.with(alloc, t.token.text())
@@ -372,7 +372,7 @@ fn has_pasting(body: &[Token]) -> bool
 
 // The replacement list, where it has a `##`.
 #[inline(always)]
-fn with_pasting<'d>(d: &'d Definition) -> Option<&'d [Token]>
+pub(crate) fn with_pasting<'d>(d: &'d Definition) -> Option<&'d [Token]>
     ensures { MatchOption result (list_any is_pasting d.now.body ≡ false) (λ body. map without_line body.now ≡ d.now.body) }
 {
     match d.body() {
@@ -382,7 +382,7 @@ fn with_pasting<'d>(d: &'d Definition) -> Option<&'d [Token]>
 }
 
 // What the name of an object-like macro is replaced by that has a `##`.
-fn joined_tokens<'d>(
+pub(crate) fn joined_tokens<'d>(
     alloc: Global,
     t: &Marked,
     hidden: &HideSet,
@@ -406,25 +406,6 @@ fn joined_tokens<'d>(
         made: stamp,
     };
     replaced(alloc, t, hidden, stamping, &parts, &arguments)
-}
-
-// What the name of an object-like macro is replaced by.
-pub(crate) fn object_tokens<'d>(
-    alloc: Global,
-    t: &Marked,
-    d: &'d Definition,
-    stamp: u32,
-) -> Result<Vec<Marked<'d>>, RunError>
-    ensures fresh { IfOk result (λ ts. ArePutIn stamp ts.items) }
-    ensures ok { IfOk result (λ ts. object_replacement (marked_of t.now) d.now.body ≡ Ok (map marked_of ts.items)) }
-    ensures err { IfErr result (λ e. Reports e (object_replacement (marked_of t.now) d.now.body)) }
-{
-    let hidden = hidden_by_name(alloc, t)?;
-    if let Some(body) = with_pasting(d) {
-        return joined_tokens(alloc, t, &hidden, stamp, body);
-    }
-    let made = lend_for(alloc, &t.token, &hidden, stamp, d.body())?;
-    Ok(made)
 }
 
 // What a call is replaced by.

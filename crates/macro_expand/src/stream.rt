@@ -210,7 +210,7 @@ impl<'a> Expander<'a> {
     }
 
     // Takes steps until one puts out tokens, and gives the first of them.
-    #[inline(never)]
+    #[inline(always)]
     fn step(&mut self, work: &mut Work) -> Result<Option<TokenCow<'a>>, ExpandError>
         requires going { self.old.standing ≡ Standing.Going }
         requires empty { self.old.ready ≡ [] }

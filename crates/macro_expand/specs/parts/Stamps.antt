@@ -5,7 +5,7 @@ use Rattle.macro_expand.specs.declared.marked.Marked.{Marked as Kept}
 use Rattle.macro_expand.specs.declared.call.ReadCall.{ReadCall}
 use Rattle.macro_expand.specs.declared.call.Cutting.{Cutting}
 use Rattle.macro_expand.specs.declared.name.ReadName.{ReadName}
-use Rattle.macro_expand.specs.declared.name.ReadName.TheVariants.{Itself, Object, Call}
+use Rattle.macro_expand.specs.declared.name.ReadName.TheVariants.{Itself, Object, Lent, Call}
 use Rattle.macro_expand.specs.Sets.{names_in}
 
 -- each token of a list passes
@@ -71,10 +71,11 @@ CutStamped sets next c = EachStamped sets next c.pieces.items × AllStamped sets
 abbrev pub CallStamped : Stamps → ℕ → ReadCall → Type 0
 CallStamped sets next c = EachStamped sets next c.written.items × Stamped sets next c.close
 
--- what was read of a name: a replacement that was put in with this stamp, or a call
+-- what was read of a name: a replacement that `##` made with this stamp, or a call
 abbrev pub NameStamped : Stamps → ℕ → ℕ → ReadName → Type 0
 NameStamped sets next stamp Itself = Unit {0}
 NameStamped sets next stamp (Object made) = ArePutIn stamp made.items
+NameStamped sets next stamp (Lent hidden body) = Unit {0}
 NameStamped sets next stamp (Call written call) = EachStamped sets next written.items × Stamped sets next call.read.close
 
 -- after a step the stamps that were given before stand for the same sets, with those that it gave

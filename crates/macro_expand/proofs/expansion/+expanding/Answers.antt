@@ -1,7 +1,7 @@
-use Rattle.std.proofs.Common.{rules, List, map, length, ◌∷◌, refl, ap, sym, subst, ◌∙◌, arith}
-use Rattle.std.proofs.lemmas.List.{nil_from_length}
+use Rattle.std.proofs.Common.{rules, Ok, List, map, length, take, drop, ◌≡◌, ◌+◌, ◌<◌, ◌∷◌, ◌++◌, [], refl, ap, sym, subst, ◌∙◌, arith}
+use Rattle.std.proofs.lemmas.List.{take_all}
 use Rattle.std.proofs.lemmas.Result.{err_from_is_err_and}
-use Rattle.macro_expand.specs.Answered.{expanded_for, arguments_for}
+use Rattle.macro_expand.specs.Answered.{expanded_for, charged_for, arguments_for}
 use Rattle.macro_expand.specs.declared.marked.Marked.{Marked as Kept}
 use Rattle.macro_expand.specs.parts.Naming.{named_for, called_for}
 use Rattle.macro_expand.specs.parts.Steps.{EachStaysFor}
@@ -9,9 +9,12 @@ use Rattle.macro_expand.specs.Seen.{marked_of, lists_of}
 use Rattle.macro_expand.specs.parts.Parts.{parts_told}
 use Rattle.macro_expand.proofs.AnsweredLaws.{before-nothing, before_all-nothing}
 use Rattle.macro_expand.proofs.LoopLaws.{Stops-is, on_ok-map, on_ok-both, if_err-map, put_in-paid, put_in-stops, goes_on-left, goes_on-behind, goes_on-ordinary, keeps_step, stops_step, keeps_end}
-use Rattle.macro_expand.specs.parts.Stamps.{Stamped, AllStamped, Alike, NameStamped, ArePutIn}
+use Rattle.macro_defs.specs.Runs.{run_tokens}
+use Rattle.macro_expand.specs.parts.Placing.{lent_in}
+use Rattle.macro_expand.specs.parts.Stamps.{Stamped, AllStamped, EachStamped, Alike, NameStamped, ArePutIn, stamp_of}
+use Rattle.macro_expand.proofs.PlacingLemmas.{lent-placed}
 use Rattle.macro_expand.proofs.StampLaws.{all-push, all-map, each-map, stamped-later, alike-stamped, arguments-turn, argument-stamped, stamps-turn, head-stamped, call-stamped, with-out}
-use Rattle.macro_expand.proofs.NameLaws.{argument_skipped, argument_deep, argument_staying, argument_made, argument_fails, argument_stops, call_replaced, paste_stops, turn_expanded, turn_stops, arguments_end, stands_next, one_moved}
+use Rattle.macro_expand.proofs.NameLaws.{argument_skipped, argument_deep, argument_staying, argument_made, argument_fails, argument_stops, call_replaced, paste_stops, stands_is, turn_expanded, turn_stops, arguments_end}
 use Rattle.macro_expand.proofs.expansion.+expanding.Goals as goal
 
 pub expand_argument-returns-then-not-alone-clause-ok : goal.expand_argument-returns-then-not-alone-clause-ok
@@ -42,54 +45,59 @@ expand_argument-returns-clause-err g t c =
     c.if-not-alone.false c.if-depth-ge-ARGUMENT_DEPTH_LIMIT.false c.args.argument.items refl c.expand_list.new.answers
     c.expand_list.new.work.left c.expand_list.result c.expand_list.ensures.err
 
-pub expand_arguments-loop-argument-init : goal.expand_arguments-loop-argument-init
-expand_arguments-loop-argument-init g t c =
-    rw (c.in_ok-out.ensures.items, c.from_vec-left.ensures.items)
-    (sym (before_all-nothing _), (omega (arith, c.requires.alone.0), (omega arith, (omega arith, λ sets each. (sets, ((λ k below. refl), (tt, each)))))))
+pub expand_arguments-loop-i-init : goal.expand_arguments-loop-i-init
+expand_arguments-loop-i-init g t c =
+    record {
+      becomes = sym (before_all-nothing _);
+      same = refl;
+      spends = omega arith;
+      later = omega arith;
+      stamped = λ sets each. (sets, ((λ k below. refl), (tt, each)));
+    }
 
 pub expand_arguments-returns-in_err-expanded-clause-err : goal.expand_arguments-returns-in_err-expanded-clause-err
 expand_arguments-returns-in_err-expanded-clause-err g t c =
-    let p = err_from_is_err_and c.from_residual-in_err-expanded.result c.from_residual-in_err-expanded.ensures.1 in
-    rw (p.1, p.2) (turn_stops (g.A.Answers.answerer c.args.source.now) c.loop-argument.answers c.args.mode c.args.depth c.args.t.now.token (parts_told c.args.call.now.parts)
+    let p = err_from_is_err_and c.from_residual.result c.from_residual.ensures.1 in
+    let below : c.loop-i.i < length c.args.written.items = omega (arith, c.loop-i.invariant.same) in
+    rw (p.1, p.2) (turn_stops (g.A.Answers.answerer c.args.source.now) c.loop-i.answers c.args.mode c.args.depth c.args.t.now.token (parts_told c.args.call.now.parts)
     (arguments_for (g.A.Answers.answerer c.args.source.now) c.args.answers.now c.args.mode c.args.depth c.args.t.now.token (parts_told c.args.call.now.parts) 0
-    c.args.work.now.left (lists_of c.args.written.items)) c.loop-argument.out.items
-    c.loop-argument.left.items c.pop_front.new.self.items c.loop-argument.work.left c.in-Some.argument c.in-Some.ensures.items c.loop-argument.invariant.0 c.index-alone.result.now
-    (stands_next c.args.call.now.alone.items _ c.len-in-Some.result c.loop-argument.out.items c.loop-argument.left.items c.pop_front.new.self.items c.in-Some.argument
-    (parts_told c.args.call.now.parts) c.index-alone.result.now c.requires.alone.0 c.requires.alone.1 c.loop-argument.invariant.1.0 c.in-Some.ensures.items
-    (omega (arith, c.len-in-Some.ensures, c.loop-argument.out.ok.0)) c.index-alone.ensures)
+    c.args.work.now.left (lists_of c.args.written.items))
+    (take c.loop-i.i c.loop-i.lists.items) (drop c.loop-i.i c.loop-i.lists.items) (drop (c.loop-i.i + 1) c.take_argument-argument.new.lists.items) c.loop-i.i c.loop-i.work.left
+    c.take_argument-argument.result c.take_argument-argument.ensures.taken c.loop-i.invariant.becomes c.index-alone.result.now
+    (stands_is c.args.call.now.alone.items (length c.args.written.items) c.loop-i.i (parts_told c.args.call.now.parts) c.index-alone.result.now c.requires.alone.0
+    c.requires.alone.1 below c.index-alone.ensures)
     c.expand_argument.new.answers _ c.in_err-expanded.ensures.err)
 
-pub expand_arguments-loop-argument-preserved : goal.expand_arguments-loop-argument-preserved
-expand_arguments-loop-argument-preserved g t c = (
-  turn_expanded (g.A.Answers.answerer c.args.source.now) c.loop-argument.answers c.args.mode c.args.depth c.args.t.now.token (parts_told c.args.call.now.parts)
-      (arguments_for (g.A.Answers.answerer c.args.source.now) c.args.answers.now c.args.mode c.args.depth c.args.t.now.token (parts_told c.args.call.now.parts) 0
-      c.args.work.now.left (lists_of c.args.written.items)) c.loop-argument.out.items
-      c.loop-argument.left.items c.pop_front.new.self.items c.loop-argument.work.left c.in-Some.argument c.in-Some.ensures.items c.loop-argument.invariant.0 c.index-alone.result.now
-      (stands_next c.args.call.now.alone.items _ c.len-in-Some.result c.loop-argument.out.items c.loop-argument.left.items c.pop_front.new.self.items c.in-Some.argument
-      (parts_told c.args.call.now.parts) c.index-alone.result.now c.requires.alone.0 c.requires.alone.1 c.loop-argument.invariant.1.0 c.in-Some.ensures.items
-      (omega (arith, c.len-in-Some.ensures, c.loop-argument.out.ok.0)) c.index-alone.ensures)
-      c.put_list.new.out.items c.in_ok-expanded.expanded c.expand_argument.new.answers c.expand_argument.new.work.left c.in_ok-put_list.ensures.ok c.in_ok-expanded.ensures.ok,
-  (
-    one_moved c.loop-argument.out.items c.put_list.new.out.items c.loop-argument.left.items c.pop_front.new.self.items c.in_ok-expanded.expanded c.in-Some.argument _
-        c.in_ok-put_list.ensures.ok c.in-Some.ensures.items c.loop-argument.invariant.1.0,
-    (
-      omega (arith, c.in_ok-expanded.ensures.spends, c.loop-argument.invariant.1.1.0),
-      (
-        omega (arith, c.in_ok-expanded.ensures.stamps, c.loop-argument.invariant.1.1.1.0),
-        λ sets each.
-            arguments-turn sets c.args.stamps.now c.loop-argument.stamps c.expand_argument.new.stamps c.in-Some.argument c.in_ok-expanded.expanded c.loop-argument.out.items c.loop-argument.left.items
-            c.pop_front.new.self.items c.put_list.new.out.items c.loop-argument.invariant.1.1.1.0 c.in_ok-expanded.ensures.stamps c.in-Some.ensures.items c.in_ok-put_list.ensures.ok
-            (c.loop-argument.invariant.1.1.1.1 sets each) c.in_ok-expanded.ensures.stamped,
-      ),
-    ),
-  ),
-)
+pub expand_arguments-loop-i-preserved : goal.expand_arguments-loop-i-preserved
+expand_arguments-loop-i-preserved g t c =
+    let below : c.loop-i.i < length c.args.written.items = omega (arith, c.loop-i.invariant.same) in
+    let taken : drop c.loop-i.i c.loop-i.lists.items ≡ c.take_argument-argument.result ∷ drop (c.loop-i.i + 1) c.put_argument.new.lists.items =
+    c.take_argument-argument.ensures.taken ∙ ap (λ l. c.take_argument-argument.result ∷ l) (sym c.put_argument.ensures.behind) in
+    let put : take (c.loop-i.i + 1) c.put_argument.new.lists.items ≡ take c.loop-i.i c.loop-i.lists.items ++ c.in_ok-expanded.expanded ∷ [] =
+    c.put_argument.ensures.front ∙ ap (λ l. l ++ c.in_ok-expanded.expanded ∷ []) c.take_argument-argument.ensures.front in
+    record {
+      becomes = turn_expanded (g.A.Answers.answerer c.args.source.now) c.loop-i.answers c.args.mode c.args.depth c.args.t.now.token (parts_told c.args.call.now.parts)
+          (arguments_for (g.A.Answers.answerer c.args.source.now) c.args.answers.now c.args.mode c.args.depth c.args.t.now.token (parts_told c.args.call.now.parts) 0
+          c.args.work.now.left (lists_of c.args.written.items))
+          (take c.loop-i.i c.loop-i.lists.items) (drop c.loop-i.i c.loop-i.lists.items) (drop (c.loop-i.i + 1) c.put_argument.new.lists.items) c.loop-i.i c.loop-i.work.left
+          c.take_argument-argument.result taken c.loop-i.invariant.becomes c.index-alone.result.now
+          (stands_is c.args.call.now.alone.items (length c.args.written.items) c.loop-i.i (parts_told c.args.call.now.parts) c.index-alone.result.now c.requires.alone.0
+          c.requires.alone.1 below c.index-alone.ensures)
+          (take (c.loop-i.i + 1) c.put_argument.new.lists.items) c.in_ok-expanded.expanded c.expand_argument.new.answers c.expand_argument.new.work.left put c.in_ok-expanded.ensures.ok;
+      same = c.put_argument.ensures.same ∙ c.take_argument-argument.ensures.same ∙ c.loop-i.invariant.same;
+      spends = omega (arith, c.in_ok-expanded.ensures.spends, c.loop-i.invariant.spends);
+      later = omega (arith, c.in_ok-expanded.ensures.stamps, c.loop-i.invariant.later);
+      stamped = λ sets each.
+          arguments-turn sets c.args.stamps.now c.loop-i.stamps c.expand_argument.new.stamps c.take_argument-argument.result c.in_ok-expanded.expanded
+          (take c.loop-i.i c.loop-i.lists.items) (drop c.loop-i.i c.loop-i.lists.items) (drop (c.loop-i.i + 1) c.put_argument.new.lists.items)
+          (take (c.loop-i.i + 1) c.put_argument.new.lists.items) c.loop-i.invariant.later c.in_ok-expanded.ensures.stamps taken put
+          (c.loop-i.invariant.stamped sets each) c.in_ok-expanded.ensures.stamped;
+    }
 
 pub expand_arguments-returns-clause-ok : goal.expand_arguments-returns-clause-ok
 expand_arguments-returns-clause-ok g t c =
-    arguments_end (g.A.Answers.answerer c.args.source.now) c.loop-argument.answers c.args.mode c.args.depth c.args.t.now.token (parts_told c.args.call.now.parts) _
-    (lists_of c.loop-argument.out.items) c.loop-argument.left.items (length c.loop-argument.out.items) c.loop-argument.work.left
-    (nil_from_length c.loop-argument.left.items (omega (arith, c.in_default.ensures.cases.0, c.loop-argument.left.ok.0))) c.loop-argument.invariant.0
+    arguments_end (g.A.Answers.answerer c.args.source.now) c.loop-i.answers c.args.mode c.args.depth c.args.t.now.token (parts_told c.args.call.now.parts) _
+    c.loop-i.lists.items c.loop-i.i c.loop-i.work.left (omega (arith, c.loop-i.invariant.same, c.loop-i-test.false)) c.loop-i.invariant.becomes
 
 pub expand_call-returns-in_err-expanded-clause-err : goal.expand_call-returns-in_err-expanded-clause-err
 expand_call-returns-in_err-expanded-clause-err g t c =
@@ -189,6 +197,27 @@ expand_name-returns-in-Object-clause-err g t c =
     (c.in_ok-read_name.ensures.ok c.args.mode c.args.depth c.args.work.now.left c.requires.role
     ∙ ap (λ n. named_for (g.A.Answers.answerer c.args.source.now) c.read_name.new.answers c.args.mode c.args.depth c.args.work.now.left c.args.t n (map marked_of c.read_name.new.pending)) c.in-Object.is) c.put_in.result c.put_in.ensures.err
 
+pub expand_name-returns-in-Lent-clause-ok : goal.expand_name-returns-in-Lent-clause-ok
+expand_name-returns-in-Lent-clause-ok g t c =
+    on_ok-both c.put_in_lent.result
+    (λ joined paid. goes_on-behind (g.A.Answers.answerer c.args.source.now) c.args.mode c.args.depth c.args.answers.now c.read_name.new.answers c.args.work.now.left c.put_in_lent.new.work.left c.args.t c.args.out.now.items
+    c.args.pending.now c.put_in_lent.new.pending
+    (put_in-paid (g.A.Answers.answerer c.args.source.now) c.args.mode c.args.depth c.read_name.new.answers c.args.work.now.left (lent_in c.args.t.token c.in-Lent.hidden (stamp_of c.args.stamps.now) (run_tokens c.in-Lent.body)) c.read_name.new.pending
+    (expanded_for (g.A.Answers.answerer c.args.source.now) c.args.answers.now c.args.mode c.args.depth c.args.work.now.left (marked_of c.args.t ∷ map marked_of c.args.pending.now))
+    (c.in_ok-read_name.ensures.ok c.args.mode c.args.depth c.args.work.now.left c.requires.role
+    ∙ ap (λ n. named_for (g.A.Answers.answerer c.args.source.now) c.read_name.new.answers c.args.mode c.args.depth c.args.work.now.left c.args.t n (map marked_of c.read_name.new.pending)) c.in-Lent.is
+    ∙ ap (λ ms. charged_for (g.A.Answers.answerer c.args.source.now) c.read_name.new.answers c.args.mode c.args.depth c.args.work.now.left (Ok ms) (map marked_of c.read_name.new.pending))
+    (sym (lent-placed c.args.t.token c.in-Lent.hidden (stamp_of c.args.stamps.now) (run_tokens c.in-Lent.body)))) c.put_in_lent.new.work.left c.put_in_lent.new.pending joined paid)) c.put_in_lent.ensures.ok c.put_in_lent.ensures.paid
+
+pub expand_name-returns-in-Lent-clause-err : goal.expand_name-returns-in-Lent-clause-err
+expand_name-returns-in-Lent-clause-err g t c =
+    put_in-stops (g.A.Answers.answerer c.args.source.now) c.args.mode c.args.depth c.read_name.new.answers c.args.work.now.left (lent_in c.args.t.token c.in-Lent.hidden (stamp_of c.args.stamps.now) (run_tokens c.in-Lent.body)) c.read_name.new.pending
+    (expanded_for (g.A.Answers.answerer c.args.source.now) c.args.answers.now c.args.mode c.args.depth c.args.work.now.left (marked_of c.args.t ∷ map marked_of c.args.pending.now))
+    (c.in_ok-read_name.ensures.ok c.args.mode c.args.depth c.args.work.now.left c.requires.role
+    ∙ ap (λ n. named_for (g.A.Answers.answerer c.args.source.now) c.read_name.new.answers c.args.mode c.args.depth c.args.work.now.left c.args.t n (map marked_of c.read_name.new.pending)) c.in-Lent.is
+    ∙ ap (λ ms. charged_for (g.A.Answers.answerer c.args.source.now) c.read_name.new.answers c.args.mode c.args.depth c.args.work.now.left (Ok ms) (map marked_of c.read_name.new.pending))
+    (sym (lent-placed c.args.t.token c.in-Lent.hidden (stamp_of c.args.stamps.now) (run_tokens c.in-Lent.body)))) c.put_in_lent.result c.put_in_lent.ensures.err
+
 pub expand_name-returns-in-Call-clause-ok : goal.expand_name-returns-in-Call-clause-ok
 expand_name-returns-in-Call-clause-ok g t c =
     on_ok-map c.expand_call.result
@@ -213,18 +242,15 @@ pub expand_argument-returns-then-stay-clause-stamped : goal.expand_argument-retu
 expand_argument-returns-then-stay-clause-stamped g t c sets all = (sets, ((λ k below. refl), (tt, all)))
 
 pub expand_arguments-returns-in_err-expanded-clause-stamps : goal.expand_arguments-returns-in_err-expanded-clause-stamps
-expand_arguments-returns-in_err-expanded-clause-stamps g t c = omega (arith, c.in_err-expanded.ensures.stamps, c.loop-argument.invariant.1.1.1.0)
-
-pub expand_arguments-returns-in_err-put_list-clause-stamps : goal.expand_arguments-returns-in_err-put_list-clause-stamps
-expand_arguments-returns-in_err-put_list-clause-stamps g t c = omega (arith, c.in_ok-expanded.ensures.stamps, c.loop-argument.invariant.1.1.1.0)
+expand_arguments-returns-in_err-expanded-clause-stamps g t c = omega (arith, c.in_err-expanded.ensures.stamps, c.loop-i.invariant.later)
 
 pub expand_arguments-returns-clause-stamps : goal.expand_arguments-returns-clause-stamps
-expand_arguments-returns-clause-stamps g t c = c.loop-argument.invariant.1.1.1.0
+expand_arguments-returns-clause-stamps g t c = c.loop-i.invariant.later
 
 pub expand_arguments-returns-clause-stamped : goal.expand_arguments-returns-clause-stamped
 expand_arguments-returns-clause-stamped g t c sets each =
-    let st = c.loop-argument.invariant.1.1.1.1 sets each in
-    (st.0, (st.1.0, st.1.1.0))
+    let st = c.loop-i.invariant.stamped sets each in
+    (st.0, (st.1.0, subst (EachStamped st.0 c.loop-i.stamps) (take_all c.loop-i.i c.loop-i.lists.items (omega (arith, c.loop-i.invariant.same, c.loop-i-test.false))) st.1.1.0))
 
 pub expand_call-call_tokens-requires-clause-alike : goal.expand_call-call_tokens-requires-clause-alike
 expand_call-call_tokens-requires-clause-alike g t c =
@@ -289,6 +315,12 @@ expand_name-returns-in-Object-clause-stamped g t c sets of_t pending out =
     on_ok-map c.put_in.result (with-out sets c.args.stamps.now c.put_in.new.stamps c.put_in.new.pending c.args.out.now.items c.put_in.ensures.stamps out)
     (c.put_in.ensures.stamped sets (subst (λ n. ArePutIn n c.in-Object.made.items) c.stamp_of.ensures made) read.0)
 
+pub expand_name-returns-in-Lent-clause-stamped : goal.expand_name-returns-in-Lent-clause-stamped
+expand_name-returns-in-Lent-clause-stamped g t c sets of_t pending out =
+    let read = c.in_ok-read_name.ensures.stamped sets c.args.stamps.now pending in
+    on_ok-map c.put_in_lent.result (with-out sets c.args.stamps.now c.put_in_lent.new.stamps c.put_in_lent.new.pending c.args.out.now.items c.put_in_lent.ensures.stamps out)
+    (c.put_in_lent.ensures.stamped sets read.0)
+
 pub expand_name-returns-in-Call-clause-stamped : goal.expand_name-returns-in-Call-clause-stamped
 expand_name-returns-in-Call-clause-stamped g t c sets of_t pending out =
     let read = c.in_ok-read_name.ensures.stamped sets c.args.stamps.now pending in
@@ -321,8 +353,8 @@ expand_arguments-expand_argument-requires g t c = λ κs lives. (
       lives.1,
       (
         c.requires.shallow,
-        argument-stamped c.requires.stamped.0 c.args.stamps.now c.loop-argument.stamps c.in-Some.argument c.loop-argument.out.items c.loop-argument.left.items c.pop_front.new.self.items
-            c.in-Some.ensures.items (c.loop-argument.invariant.1.1.1.1 c.requires.stamped.0 c.requires.stamped.1),
+        argument-stamped c.requires.stamped.0 c.args.stamps.now c.loop-i.stamps c.take_argument-argument.result (take c.loop-i.i c.loop-i.lists.items) (drop c.loop-i.i c.loop-i.lists.items)
+            (drop (c.loop-i.i + 1) c.take_argument-argument.new.lists.items) c.take_argument-argument.ensures.taken (c.loop-i.invariant.stamped c.requires.stamped.0 c.requires.stamped.1),
       ),
     ),
   ),

@@ -1,4 +1,4 @@
-use Rattle.std.proofs.Common.{◌≡◌, ◌+◌, ◌-◌, ◌*◌, ◌≤◌, map, length, deque_len}
+use Rattle.std.proofs.Common.{◌≡◌, ◌+◌, ◌-◌, ◌*◌, ◌≤◌, map, length, take, drop}
 use Rattle.base_types.specs.Limits.{argument_depth_limit}
 use Rattle.macro_expand.specs.Answered.{before, expanded_for, arguments_for}
 use Rattle.macro_expand.specs.Seen.{marked_of, lists_of}
@@ -28,17 +28,18 @@ abbrev pub decreases-expand_argument : goal.decreases-expand_argument
 decreases-expand_argument g l = 6 * (argument_depth_limit - l.depth)
 
 -- the arguments expanded so far, before what the others become with the work that is left
-abbrev pub invariant-expand_arguments-loop-argument : goal.invariant-expand_arguments-loop-argument
-invariant-expand_arguments-loop-argument g l =
-    (arguments_for (g.A.Answers.answerer l.source) l.initial.answers l.mode l.depth l.t.token (parts_told l.call.parts) 0 l.initial.work.left (lists_of l.fn.written.items)
-    ≡ before_all (lists_of l.out.items)
-    (arguments_for (g.A.Answers.answerer l.source) l.answers l.mode l.depth l.t.token (parts_told l.call.parts) (length l.out.items) l.work.left (lists_of l.left.items)))
-    × ((length l.out.items + length l.left.items ≡ length l.call.alone.items) × ((l.work.left ≤ l.initial.work.left)
-    × ((l.initial.stamps ≤ l.stamps)
-    × ((sets : Stamps) → EachStamped sets l.initial.stamps l.fn.written.items → ArgumentsAfter sets l.initial.stamps l.stamps l.out.items l.left.items))))
-
-abbrev pub decreases-expand_arguments-loop-argument : goal.decreases-expand_arguments-loop-argument
-decreases-expand_arguments-loop-argument g l = deque_len l.left
+abbrev pub invariant-expand_arguments-loop-i : goal.invariant-expand_arguments-loop-i
+invariant-expand_arguments-loop-i g l =
+    record {
+      becomes : arguments_for (g.A.Answers.answerer l.source) l.initial.answers l.mode l.depth l.t.token (parts_told l.call.parts) 0 l.initial.work.left (lists_of l.fn.written.items)
+          ≡ before_all (lists_of (take l.i l.lists.items))
+          (arguments_for (g.A.Answers.answerer l.source) l.answers l.mode l.depth l.t.token (parts_told l.call.parts) l.i l.work.left (lists_of (drop l.i l.lists.items)));
+      same : length l.lists.items ≡ length l.fn.written.items;
+      spends : l.work.left ≤ l.initial.work.left;
+      later : l.initial.stamps ≤ l.stamps;
+      stamped : (sets : Stamps) → EachStamped sets l.initial.stamps l.fn.written.items
+          → ArgumentsAfter sets l.initial.stamps l.stamps (take l.i l.lists.items) (drop l.i l.lists.items);
+    }
 
 -- the tokens put out so far, before what the pending tokens become with the work that is left
 abbrev pub invariant-expand_list-loop-t : goal.invariant-expand_list-loop-t

@@ -1,4 +1,4 @@
-use Rattle.std.proofs.Common.{reverse, length, sym, ap, ◌∙◌, arith}
+use Rattle.std.proofs.Common.{reverse, sym, ap, ◌∙◌, arith}
 use Rattle.std.proofs.lemmas.Option.{IfSome_then}
 use Rattle.pp_tokens.specs.Tokens.{token_seen}
 use Rattle.macro_expand.specs.Stream.{Stream}
