@@ -1,5 +1,5 @@
 -- What a directive is to the nesting, by its name.
-use Rattle.std.specs.Prelude.{◌≡◌, ◌<◌, ℕ, zero, suc, length, map, get_or, false, List, [], ◌∷◌, ◌++◌, refl, ◌⊎◌}
+use Rattle.std.specs.Prelude.{◌≡◌, ◌<◌, ℕ, zero, suc, length, map, drop, get_or, false, List, [], ◌∷◌, ◌++◌, refl, ◌⊎◌}
 use Rattle.std.proofs.Common.{sym, ◌∙◌, ap, inr, arith, subst}
 use Rattle.std.proofs.lemmas.List.{length-map}
 use Rattle.pp_tokens.specs.Lines.{LexedFile}
@@ -12,10 +12,15 @@ use Rattle.directive_scan.specs.declared.role.Nesting.{Nesting}
 use Rattle.directive_scan.specs.declared.role.Nesting.TheVariants as nesting
 use Rattle.directive_scan.specs.Groups.{Role, single, opening, elif_line, else_line, endif_line, directive_role, role_of}
 use Rattle.directive_scan.specs.parts.OpenStack.{branch_step, endif_step, directive_step, nesting_step}
+use Rattle.pp_tokens.specs.declared.Token.{Token}
 use Rattle.directive_scan.specs.declared.directive.Piece.{Piece}
+use Rattle.directive_scan.specs.declared.directive.Piece.TheVariants.{Line}
+use Rattle.directive_scan.specs.declared.name.DirectiveName.{DirectiveName}
+use Rattle.directive_scan.specs.Gathered.{tokens_at_line}
+use Rattle.directive_scan.specs.Names.{directive_told}
 use Rattle.directive_scan.specs.declared.spots.Spot.{Spot}
 use Rattle.directive_scan.specs.declared.spots.Spot.TheVariants as spot
-use Rattle.directive_scan.specs.Spots.{role_told, piece_at, directive_on, KnowsRole, EachKnowsRole}
+use Rattle.directive_scan.specs.Spots.{role_told, piece_at, directive_on, KnowsName, EachKnowsName}
 
 -- the effect of a directive on the conditionals that are open, by its role alone
 abbrev role_step : ℕ → Role → List Open → Malformed ⊎ List Open
@@ -46,8 +51,8 @@ same_step at n d os told = of_nesting at n os ∙ ap (λ (r : Role). role_step a
 
 -- THE SPOT WITH A NUMBER
 
-pub role_at : (file : LexedFile) (spots : List Spot) (i : ℕ) (d : Spot) → EachKnowsRole file spots → i < length spots → KnowsRole file (get_or spots i d)
-unfolding EachKnowsRole
+pub role_at : (file : LexedFile) (spots : List Spot) (i : ℕ) (d : Spot) → EachKnowsName file spots → i < length spots → KnowsName file (get_or spots i d)
+unfolding EachKnowsName
 role_at file [] i d each below = absurd (omega arith)
 role_at file (s ∷ spots) zero d each below = each.0
 role_at file (s ∷ spots) (suc i) d each below = role_at file spots i d each.1 (omega arith)
@@ -57,15 +62,21 @@ shown_at file [] i d below = absurd (omega arith)
 shown_at file (s ∷ spots) zero d below = refl
 shown_at file (s ∷ spots) (suc i) d below = shown_at file spots i d (omega arith)
 
+-- a directive among the spots, by its name
+pub directive_here : (file : LexedFile) (spots : List Spot) (i : ℕ) (d : Spot) (line at : ℕ) (n : DirectiveName) (p : Piece) → EachKnowsName file spots → i < length spots
+    → get_or spots i d ≡ spot.Line line at n → Line at (directive_told n (drop 2 (tokens_at_line file line))) ≡ get_or (map (piece_at file) spots) i p
+unfolding EachKnowsName
+directive_here file [] i d line at n p each below is = absurd (omega arith)
+directive_here file (s ∷ spots) zero d line at n p each below is =
+    let here : directive_on file line ≡ directive_told n (drop 2 (tokens_at_line file line)) = subst (KnowsName file) is each.0 in
+    ap (λ (what : Directive). Line at what) (sym here) ∙ ap (piece_at file) (sym is)
+directive_here file (s ∷ spots) (suc i) d line at n p each below is = directive_here file spots i d line at n p each.1 (omega arith) is
+
 -- what is told of a directive among the spots is its role among the pieces
-pub role_here : (file : LexedFile) (spots : List Spot) (i : ℕ) (d : Spot) (line at : ℕ) (n : Nesting) (p : Piece) → EachKnowsRole file spots → i < length spots
-    → get_or spots i d ≡ spot.Line line at n → role_told n ≡ role_of (get_or (map (piece_at file) spots) i p)
-unfolding EachKnowsRole
-role_here file [] i d line at n p each below is = absurd (omega arith)
-role_here file (s ∷ spots) zero d line at n p each below is =
-    let here : role_told n ≡ directive_role (directive_on file line) = subst (KnowsRole file) is each.0 in
-    here ∙ ap (λ (x : Spot). role_of (piece_at file x)) (sym is)
-role_here file (s ∷ spots) (suc i) d line at n p each below is = role_here file spots i d line at n p each.1 (omega arith) is
+pub role_here : (file : LexedFile) (spots : List Spot) (i : ℕ) (d : Spot) (line at : ℕ) (n : DirectiveName) (r : Nesting) (p : Piece) → EachKnowsName file spots → i < length spots
+    → get_or spots i d ≡ spot.Line line at n → ((ts : List Token) → role_told r ≡ directive_role (directive_told n ts)) → role_told r ≡ role_of (get_or (map (piece_at file) spots) i p)
+role_here file spots i d line at n r p each below is told =
+    told (drop 2 (tokens_at_line file line)) ∙ ap role_of (directive_here file spots i d line at n p each below is)
 
 pub length_shown : (file : LexedFile) (spots : List Spot) (i : ℕ) → i < length spots → i < length (map (piece_at file) spots)
 length_shown file spots i below = omega (arith, below, length-map spots (piece_at file))

@@ -15,7 +15,7 @@ use Rattle.directive_scan.specs.declared.spots.Spot.{Spot}
 use Rattle.directive_scan.specs.declared.spots.Spot.TheVariants as spot
 use Rattle.directive_scan.specs.Directives.{onto_run}
 use Rattle.directive_scan.specs.Gathered.{tokens_at_line}
-use Rattle.directive_scan.specs.Spots.{tokens_before, tokens_between, piece_at, KnowsRole, EachKnowsRole, so_far, BeginsBefore}
+use Rattle.directive_scan.specs.Spots.{tokens_before, tokens_between, piece_at, KnowsName, EachKnowsName, so_far, BeginsBefore}
 
 -- a stretch that ends behind one of three parts
 stretch : (a l r : List Token) (from : ℕ) → from ≤ length a
@@ -117,8 +117,8 @@ directive_more file spots ended run line s at what others is shows =
     ∙ append_assoc (map (piece_at file) ended) (piece_at file s ∷ []) others
     ∙ rw (is, shows) (directive_behind file spots run line at what others)
 
-pub role_more : (file : LexedFile) (spots : List Spot) (s : Spot) → EachKnowsRole file spots → KnowsRole file s → EachKnowsRole file (spots ++ s ∷ [])
-unfolding EachKnowsRole
+pub role_more : (file : LexedFile) (spots : List Spot) (s : Spot) → EachKnowsName file spots → KnowsName file s → EachKnowsName file (spots ++ s ∷ [])
+unfolding EachKnowsName
 role_more file [] s each last = (last, tt)
 role_more file (t ∷ spots) s each last = (each.0, role_more file spots s each.1 last)
 
@@ -127,6 +127,6 @@ pub begins_more : (file : LexedFile) (run : Option ℕ) (line from : ℕ) → li
 begins_more file None line from below low is = omega (arith, is, before_more file line below)
 begins_more file (Some n) line from below low is = omega (arith, is, low, before_more file line below)
 
-pub no_role : (file : LexedFile) → EachKnowsRole file []
-unfolding EachKnowsRole
+pub no_role : (file : LexedFile) → EachKnowsName file []
+unfolding EachKnowsName
 no_role file = tt

@@ -21,7 +21,8 @@ use Rattle.directive_scan.specs.declared.asked.Asked.{Asked}
 use Rattle.directive_scan.specs.declared.asked.Asked.TheVariants as asked
 use Rattle.directive_scan.specs.Directives.{directive_of}
 use Rattle.directive_scan.specs.Gathered.{tokens_at_line, gathered_pieces}
-use Rattle.directive_scan.specs.Groups.{Role, single, opening, elif_line, else_line, endif_line, directive_role}
+use Rattle.directive_scan.specs.Groups.{Role, single, opening, elif_line, else_line, endif_line}
+use Rattle.directive_scan.specs.Names.{directive_told, tokens_behind}
 
 -- the role that a line's kind in the nesting is
 abbrev pub role_told : Nesting → Role
@@ -45,20 +46,20 @@ tokens_between file from end = take (end - from) (drop from (all_tokens file))
 
 abbrev pub piece_at : LexedFile → Spot → Piece
 piece_at file (spot.Text from end) = piece.Run (tokens_between file from end)
-piece_at file (spot.Line line at nesting) = piece.Line at (directive_on file line)
+piece_at file (spot.Line line at name) = piece.Line at (directive_on file line)
 
--- a directive's role is known
-abbrev pub KnowsRole : LexedFile → Spot → Type 0
-KnowsRole file (spot.Text from end) = Unit {0}
-KnowsRole file (spot.Line line at nesting) = role_told nesting ≡ directive_role (directive_on file line)
+-- a directive's name is known
+abbrev pub KnowsName : LexedFile → Spot → Type 0
+KnowsName file (spot.Text from end) = Unit {0}
+KnowsName file (spot.Line line at name) = directive_on file line ≡ directive_told name (drop 2 (tokens_at_line file line))
 
-unfoldable pub EachKnowsRole : LexedFile → List Spot → Type 0
-EachKnowsRole file [] = Unit {0}
-EachKnowsRole file (s ∷ ss) = KnowsRole file s × EachKnowsRole file ss
+unfoldable pub EachKnowsName : LexedFile → List Spot → Type 0
+EachKnowsName file [] = Unit {0}
+EachKnowsName file (s ∷ ss) = KnowsName file s × EachKnowsName file ss
 
 -- what a lent piece shows
 abbrev pub directive_seen : DirectiveRef → Directive
-directive_seen line = directive_on (arc_value line.lexed.now) line.line
+directive_seen line = directive_told line.name (tokens_behind line)
 
 abbrev pub piece_seen : PieceRef → Piece
 piece_seen (lent.Run tokens) = piece.Run (rest_of tokens)

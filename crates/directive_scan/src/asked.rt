@@ -3,9 +3,9 @@ ghost use Rattle.std.specs.Prelude.{◌≡◌, ◌<◌, ◌≤◌, ◌+◌, drop
 ghost use Rattle.std.specs.Arc.{arc_value};
 ghost use Rattle.directive_scan.specs.Gathered.{tokens_at_line};
 ghost use Rattle.directive_scan.specs.Names.{directive_told};
-ghost use Rattle.directive_scan.specs.Spots.{AsksOf, directive_on, tokens_before, tokens_between};
+ghost use Rattle.directive_scan.specs.Spots.{AsksOf, tokens_before, tokens_between};
 
-use crate::name::{DirectiveName, name_at};
+use crate::name::DirectiveName;
 use pp_tokens::{Lexed, Tokens};
 use std::alloc::Global;
 use std::sync::Arc;
@@ -23,16 +23,15 @@ pub enum Asked<'a> {
     Nothing,
 }
 
-// What the directive on a line asks. One without a name asks nothing.
-#[tactic(auto, unfolding(crate::specs::Directives::directive_of))]
-pub fn asked_at(file: &Arc<Lexed, Global>, line: usize) -> Asked<'_>
-    ensures { AsksOf result (directive_on (arc_value file.now) line) }
+// What the directive on a line asks that has this name.
+pub fn asked_at(file: &Arc<Lexed, Global>, line: usize, name: DirectiveName) -> Asked<'_>
+    ensures { AsksOf result (directive_told name (drop 2 (tokens_at_line (arc_value file.now) line))) }
 {
     if line >= file.line_count() || file.token_count(line) < 2 {
-        return Asked::Nothing;
+        return asked_by(name, file, 0, 0);
     }
     let end = file.tokens_before(line + 1);
-    asked_by(name_at(file, line), file, from_name(file, line, end), end)
+    asked_by(name, file, from_name(file, line, end), end)
 }
 
 // The number of the first token of a line behind its `#` and the directive's name. As many as `end` stand up to the line's end.

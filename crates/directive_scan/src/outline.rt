@@ -4,10 +4,10 @@ ghost use Rattle.std.proofs.Common.{inr};
 ghost use Rattle.pp_tokens.specs.Lines.{LexedFile};
 ghost use Rattle.directive_scan.specs.Groups.{malformed_by, outline, role_of};
 ghost use Rattle.directive_scan.specs.parts.OpenStack.{Steps, branch_step, nesting_step, endif_step, is_else, open_step, unended_last};
-ghost use Rattle.directive_scan.specs.Spots.{piece_at, KnowsRole, EachKnowsRole};
+ghost use Rattle.directive_scan.specs.Spots.{piece_at, KnowsName, EachKnowsName};
 
 use crate::conditional::{BranchName, Malformed};
-use crate::role::Nesting;
+use crate::role::{Nesting, nesting_of};
 use crate::spots::Spot;
 use std::alloc::{AllocError, Global};
 
@@ -21,7 +21,7 @@ struct Open {
 // The first malformed line of a file, by the spots of its pieces: an `#elif`, `#else` or `#endif` that has no place there,
 // or at the end of the file the last opening that isn't ended. `None` where its conditionals nest.
 pub fn first_malformed(alloc: Global, spots: &[Spot]) -> Result<Option<Malformed>, AllocError>
-    ensures { IfOk result (λ found. (file : LexedFile) → EachKnowsRole file spots.now → found ≡ malformed_by (outline role_of (map (piece_at file) spots.now))) }
+    ensures { IfOk result (λ found. (file : LexedFile) → EachKnowsName file spots.now → found ≡ malformed_by (outline role_of (map (piece_at file) spots.now))) }
 {
     let mut stack: Vec<Open> = Vec::new(alloc);
     for spot in spots {
@@ -34,11 +34,11 @@ pub fn first_malformed(alloc: Global, spots: &[Spot]) -> Result<Option<Malformed
 
 // What is wrong with a piece behind the conditionals that are open before it.
 fn step(stack: &mut Vec<Open>, spot: &Spot) -> Result<Option<Malformed>, AllocError>
-    ensures { IfOk result (λ found. (file : LexedFile) → KnowsRole file spot.now → Steps (open_step stack.old.items (piece_at file spot.now)) found stack.new.items) }
+    ensures { IfOk result (λ found. (file : LexedFile) → KnowsName file spot.now → Steps (open_step stack.old.items (piece_at file spot.now)) found stack.new.items) }
 {
     match spot {
         Spot::Text { .. } => Ok(None),
-        Spot::Line { at, nesting, .. } => directive(stack, *at, *nesting),
+        Spot::Line { at, name, .. } => directive(stack, *at, nesting_of(*name)),
     }
 }
 

@@ -13,10 +13,10 @@ ghost use Rattle.directive_scan.specs.declared.directive.Piece.{Piece};
 use crate::asked::{Asked, asked_at};
 use crate::conditional::Malformed;
 use crate::directive::Directive;
-use crate::name::{DirectiveName, name_at};
+use crate::name::DirectiveName;
 use crate::outline::first_malformed;
-use crate::role::Nesting;
-use crate::scanner::directive_at;
+use crate::role::{Nesting, nesting_of};
+use crate::scanner::directive_with;
 use crate::spots::{Spot, spots};
 use pp_tokens::{Lexed, TokenRef, Tokens};
 use std::alloc::{AllocError, Global};
@@ -44,13 +44,13 @@ impl Model for Pieces {
     ghost use Rattle.directive_scan.specs.declared.directive.Piece.{Piece};
     ghost use Rattle.std.specs.Prelude.{◌≡◌};
     ghost use Rattle.directive_scan.specs.Directives.{pieces};
-    ghost use Rattle.directive_scan.specs.Spots.{piece_at, EachKnowsRole};
+    ghost use Rattle.directive_scan.specs.Spots.{piece_at, EachKnowsName};
 
     ghost Value = { List Piece };
 
     ghost view = { λ p. let parts = arc_value p.parts in map (piece_at (arc_value parts.lexed)) parts.spots.items };
 
-    ghost invariant = { λ p. let parts = arc_value p.parts in EachKnowsRole (arc_value parts.lexed) parts.spots.items
+    ghost invariant = { λ p. let parts = arc_value p.parts in EachKnowsName (arc_value parts.lexed) parts.spots.items
         × (map (piece_at (arc_value parts.lexed)) parts.spots.items ≡ pieces (arc_value parts.lexed).lines) };
 }
 
@@ -59,6 +59,7 @@ impl Model for Pieces {
 pub struct DirectiveRef<'a> {
     lexed: &'a Arc<Lexed, Global>,
     line: usize,
+    name: DirectiveName,
 }
 
 /// A piece that lies in its file: the tokens of a run, or a directive with the physical line, from 1, of its `#`.
@@ -143,7 +144,7 @@ impl Pieces {
     {
         match self.parts.spots[number] {
             Spot::Text { .. } => Nesting::Single,
-            Spot::Line { nesting, .. } => nesting,
+            Spot::Line { name, .. } => nesting_of(name),
         }
     }
 
@@ -155,11 +156,12 @@ impl Pieces {
     {
         match self.parts.spots[number] {
             Spot::Text { from, end } => PieceRef::Run(self.parts.lexed.tokens(from, end)),
-            Spot::Line { line, at, .. } => PieceRef::Line {
+            Spot::Line { line, at, name } => PieceRef::Line {
                 at,
                 what: DirectiveRef {
                     lexed: &self.parts.lexed,
                     line,
+                    name,
                 },
             },
         }
@@ -171,7 +173,7 @@ impl<'a> DirectiveRef<'a> {
     pub fn name(&self) -> DirectiveName
         ensures { directive_seen self.now ≡ directive_told result (tokens_behind self.now) }
     {
-        name_at(self.lexed, self.line)
+        self.name
     }
 
     /// Whether an identifier `__has_include` stands behind the name, as `has_probe` asks of tokens. No token is made.
@@ -185,14 +187,14 @@ impl<'a> DirectiveRef<'a> {
     pub fn read(&self, alloc: Global) -> Result<Directive, AllocError>
         ensures { IfOk result (λ d. d ≡ directive_seen self.now) }
     {
-        directive_at(alloc, self.lexed, self.line)
+        directive_with(alloc, self.lexed, self.line, self.name)
     }
 
     /// What the line asks, where it is of a conditional. No token is copied.
     pub fn asked(&self) -> Asked<'a>
         ensures { AsksOf result (directive_seen self.now) }
     {
-        asked_at(self.lexed, self.line)
+        asked_at(self.lexed, self.line, self.name)
     }
 }
 

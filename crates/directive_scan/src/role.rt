@@ -3,11 +3,10 @@ ghost use Rattle.std.specs.Prelude.{◌≡◌, List};
 ghost use Rattle.pp_tokens.specs.declared.Token.{Token};
 ghost use Rattle.directive_scan.specs.Groups.{directive_role};
 ghost use Rattle.directive_scan.specs.Names.{directive_told};
-ghost use Rattle.directive_scan.specs.Spots.{role_told, directive_on};
+ghost use Rattle.directive_scan.specs.Spots.{role_told};
 
 use crate::conditional::BranchName;
-use crate::name::{DirectiveName, name_at};
-use pp_tokens::Lexed;
+use crate::name::DirectiveName;
 
 /// What a directive is to the nesting of conditionals (ISO C 6.10.1): a line by itself, the opening of a conditional,
 /// or a line that goes on or ends one.
@@ -18,15 +17,8 @@ pub enum Nesting {
     Branch(BranchName),
 }
 
-// What the directive on a line is; its name alone is read.
-pub fn nesting_at(file: &Lexed, line: usize) -> Nesting
-    ensures { role_told result ≡ directive_role (directive_on file.now line) }
-{
-    nesting_of(name_at(file, line))
-}
-
 // What a directive with a name is.
-fn nesting_of(name: DirectiveName) -> Nesting
+pub fn nesting_of(name: DirectiveName) -> Nesting
     ensures { (ts : List Token) → role_told result ≡ directive_role (directive_told name ts) }
 {
     match name {

@@ -3,6 +3,7 @@ ghost use Rattle.std.specs.Prelude as seen;
 ghost use Rattle.std.specs.Prelude.{◌≡◌, ◌++◌, ◌∷◌, [], map, drop, unwrap_or, slice_get, IfOk, OnOk};
 ghost use Rattle.directive_scan.specs.Directives.{header_name, target_of, pragma_of, directive_of, pieces};
 ghost use Rattle.directive_scan.specs.Gathered.{tokens_at_line};
+ghost use Rattle.directive_scan.specs.Names.{directive_told};
 ghost use Rattle.directive_scan.specs.Spots.{piece_at};
 
 use crate::directive::{Directive, HeaderName, Piece, Target};
@@ -49,10 +50,22 @@ fn piece_of(alloc: Global, lexed: &Lexed, spot: Spot) -> Result<Piece, AllocErro
 }
 
 // The directive on a line, by its tokens behind the `#`. Tokens are made where the directive has them.
-pub fn directive_at(alloc: Global, lexed: &Lexed, line: usize) -> Result<Directive, AllocError>
+fn directive_at(alloc: Global, lexed: &Lexed, line: usize) -> Result<Directive, AllocError>
     ensures { IfOk result (λ what. what ≡ directive_of (drop 1 (tokens_at_line lexed.now line))) }
 {
-    match name_at(lexed, line) {
+    directive_with(alloc, lexed, line, name_at(lexed, line))
+}
+
+// The same where it has this name.
+pub fn directive_with(
+    alloc: Global,
+    lexed: &Lexed,
+    line: usize,
+    name: DirectiveName,
+) -> Result<Directive, AllocError>
+    ensures { IfOk result (λ what. what ≡ directive_told name (drop 2 (tokens_at_line lexed.now line))) }
+{
+    match name {
         DirectiveName::Include => Ok(Directive::Include(target_at(alloc, lexed, line)?)),
         DirectiveName::Next => Ok(Directive::Next(target_at(alloc, lexed, line)?)),
         DirectiveName::Define => Ok(Directive::Define(behind_name(alloc, lexed, line)?)),

@@ -3,14 +3,14 @@ ghost use Rattle.std.specs.Prelude.{◌≡◌, ◌<◌, ◌≤◌, ◌+◌, ◌�
 ghost use Rattle.directive_scan.specs.declared.directive.Piece.{Piece};
 ghost use Rattle.directive_scan.specs.Directives.{line_before, onto_run, pieces};
 ghost use Rattle.directive_scan.specs.Gathered.{tokens_at_line, hash_of};
-ghost use Rattle.directive_scan.specs.Spots.{piece_at, EachKnowsRole, so_far, BeginsBefore, directive_on};
+ghost use Rattle.directive_scan.specs.Spots.{piece_at, EachKnowsName, so_far, BeginsBefore, directive_on};
 
-use crate::role::{Nesting, nesting_at};
+use crate::name::{DirectiveName, name_at};
 use pp_tokens::Lexed;
 use std::alloc::{AllocError, Global};
 
 // Where a piece lies: the tokens from one number up to another; or a directive's logical line, with the physical line of
-// its `#` and what it is to the nesting.
+// its `#` and the directive's name.
 #[derive(Clone, Copy, Drop)]
 pub enum Spot {
     Text {
@@ -20,7 +20,7 @@ pub enum Spot {
     Line {
         line: usize,
         at: u32,
-        nesting: Nesting,
+        name: DirectiveName,
     },
 }
 
@@ -33,12 +33,12 @@ struct Gathered {
 }
 
 // The spots of most files find room for so many at once.
-const ROOM: usize = 64;
+const ROOM: usize = 1024;
 
 // The spots of a file's pieces. No token is copied; time is linear in the lines.
 pub fn spots(alloc: Global, file: &Lexed) -> Result<Vec<Spot>, AllocError>
     ensures shown { IfOk result (λ s. map (piece_at file.now) s.items ≡ pieces file.now.lines) }
-    ensures roles { IfOk result (λ s. EachKnowsRole file.now s.items) }
+    ensures names { IfOk result (λ s. EachKnowsName file.now s.items) }
 {
     let count = file.line_count();
     let mut gathered = Gathered {
@@ -56,7 +56,7 @@ fn with_line(file: &Lexed, line: usize, gathered: Gathered) -> Result<Gathered, 
     requires below { line < length file.now.lines }
     requires begins { BeginsBefore file.now gathered.run line }
     ensures shown { IfOk result (λ g. (others : List Piece) → so_far file.now g.ended.items g.run (line + 1) others ≡ so_far file.now gathered.ended.items gathered.run line (line_before (tokens_at_line file.now line) others)) }
-    ensures roles { IfOk result (λ g. EachKnowsRole file.now gathered.ended.items → EachKnowsRole file.now g.ended.items) }
+    ensures names { IfOk result (λ g. EachKnowsName file.now gathered.ended.items → EachKnowsName file.now g.ended.items) }
     ensures begins { IfOk result (λ g. BeginsBefore file.now g.run (line + 1)) }
 {
     match hash_at(file, line) {
@@ -74,14 +74,14 @@ fn with_directive(
 ) -> Result<Gathered, AllocError>
     requires below { line < length file.now.lines }
     ensures shown { IfOk result (λ g. (others : List Piece) → so_far file.now g.ended.items g.run (line + 1) others ≡ so_far file.now gathered.ended.items gathered.run line (Piece.Line at (directive_on file.now line) ∷ others)) }
-    ensures roles { IfOk result (λ g. EachKnowsRole file.now gathered.ended.items → EachKnowsRole file.now g.ended.items) }
+    ensures names { IfOk result (λ g. EachKnowsName file.now gathered.ended.items → EachKnowsName file.now g.ended.items) }
     ensures begins { IfOk result (λ g. g.run ≡ None) }
 {
     let mut ended = all_ended(file, line, gathered)?;
     ended.push(Spot::Line {
         line,
         at,
-        nesting: nesting_at(file, line),
+        name: name_at(file, line),
     })?;
     Ok(Gathered { ended, run: None })
 }
@@ -105,7 +105,7 @@ fn with_text(file: &Lexed, line: usize, gathered: Gathered) -> Gathered
 fn all_ended(file: &Lexed, line: usize, gathered: Gathered) -> Result<Vec<Spot>, AllocError>
     requires { line ≤ length file.now.lines }
     ensures shown { IfOk result (λ s. map (piece_at file.now) s.items ≡ so_far file.now gathered.ended.items gathered.run line []) }
-    ensures roles { IfOk result (λ s. EachKnowsRole file.now gathered.ended.items → EachKnowsRole file.now s.items) }
+    ensures names { IfOk result (λ s. EachKnowsName file.now gathered.ended.items → EachKnowsName file.now s.items) }
 {
     let Gathered { mut ended, run } = gathered;
     if let Some(from) = run {

@@ -3,8 +3,8 @@ use Rattle.directive_scan.proofs.Spotted.{role_more}
 use Rattle.directive_scan.proofs.spots.all_ended.Goals as goal
 use Rattle.directive_scan.proofs.spots.all_ended.Goals.{in-Some+in_ok-push, in_default}
 
-pub returns-clause-roles : goal.returns-clause-roles
-returns-clause-roles c each =
+pub returns-clause-names : goal.returns-clause-names
+returns-clause-names c each =
     elim c.match-run.branch [
       | in-Some+in_ok-push w ↦
           rw (w.ended-is, w.in_ok-push.ensures.items) (role_more c.args.file.now c.args.gathered.ended.items (Text w.in-Some.from w.tokens_before-end.result) each tt)

@@ -17,7 +17,7 @@ loop-line-preserved c =
       shown = c.in_ok-gathered.ensures.shown (pieces (drop (c.loop-line.line + 1) c.args.file.now.lines))
           ∙ ap (so_far c.args.file.now before.ended.items before.run c.loop-line.line) (sym (pieces-from c.args.file.now c.loop-line.line below))
           ∙ c.loop-line.invariant.shown;
-      roles = c.in_ok-gathered.ensures.roles c.loop-line.invariant.roles;
+      roles = c.in_ok-gathered.ensures.names c.loop-line.invariant.roles;
       begins = c.in_ok-gathered.ensures.begins;
       within = omega (arith, below);
     }

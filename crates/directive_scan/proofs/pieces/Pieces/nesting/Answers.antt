@@ -14,5 +14,6 @@ returns-in-Line c p =
     let file = arc_value parts.lexed in
     let spots = parts.spots.items in
     let below : c.args.number < length spots = omega (arith, ap length c.self.view_is, length-map spots (piece_at file)) in
-    role_here file spots c.args.number c.index.result.now c.in-Line.line c.in-Line.at c.in-Line.nesting p c.self.invariant.0 below (sym (ap (λ (q : Parts). get_or q.spots.items c.args.number c.index.result.now) c.deref.ensures) ∙ (sym c.index.ensures ∙ c.in-Line.is))
+    role_here file spots c.args.number c.index.result.now c.in-Line.line c.in-Line.at c.in-Line.name c.nesting_of.result p c.self.invariant.0 below
+    (sym (ap (λ (q : Parts). get_or q.spots.items c.args.number c.index.result.now) c.deref.ensures) ∙ (sym c.index.ensures ∙ c.in-Line.is)) c.nesting_of.ensures
     ∙ ap (λ (ps : List Piece). role_of (get_or ps c.args.number p)) c.self.view_is
