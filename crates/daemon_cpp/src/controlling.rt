@@ -1,5 +1,5 @@
 // The controlling expression of a condition's line, read token by token as the line is expanded (ISO C 6.10.1).
-ghost use Rattle.std.specs.Prelude.{◌≡◌, ◌≤◌, ◌<◌, ◌+◌, [], Ok, None, Some, false, map, IfOk, IfErr, IfSome, OnOk, IsTrue, IsNone};
+ghost use Rattle.std.specs.Prelude.{◌≡◌, ◌≤◌, ◌<◌, ◌+◌, ℕ, [], Ok, None, Some, false, map, IfOk, IfErr, IfSome, OnOk, IsTrue, IsNone};
 ghost use Rattle.pp_tokens.specs.Tokens.{token_seen};
 ghost use Rattle.macro_defs.specs.Table.{lookup};
 ghost use Rattle.macro_expand.specs.declared.stream.Standing.TheVariants.{Going};
@@ -73,7 +73,26 @@ pub fn read_expanded(
     Ok(line)
 }
 
-// Reads the next token; whether there was one. Most tokens of a line are lent.
+// Reads the tokens that are lent next, as most of a line are.
+#[inline(always)]
+fn read_lent(
+    stream: &mut Expander<'_>,
+    macros: &MacroTable,
+    line: &mut Controlling,
+) -> Result<(), AllocError>
+    requires { stream.old.standing ≡ Going }
+    ensures kept { OnOk result ((units : ℕ) → read_from (is_defined (lookup macros.now)) line.old (to_come stream.old units)
+        ≡ read_from (is_defined (lookup macros.now)) line.new (to_come stream.new units)) }
+    ensures going { OnOk result (stream.new.standing ≡ Going) }
+    ensures few { OnOk result (at_hand stream.new ≤ at_hand stream.old) }
+{
+    while let Some(token) = stream.lend() {
+        line.put(macros, &token)?;
+    }
+    Ok(())
+}
+
+// Reads the tokens that are lent next, and one that isn't; whether there was one.
 #[inline(always)]
 fn read_next(
     stream: &mut Expander<'_>,
@@ -87,12 +106,9 @@ fn read_next(
     ensures err { IfErr result (λ e. ReportsResult e (to_come stream.old work.old.left)) }
     ensures spends { work.new.left ≤ work.old.left }
 {
-    match stream.lend() {
-        Some(token) => match line.put(macros, &token) {
-            Ok(()) => Ok(true),
-            Err(_) => Err(ExpandError::Memory),
-        },
-        None => read_unlent(stream, macros, work, line),
+    match read_lent(stream, macros, line) {
+        Ok(()) => read_unlent(stream, macros, work, line),
+        Err(_) => Err(ExpandError::Memory),
     }
 }
 

@@ -88,7 +88,8 @@ fn run_line<T: Tree>(
     }
 }
 
-// A directive on a line that is no condition's and no definition.
+// A directive on a line that is no condition's and no definition. It is compiled by itself, so that text and definitions don't pay for its room.
+#[inline(never)]
 fn run_directive<T: Tree>(
     alloc: Global,
     tree: &mut T,
