@@ -22,8 +22,9 @@ use base_types::limits::{
     BODY_LIMIT, ENTRY_LIMIT, JOB_WORDS_LIMIT, PATH_LIMIT, REQUEST_LIMIT, WORD_LIMIT,
 };
 use base_types::{Bytes, List};
-use job_words::{Job, WordError, read_words};
+use job_words::{Job, WordError, read_words_of};
 use std::alloc::Global;
+use std::mem::replace;
 use tree_model::{CanonPath, Entry, MirrorError, judge_path};
 
 // What was read so far: the version that is due, how many bytes may follow, and the parts.
@@ -151,11 +152,11 @@ fn body_length(token: Token, n: u32) -> u32
 
 // The job that words give, or why there is none.
 #[tactic(auto, unfolding(job_words::specs::Words::job_of))]
-fn read_job(alloc: Global, cwd: &[u8], words: &[Bytes]) -> Result<Job, FrameError>
-    ensures job { IfOk result (λ job. Some job ≡ job_of cwd.now words.now) }
-    ensures why { IfErr result (λ e. (e ≡ why.Memory) ⊎ ((None ≡ job_of cwd.now words.now) × (e ≡ why.Words))) }
+fn read_job(alloc: Global, cwd: &[u8], words: List<Bytes>) -> Result<Job, FrameError>
+    ensures job { IfOk result (λ job. Some job ≡ job_of cwd.now words) }
+    ensures why { IfErr result (λ e. (e ≡ why.Memory) ⊎ ((None ≡ job_of cwd.now words) × (e ≡ why.Words))) }
 {
-    match read_words(alloc, cwd, words) {
+    match read_words_of(alloc, cwd, words) {
         Ok(job) => Ok(job),
         Err(WordError::Memory) => Err(FrameError::Memory),
         Err(_) => Err(FrameError::Words),
@@ -168,7 +169,8 @@ fn judge_words(f: &mut RequestFrame) -> Result<(), FrameError>
     requires entries { f.old.read.entries ≡ [] }
     ensures { Goes (words_due 0 f.old.read) (words_rank 0) f.new result }
 {
-    match read_job(f.alloc, f.read.cwd.as_slice(), f.read.words.as_slice()) {
+    let words = replace(&mut f.read.words, List::new(f.alloc));
+    match read_job(f.alloc, f.read.cwd.as_slice(), words) {
         Err(why) => Err(why),
         Ok(job) => {
             f.read.job = Some(job);

@@ -78,13 +78,53 @@ fn push_entries(out: &mut Vec<u8>, entries: &[(CanonPath, Entry)]) -> Result<(),
     Ok(())
 }
 
+// How many bytes a token takes, with its number.
+const TOKEN: usize = 12;
+
+// How many bytes a node takes.
+fn size_of_node(node: &Entry) -> usize {
+    match node {
+        Entry::Dir => TOKEN,
+        Entry::File(body) => body.len().saturating_add(TOKEN),
+        Entry::Link(text) => text.len().saturating_add(TOKEN),
+    }
+}
+
+// How many bytes entries take, so that room for them is taken once.
+fn size_of_entries(entries: &[(CanonPath, Entry)]) -> usize {
+    let mut size = TOKEN;
+    for e in entries {
+        let path = e.0.bytes().len().saturating_add(TOKEN);
+        size = size.saturating_add(path).saturating_add(size_of_node(&e.1));
+    }
+    size
+}
+
+// How many bytes words take.
+fn size_of_words(words: &[Bytes]) -> usize {
+    let mut size = TOKEN;
+    for w in words {
+        size = size.saturating_add(w.len()).saturating_add(TOKEN);
+    }
+    size
+}
+
+// How many bytes a request takes.
+fn size_of_request(job: &Job, entries: &[(CanonPath, Entry)]) -> usize {
+    let cwd = job.setup().cwd().len().saturating_add(2 * TOKEN);
+    let words = size_of_words(job.words());
+    size_of_entries(entries)
+        .saturating_add(words)
+        .saturating_add(cwd)
+}
+
 /// The image of entries.
 pub fn write_entries(alloc: Global, entries: &[(CanonPath, Entry)]) -> Result<Bytes, AllocError>
     requires few { length entries.now ≤ entry_limit }
     requires fit { All HasSpelling entries.now }
     ensures { IfOk result (λ bytes. bytes ≡ image_bytes entries.now) }
 {
-    let mut out = Vec::new(alloc);
+    let mut out = Vec::with_capacity(alloc, size_of_entries(entries))?;
     push_entries(&mut out, entries)?;
     Ok(Bytes::of(out))
 }
@@ -101,7 +141,7 @@ pub fn write_request(
 {
     jobs_are_short();
     job.is_reading();
-    let mut out = Vec::new(alloc);
+    let mut out = Vec::with_capacity(alloc, size_of_request(job, entries))?;
     push_token(&mut out, b"DIST", 0x103)?;
     push_field(&mut out, b"CDIR", job.setup().cwd())?;
     push_words(&mut out, job.words())?;

@@ -12,4 +12,4 @@ mod word;
 pub use job::Job;
 pub use laws::{equal_jobs_are_same, first_words_decide, jobs_are_short, jobs_keep_words};
 pub use macro_word::MacroWord;
-pub use reading::{WordError, read_words};
+pub use reading::{WordError, read_words, read_words_of};

@@ -64,18 +64,27 @@ impl From<AllocError> for WordError {
 /// with a comment that never ends. The operand of `-U` is a `BadMacro` where it isn't one identifier that may be defined.
 ///
 /// Time is proportional to the bytes of the words, as far as the hashes of directories and of parameters' names differ.
-#[tactic(auto, unfolding(crate::specs::Words::job_reading))]
 pub fn read_words(alloc: Global, cwd: &[u8], words: &[Bytes]) -> Result<Job, WordError>
     ensures job { IfOk result (λ job. job_reading cwd.now words.now ≡ Ok job) }
     ensures why { IfErr result (λ e. (e ≡ WordError.Memory) ⊎ (job_reading cwd.now words.now ≡ Err e)) }
 {
+    let words = copied(alloc, words)?;
+    read_words_of(alloc, cwd, words)
+}
+
+/// The same, where the words are given away, so that the job keeps them without a copy.
+#[tactic(auto, unfolding(crate::specs::Words::job_reading))]
+pub fn read_words_of(alloc: Global, cwd: &[u8], words: List<Bytes>) -> Result<Job, WordError>
+    ensures job { IfOk result (λ job. job_reading cwd.now words ≡ Ok job) }
+    ensures why { IfErr result (λ e. (e ≡ WordError.Memory) ⊎ (job_reading cwd.now words ≡ Err e)) }
+{
     if !is_directory(cwd) {
         return Err(WordError::Cwd);
     }
-    if !are_short(words) {
+    if !are_short(words.as_slice()) {
         return Err(WordError::Limit);
     }
-    let given = read_all(alloc, words)?;
+    let given = read_all(alloc, words.as_slice())?;
     job_of(alloc, cwd, words, given)
 }
 
@@ -207,11 +216,11 @@ fn read_source(alloc: Global, name: &[u8], given: &mut Given) -> Result<Option<T
 }
 
 // The job of words that were read to their end.
-fn job_of(alloc: Global, cwd: &[u8], words: &[Bytes], given: Given) -> Result<Job, WordError>
-    requires read { job_reading cwd.now words.now ≡ with_source cwd.now words.now given.source given }
+fn job_of(alloc: Global, cwd: &[u8], words: List<Bytes>, given: Given) -> Result<Job, WordError>
+    requires read { job_reading cwd.now words ≡ with_source cwd.now words given.source given }
     requires few { texts_given given ≤ job_words_limit }
-    ensures job { IfOk result (λ job. job_reading cwd.now words.now ≡ Ok job) }
-    ensures why { IfErr result (λ e. (e ≡ WordError.Memory) ⊎ (job_reading cwd.now words.now ≡ Err e)) }
+    ensures job { IfOk result (λ job. job_reading cwd.now words ≡ Ok job) }
+    ensures why { IfErr result (λ e. (e ≡ WordError.Memory) ⊎ (job_reading cwd.now words ≡ Err e)) }
 {
     let Given {
         source,
@@ -232,7 +241,6 @@ fn job_of(alloc: Global, cwd: &[u8], words: &[Bytes], given: Given) -> Result<Jo
     let quote = each_once(alloc, quote.as_slice())?;
     let cwd = Bytes::copy_of(alloc, cwd)?;
     let setup = Setup::new(alloc, cwd, quote, bracket, trigraphs)?;
-    let words = copied(alloc, words)?;
     let parts = Parts {
         words,
         source,

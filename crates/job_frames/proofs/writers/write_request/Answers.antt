@@ -11,9 +11,9 @@ unfolding request_bytes
 returns c =
     let job = c.args.job.now in
     c.of.ensures
-    ∙ chained c.new-out.result.items c.push_token.new.out.items c.push_field.new.out.items c.push_words.new.out.items c.push_entries.new.out.items
+    ∙ chained c.in_ok-out.out.items c.push_token.new.out.items c.push_field.new.out.items c.push_words.new.out.items c.push_entries.new.out.items
     (token (codes "DIST") 0x103) (field (codes "CDIR") job.setup.cwd) (token (codes "ARGC") (length job.words)) (flat_map (field (codes "ARGV")) job.words) (image_bytes c.args.entries.now)
-    c.new-out.ensures.items
+    c.in_ok-out.ensures.items
     c.in_ok-push_token.ensures
     (c.in_ok-push_field.ensures ∙ ap (λ (b : List ℕ). c.push_token.new.out.items ++ field (codes "CDIR") b) (c.cwd.ensures ∙ ap (λ (s : SetupData). s.cwd) c.setup.ensures))
     (c.in_ok-push_words.ensures ∙ ap (λ (ws : List (List ℕ)). c.push_field.new.out.items ++ words_bytes ws) c.words.ensures)

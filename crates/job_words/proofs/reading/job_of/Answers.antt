@@ -21,9 +21,8 @@ new-requires c =
 
 pub new-requires-2 : goal.new-requires-2
 new-requires-2 c =
-    job-of-parts c.args.cwd.now c.args.words.now c.in-Some.source c.args.given _ c.requires.read c.in-Some.is
+    job-of-parts c.args.cwd.now c.args.words c.in-Some.source c.args.given _ c.requires.read c.in-Some.is
     (rw (
-      c.in_ok-words.ensures,
       c.in_ok-setup.ensures,
       c.in_ok-cwd.ensures,
       c.in_ok-quote.ensures,
