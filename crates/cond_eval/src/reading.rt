@@ -74,6 +74,7 @@ fn take_last(stack: &mut VecDeque<Pending<Seen>>) -> Option<Pending<Seen>>
 }
 
 // What an operand belongs to that is ended by something that binds so tightly.
+#[inline(always)]
 fn end(stack: &mut VecDeque<Pending<Seen>>, tight: u8, operand: Seen) -> Seen
     ensures { record { around = stack.new.items; value = result } ≡ ended values tight stack.old.items operand }
 {

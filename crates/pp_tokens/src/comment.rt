@@ -46,6 +46,7 @@ fn comment_length(inside: &[u8]) -> Option<usize>
 }
 
 /// What begins with `/`: a comment, one that never ends, `/=` or `/`.
+#[inline(always)]
 pub fn slash_part(rest: &[u8]) -> (What, usize)
     requires some { 0 < length rest.now }
     requires slash { get_or rest.now 0 0 ≡ ascii.slash }

@@ -46,6 +46,7 @@ pub fn number_goes_on(last: u8, bytes: &[u8]) -> bool
 }
 
 /// What begins with a digit, or with a `.` and a digit: a number.
+#[inline(always)]
 pub fn number_part(rest: &[u8]) -> (What, usize)
     requires some { 0 < length rest.now }
     requires number { begins_number (get_or rest.now 0 0) (get_or rest.now 1 0) ≡ true }
