@@ -42,7 +42,7 @@ pub fn lacks(have: usize, wanted: usize) -> bool
     have < wanted
 }
 
-// Moves bytes to the field that is due, as many as it lacks or as there are, and answers how many. Room is taken for all that it lacks.
+// Moves bytes to the field that is due, as many as it lacks or as there are, and answers how many.
 fn top_up(pending: &mut Vec<u8>, wanted: usize, rest: &[u8]) -> Result<usize, AllocError>
     requires { length pending.old.items ≤ wanted }
     ensures { IsTopped pending.old.items wanted rest.now pending.new.items result }
@@ -54,7 +54,6 @@ fn top_up(pending: &mut Vec<u8>, wanted: usize, rest: &[u8]) -> Result<usize, Al
         rest.len()
     };
     let (front, _) = rest.split_at(n);
-    pending.reserve_exact(missing)?;
     pending.extend_from_slice(front)?;
     Ok(n)
 }
