@@ -1,9 +1,7 @@
 -- Canonical paths and their spellings.
-use Rattle.std.proofs.Common.{inl, inr, ◌≡◌, ℕ, zero, suc, ◌+◌, ◌-◌, ◌≤◌, ◌<◌, List, [], ◌∷◌, ◌++◌, length, reverse, refl, sym, ◌∙◌, ap, subst, Bool, true, false, cond, not, ◌&&◌, ◌||◌, nat_lt, nat_le, nat_eq, arith, ◌==◌, filter, length-append, append_assoc, get_or, take, drop, max, Some, None, IsTrue}
-use Rattle.std.specs.Prelude.{Result, IfOk}
-use Rattle.std.specs.declared.alloc.AllocError.{AllocError}
+use Rattle.std.proofs.Common.{inl, inr, ◌≡◌, ℕ, zero, suc, ◌+◌, ◌-◌, ◌≤◌, ◌<◌, List, [], ◌∷◌, ◌++◌, length, reverse, refl, sym, ◌∙◌, ap, subst, Bool, true, false, cond, not, ◌&&◌, ◌||◌, nat_lt, nat_le, nat_eq, arith, ◌==◌, filter, length-append, append_assoc, get_or, take, drop, Some, None, IsTrue}
 use Rattle.std.specs.List.{slice_split, onto_first, AllByRecursion, list_all}
-use Rattle.std.proofs.lemmas.List.{reverse-append, reverse-reverse, append-nil, get_or-drop, drop-drop, length-drop, take_all, take-append-le}
+use Rattle.std.proofs.lemmas.List.{reverse-append, reverse-reverse, append-nil, get_or-drop, drop-drop, length-drop, take_all}
 use Rattle.std.proofs.lemmas.List.Elements.{filter-append}
 use Rattle.std.proofs.lemmas.List.Folds.{list_all-append, list_all_more}
 use Rattle.std.proofs.lemmas.Bool.{eqb-true, eqb-false, eq-eqb, lt-ltb, ltb-true, leb-true, le-leb, and_parts, and_from, or_parts, not-true, not_from_false, false_from_ne_true}
@@ -505,24 +503,23 @@ pub parent_spelled : (path : Path) (text : Text) → text ≡ spelled_below path
 parent_spelled [] text is h = absurd (eqb-false (length text) 0 h (ap length is))
 parent_spelled (name ∷ path) text is h = is
 
-pub at_root : (result : Result Path AllocError) (path : Path) → [] ≡ path → IfOk result (λ p. p ≡ []) → IfOk result (λ p. p ≡ path)
-at_root result path is h = subst (λ (q : Path). IfOk result (λ p. p ≡ q)) is h
+-- a spelling of one byte is the root's
+lone_name : (path : Path) (text : Text) → AllByRecursion IsName path → spelled path ≡ text → length text ≡ 1 → [] ≡ path
+lone_name [] text h is one = refl
+lone_name (name ∷ path) text h is one =
+    let long : length (spelled_below path ++ slash ∷ name) ≡ length (spelled_below path) + length (slash ∷ name) = length-append (spelled_below path) (slash ∷ name) in
+    let some : 1 ≤ length name = h.0.some in
+    absurd (omega (arith, ap length is))
 
--- the first bytes of a spelling are those of what is below the path
-pub stem_taken : (path : Path) (text : Text) (n : ℕ) → text ≡ spelled path → n ≡ length (spelled_below path) → take n text ≡ spelled_below path
-stem_taken [] text n is all = ap (take n) is ∙ ap (λ n. take n (slash ∷ [])) all
-stem_taken (name ∷ dir) text n is all = ap (take n) is ∙ take_all n (spelled_below (name ∷ dir)) (omega (arith, all))
+pub root_path : (text : Text) → is_spelling text ≡ true → length text ≡ 1 → Some [] ≡ path_of text
+root_path text h one =
+    let s : IsSpelling text = spelling_from_test text h in
+    ap Some (lone_name (names_of text) text s.0.names s.1 one) ∙ some_path text h
 
--- and of the parent's
-pub parent_taken : (path : Path) (text : Text) (n : ℕ) → text ≡ spelled path → n ≡ length (spelled_below (parent path)) → take (max n 1) text ≡ spelled (parent path)
-parent_taken [] text n is all = ap (take (max n 1)) is ∙ ap (λ n. take (max n 1) (slash ∷ [])) all
-parent_taken (name ∷ []) text n is all = ap (take (max n 1)) is ∙ ap (λ n. take (max n 1) (slash ∷ name)) all
-parent_taken (name ∷ up ∷ dir) text n is all =
-    let above = spelled_below (up ∷ dir) in
-    let some : 1 ≤ length above = subst (λ m. 1 ≤ m) (sym (length-append (spelled_below dir) (slash ∷ up))) (omega arith) in
-    let most : max n 1 ≡ length above = omega (arith, some, all) in
-    ap (take (max n 1)) is ∙ ap (λ m. take m (above ++ slash ∷ name)) most ∙ take-append-le (length above) above (slash ∷ name) (omega arith) ∙ take_all (length above) above (omega arith)
-
--- a text that spells the path is its spelling
-pub spells : (path : Path) (text : Text) → IsSpelling text → names_of text ≡ path → text ≡ spelled path
-spells path text is same = sym is.1 ∙ ap spelled same
+-- and below the root none is `/`
+pub below_slash : (path : Path) → AllByRecursion IsName path → spelled_below path ≡ slash ∷ [] → ⊥
+below_slash [] h is = absurd (cc)
+below_slash (name ∷ path) h is =
+    let long : length (spelled_below path ++ slash ∷ name) ≡ length (spelled_below path) + length (slash ∷ name) = length-append (spelled_below path) (slash ∷ name) in
+    let some : 1 ≤ length name = h.0.some in
+    absurd (omega (arith, ap length is))

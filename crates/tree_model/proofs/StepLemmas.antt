@@ -90,10 +90,6 @@ child-is false path other e = absurd (cc)
 pub child_named : (dir : Path) (name : Text) (path : Path) → Some path ≡ child_of dir name → path ≡ name ∷ dir
 child_named dir name path e = child-is (is_canonical (name ∷ dir)) path (name ∷ dir) e
 
--- a child's parent is the directory
-pub child_parent : (dir : Path) (name : Text) (path : Path) → Some path ≡ child_of dir name → parent path ≡ dir
-child_parent dir name path e = ap parent (child-is (is_canonical (name ∷ dir)) path (name ∷ dir) e)
-
 no_child : (b : Bool) (other : Path) → None ≡ (if b then (Some other) else None) → b ≡ false
 no_child true other e = absurd (cc)
 no_child false other e = refl

@@ -3,7 +3,9 @@
 --     Steps       how the steps of a program go on as a walk does
 --     Glances     what two looks at a tree tell of a text
 --     Shared      the nodes that walks share
+--     Stored      the spelling that a path keeps
 pub mod Steps
 pub mod Glances
 pub mod Remembered
 pub mod Shared
+pub mod Stored

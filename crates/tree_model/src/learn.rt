@@ -1,7 +1,7 @@
 // Learning: what the walk of a text reaches, where what that of its front reached is remembered.
 //
 // Most of the directories that a search names anew stand in one that it named before, as `/usr/include/bits` below `/usr/include`. What such a
-// text reaches costs one look and a copy of the nodes, in place of a look and a copy of a path for each component. A last component that is
+// text reaches costs one look and a copy of the nodes, in place of a look and a new path for each component. A last component that is
 // no name, or a link, is left to a walk, and so is a text whose front isn't remembered: nothing is learnt of a front on the way.
 ghost use Rattle.std.specs.Prelude.{◌≡◌, ◌∷◌, ◌++◌, [], IfOk, IfSome, IsErrOf};
 ghost use Rattle.std.specs.Option.{ForSome};

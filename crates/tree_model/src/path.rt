@@ -1,5 +1,5 @@
 // Canonical paths.
-ghost use Rattle.std.specs.Prelude.{◌≡◌, ◌↔◌, ◌==◌, ℕ, List, [], ◌∷◌, ◌++◌, ◌+◌, ◌<◌, length, take, IfOk, IsTrue};
+ghost use Rattle.std.specs.Prelude.{◌≡◌, ◌↔◌, ◌==◌, ℕ, List, [], ◌∷◌, ◌++◌, IfOk, IsTrue};
 ghost use Rattle.std.specs.List.{list_all, slice_split};
 ghost use Rattle.std.specs.Option.{option_map};
 ghost use Rattle.std.proofs.Common.{ap};
@@ -8,30 +8,34 @@ ghost use Rattle.std.specs.Cmp.{partial_equiv_from_equiv};
 ghost use Rattle.std.specs.Cmp.Lexicographic.{slice_cmp, lists_equiv, nat_list_eq_equiv};
 ghost use Rattle.tree_model.specs.Paths as paths;
 ghost use Rattle.base_types.specs.Ascii.{slash};
-ghost use Rattle.tree_model.specs.Paths.{spelled, spelled_below, path_of, parent_spelling, child_of, is_same_path, is_same_path-Decides, IsCanonical};
+ghost use Rattle.tree_model.specs.Paths.{spelled, spelled_below, names_of, path_of, parent_spelling, child_of, is_same_path, is_same_path-Decides, IsCanonical, IsSpelling};
 
 use base_types::limits::{NAME_LIMIT, PATH_LIMIT};
 use std::alloc::{AllocError, Global};
 use std::cmp::Ordering;
 use std::hash::{Hash, Hasher};
 use std::marker::Model;
+use std::sync::Arc;
 
 /// A canonical path: `/`, or components each after a `/`, at most 4,096 bytes; a component has 1 to 255 bytes, no
-/// `/`, no byte 0, and is neither `.` nor `..`. Contracts see it as its names, the innermost first.
+/// `/`, no byte 0, and is neither `.` nor `..`. Contracts see it as its names, the innermost first. Copies share the
+/// spelling.
 #[derive(Drop)]
 pub struct CanonPath {
-    bytes: Vec<u8>,
+    // the spelling, or None at the root
+    bytes: Option<Arc<Vec<u8>, Global>>,
 }
 
 impl Model for CanonPath {
     ghost use Rattle.std.specs.Prelude.{ℕ, List};
     ghost use Rattle.tree_model.specs.Paths.{names_of, IsSpelling};
+    ghost use Rattle.tree_model.specs.parts.Stored.{stored, IsBelowRoot};
 
     ghost Value = { List (List ℕ) };
 
-    ghost view = { λ p. names_of p.bytes.items };
+    ghost view = { λ p. names_of (stored p.bytes) };
 
-    ghost invariant = { λ p. IsSpelling p.bytes.items };
+    ghost invariant = { λ p. IsSpelling (stored p.bytes) × IsBelowRoot p.bytes };
 }
 
 // A byte may stand in a name.
@@ -109,24 +113,15 @@ fn is_spelling(text: &[u8]) -> bool
     *first == b'/' && (names.is_empty() || are_names(names))
 }
 
-// The first bytes of a text, and then a name after a slash.
-fn extended(text: Vec<u8>, stem: usize, name: &[u8]) -> Result<Vec<u8>, AllocError>
-    ensures { IfOk result (λ longer. longer.items ≡ take stem text.items ++ slash ∷ name.now) }
+// A text, and then a name after a slash, in memory of just that size.
+fn extended(alloc: Global, stem: &[u8], name: &[u8]) -> Result<Vec<u8>, AllocError>
+    ensures { IfOk result (λ longer. longer.items ≡ stem.now ++ slash ∷ name.now) }
 {
-    let mut longer = text;
-    longer.truncate(stem);
+    let mut longer = Vec::with_capacity(alloc, stem.len() + 1 + name.len())?;
+    longer.extend_from_slice(stem)?;
     longer.push(b'/')?;
     longer.extend_from_slice(name)?;
     Ok(longer)
-}
-
-// A copy with room for more bytes behind it.
-fn roomy(alloc: Global, text: &[u8], room: usize) -> Result<Vec<u8>, AllocError>
-    ensures { IfOk result (λ copy. copy.items ≡ text.now) }
-{
-    let mut copy = Vec::with_capacity(alloc, text.len().saturating_add(room))?;
-    copy.extend_from_slice(text)?;
-    Ok(copy)
 }
 
 // What stands before the last slash.
@@ -143,21 +138,29 @@ fn before_last(text: &[u8]) -> &[u8]
     text
 }
 
-impl CanonPath {
-    /// The root, `/`.
-    pub fn root(alloc: Global) -> Result<CanonPath, AllocError>
-        ensures { IfOk result (λ path. path ≡ []) }
-    {
-        let bytes = b"/".as_slice().to_vec(alloc)?;
-        Ok(CanonPath { bytes })
-    }
+// The root, which takes no memory.
+fn the_root() -> CanonPath
+    ensures { result ≡ [] }
+{
+    CanonPath { bytes: None }
+}
 
-    /// The root, with room for so many bytes behind it.
-    pub(crate) fn root_with_room(alloc: Global, room: usize) -> Result<CanonPath, AllocError>
+// The path below the root that bytes spell, which it keeps.
+fn below_root(alloc: Global, bytes: Vec<u8>) -> Result<CanonPath, AllocError>
+    requires spelling { IsSpelling bytes.items }
+    requires below { bytes.items ≡ slash ∷ [] → ⊥ }
+    ensures { IfOk result (λ path. path ≡ names_of bytes.items) }
+{
+    let bytes = Arc::new(alloc, bytes)?;
+    Ok(CanonPath { bytes: Some(bytes) })
+}
+
+impl CanonPath {
+    /// The root, `/`. It takes no memory.
+    pub fn root(_: Global) -> Result<CanonPath, AllocError>
         ensures { IfOk result (λ path. path ≡ []) }
     {
-        let bytes = roomy(alloc, b"/", room)?;
-        Ok(CanonPath { bytes })
+        Ok(the_root())
     }
 
     /// The path that a text spells, or None exactly where it spells no canonical path.
@@ -167,23 +170,12 @@ impl CanonPath {
         if !is_spelling(text) {
             return Ok(None);
         }
-        let bytes = text.to_vec(alloc)?;
-        Ok(Some(CanonPath { bytes }))
-    }
-
-    /// As `read`, with room for so many bytes behind it.
-    pub(crate) fn read_with_room(
-        alloc: Global,
-        text: &[u8],
-        room: usize,
-    ) -> Result<Option<CanonPath>, AllocError>
-        ensures { IfOk result (λ path. path ≡ path_of text.now) }
-    {
-        if !is_spelling(text) {
-            return Ok(None);
+        if text.len() == 1 {
+            return Ok(Some(the_root()));
         }
-        let bytes = roomy(alloc, text, room)?;
-        Ok(Some(CanonPath { bytes }))
+        let bytes = text.to_vec(alloc)?;
+        let path = below_root(alloc, bytes)?;
+        Ok(Some(path))
     }
 
     /// As `read`, keeping the text itself, with no copy.
@@ -193,7 +185,12 @@ impl CanonPath {
         if !is_spelling(text.as_slice()) {
             return Ok(None);
         }
-        Ok(Some(CanonPath { bytes: text }))
+        if text.len() == 1 {
+            return Ok(Some(the_root()));
+        }
+        let alloc = *text.allocator();
+        let path = below_root(alloc, text)?;
+        Ok(Some(path))
     }
 
     /// The spelling.
@@ -201,7 +198,10 @@ impl CanonPath {
         ensures value { result.now ≡ spelled self.now }
         ensures canonical { IsCanonical self.now }
     {
-        self.bytes.as_slice()
+        match &self.bytes {
+            None => b"/".as_slice(),
+            Some(bytes) => bytes.as_slice(),
+        }
     }
 
     // The spelling, empty at the root.
@@ -229,68 +229,43 @@ impl CanonPath {
     {
         let above = before_last(self.bytes());
         if above.is_empty() {
-            return CanonPath::root(alloc);
+            return Ok(the_root());
         }
         let bytes = above.to_vec(alloc)?;
-        Ok(CanonPath { bytes })
+        below_root(alloc, bytes)
     }
 
     /// The path of a name in this directory, or None exactly where the name is none or the path would be too long.
     pub fn child(&self, alloc: Global, name: &[u8]) -> Result<Option<CanonPath>, AllocError>
         ensures { IfOk result (λ path. path ≡ child_of self.now name.now) }
     {
-        let stem = self.stem().len();
-        if !is_name(name) || stem + name.len() >= PATH_LIMIT {
+        let stem = self.stem();
+        if !is_name(name) || stem.len() + name.len() >= PATH_LIMIT {
             return Ok(None);
         }
-        let copy = roomy(alloc, self.bytes.as_slice(), 1 + name.len())?;
-        let bytes = extended(copy, stem, name)?;
-        Ok(Some(CanonPath { bytes }))
+        let bytes = extended(alloc, stem, name)?;
+        let path = below_root(alloc, bytes)?;
+        Ok(Some(path))
     }
 
-    /// As `child`, in the bytes of this path.
-    pub(crate) fn into_child(self, name: &[u8]) -> Result<Option<CanonPath>, AllocError>
-        ensures { IfOk result (λ path. path ≡ child_of self name.now) }
+    /// A copy, which shares the spelling. It takes no memory, and is refused only where that is shared 2^63 times.
+    pub fn copy(&self, _: Global) -> Result<CanonPath, AllocError>
+        ensures { IfOk result (λ path. path ≡ self.now) }
     {
-        let stem = self.stem().len();
-        if !is_name(name) || stem + name.len() >= PATH_LIMIT {
-            return Ok(None);
+        match &self.bytes {
+            None => Ok(the_root()),
+            Some(bytes) => {
+                let bytes = Arc::try_clone(bytes)?;
+                Ok(CanonPath { bytes: Some(bytes) })
+            }
         }
-        let bytes = extended(self.bytes, stem, name)?;
-        Ok(Some(CanonPath { bytes }))
-    }
-
-    /// As `parent`, in the bytes of this path.
-    pub(crate) fn into_parent(self) -> CanonPath
-        ensures { result ≡ paths.parent self }
-    {
-        let above = before_last(self.bytes()).len();
-        let mut bytes = self.bytes;
-        bytes.truncate(above.max(1));
-        CanonPath { bytes }
-    }
-
-    /// A copy.
-    pub fn copy(&self, alloc: Global) -> Result<CanonPath, AllocError>
-        ensures { IfOk result (λ path. path ≡ self.now) }
-    {
-        let bytes = self.bytes.as_slice().to_vec(alloc)?;
-        Ok(CanonPath { bytes })
-    }
-
-    /// A copy, with room for so many bytes behind it.
-    pub(crate) fn copy_with_room(&self, alloc: Global, room: usize) -> Result<CanonPath, AllocError>
-        ensures { IfOk result (λ path. path ≡ self.now) }
-    {
-        let bytes = roomy(alloc, self.bytes.as_slice(), room)?;
-        Ok(CanonPath { bytes })
     }
 
     /// Whether this is the root.
     pub fn is_root(&self) -> bool
         ensures { IsTrue result ↔ (self.now ≡ []) }
     {
-        self.bytes.len() == 1
+        self.bytes.is_none()
     }
 
     /// Whether both are the same path.

@@ -3,7 +3,7 @@
 // A text is walked component by component from a directory, and each node that is met is noted. At a link the walk stops; the link's text is
 // put in front of what is left, and the walk goes on from the link's directory, at most 40 times for a text, so no link is followed by
 // recursion. `locate` walks what stands before the last `/`, and then the last component: the directory in which that is looked up, with its
-// name, is the file's place. A walk takes one look at the tree and one copy of a path for each component.
+// name, is the file's place. A walk takes one look at the tree and makes one path for each component, which the note of it shares.
 //
 // A text that begins with `/` is walked up to its last `/` once, where the tree remembers what that reached, and then glanced at (glance.rt).
 // Where the walk of that text's own front is remembered, one look tells what it reaches, and no walk is needed (learn.rt).
@@ -144,14 +144,14 @@ fn start(alloc: Global, dir: CanonPath, text: &[u8]) -> Result<CanonPath, AllocE
     }
 }
 
-// Where the walk of a text begins, with room for the text's names.
+// Where the walk of a text begins, from a directory that is lent.
 fn begin(alloc: Global, dir: &CanonPath, text: &[u8]) -> Result<CanonPath, AllocError>
     ensures { IfOk result (λ path. path ≡ walks.start dir.now text.now) }
 {
     if begins_at_root(text) {
-        CanonPath::root_with_room(alloc, text.len())
+        CanonPath::root(alloc)
     } else {
-        dir.copy_with_room(alloc, text.len())
+        dir.copy(alloc)
     }
 }
 
@@ -212,7 +212,7 @@ fn go_down<T: Tree>(
     ensures never_large { IsErrOf result TreeError.Large → ⊥ }
     ensures no_read { T.reads tree.new ≡ T.reads tree.old }
 {
-    let Some(path) = dir.into_child(name)? else {
+    let Some(path) = dir.child(alloc, name)? else {
         return Ok(Step::Nowhere);
     };
     let Some(node) = tree.node(&path)? else {
@@ -223,7 +223,7 @@ fn go_down<T: Tree>(
         Node::Dir => Ok(Step::Dir(path)),
         Node::File => Ok(Step::File(path)),
         Node::Link(text) => {
-            let from = start(alloc, path.into_parent(), text.as_slice())?;
+            let from = start(alloc, dir, text.as_slice())?;
             Ok(Step::Link(from, text))
         }
     }
@@ -246,7 +246,7 @@ fn take_step<T: Tree>(
     match move_of(name) {
         Move::Stay => Ok(Step::Dir(dir)),
         Move::Up => {
-            let up = dir.into_parent();
+            let up = dir.parent(alloc)?;
             note(alloc, &up, walked)?;
             Ok(Step::Dir(up))
         }
@@ -372,7 +372,7 @@ fn walk_front<T: Tree>(
     ensures no_read { T.reads tree.new ≡ T.reads tree.old }
 {
     let mut nodes = List::new(alloc);
-    let root = CanonPath::root_with_room(alloc, text.len())?;
+    let root = CanonPath::root(alloc)?;
     let stop = walk_on(alloc, tree, root, LINK_LIMIT, Some(text), &mut nodes)?;
     let shared = SharedNodes::of(alloc, nodes)?;
     let reached = reached_by(alloc, &stop, &shared)?;

@@ -3,7 +3,7 @@ use Rattle.tree_model.specs.Paths.{child_of}
 use Rattle.tree_model.specs.Trees.{entry_at}
 use Rattle.tree_model.specs.Walk.{start}
 use Rattle.tree_model.specs.declared.entry.Node.TheVariants as node
-use Rattle.tree_model.proofs.StepLemmas.{node_told, none_else, not_child, no_entry, some_entry, from_start, child_parent}
+use Rattle.tree_model.proofs.StepLemmas.{node_told, none_else, not_child, no_entry, some_entry, from_start}
 use Rattle.tree_model.proofs.walk.go_down.Goals as goal
 
 pub returns-in_default-clause-step : goal.returns-in_default-clause-step
@@ -30,8 +30,7 @@ pub returns-in_ok-from-in-Link-clause-step : goal.returns-in_ok-from-in-Link-cla
 returns-in_ok-from-in-Link-clause-step g c told is links rest =
     let text_is : c.as_slice.result.now ≡ c.in-Link.text = c.as_slice.ensures in
     let child : Some c.in-Some.path ≡ child_of c.args.dir c.args.name.now = sym c.in-Some.is ∙ c.in_ok-path.ensures in
-    let back : c.into_parent.result ≡ c.args.dir = c.into_parent.ensures ∙ child_parent c.args.dir c.args.name.now c.in-Some.path child in
     from_start (entry_at told) links rest c.args.walked.now c.note.new.walked _ c.args.dir c.in_ok-from-in-Link.from c.in-Link.text
-    (c.in_ok-from-in-Link.ensures ∙ ap (λ dir. start dir c.as_slice.result.now) back ∙ ap (start c.args.dir) text_is)
+    (c.in_ok-from-in-Link.ensures ∙ ap (start c.args.dir) text_is)
     (some_entry told links rest c.args.dir c.args.name.now c.args.walked.now c.note.new.walked (node.Link c.in-Link.text) c.in-Some.path child
     (sym (c.in-Some-2.is ∙ ap Some c.in-Link.is) ∙ node_told _ told _ _ is c.in_ok-node.ensures.answer) c.in_ok-note.ensures)

@@ -8,7 +8,7 @@ returns-in-Stay-clause-step g c told is links rest = stays (entry_at told) links
 
 pub returns-in_ok-note-in-Up-clause-step : goal.returns-in_ok-note-in-Up-clause-step
 returns-in_ok-note-in-Up-clause-step g c told is links rest =
-    goes_up (entry_at told) links rest c.args.dir c.args.name.now c.args.walked.now c.note.new.walked c.into_parent-up.result c.in-Up.ensures c.into_parent-up.ensures c.in_ok-note-in-Up.ensures
+    goes_up (entry_at told) links rest c.args.dir c.args.name.now c.args.walked.now c.note.new.walked c.in_ok-up-in-Up.up c.in-Up.ensures c.in_ok-up-in-Up.ensures c.in_ok-note-in-Up.ensures
 
 pub returns-in-Down-clause-step : goal.returns-in-Down-clause-step
 returns-in-Down-clause-step g c =
