@@ -12,6 +12,7 @@ mod part;
 mod place;
 mod plain;
 mod quoted;
+mod run;
 mod same_source;
 mod single;
 mod source;

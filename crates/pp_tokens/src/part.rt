@@ -6,10 +6,11 @@ ghost use Rattle.pp_tokens.specs.Lines.{Part, token, first_part};
 ghost use Rattle.pp_tokens.specs.parts.Text.{part_told, is_quote, opens_header, begins_number};
 ghost use Rattle.pp_tokens.specs.parts.Unpaired.{KnowsUnpaired};
 
-use crate::class::{is_digit, is_identifier_byte, is_identifier_start, is_text_mark, is_white};
+use crate::class::{is_digit, is_identifier_start, is_text_mark, is_white};
 use crate::comment::slash_part;
 use crate::marks::{byte_at, mark_part, number_part};
 use crate::quoted::{header_at, quoted_at, word_at};
+use crate::run::{Word, run_length};
 use crate::token::Kind;
 use crate::unpaired::Unpaired;
 
@@ -23,38 +24,13 @@ pub enum What {
     Token(Kind),
 }
 
-// How many bytes at the front go on with an identifier, looked at one after another.
-fn last_length(bytes: &[u8]) -> usize
-    ensures run { result ≡ length (take_while is_identifier_byte bytes.now) }
-    ensures within { result ≤ length bytes.now }
-{
-    bytes.iter().take_while(|b| is_identifier_byte(**b)).count()
-}
-
-/// The same, four by four, since most identifiers are short. It is compiled by itself, where its loop has registers enough.
+/// How many bytes at the front go on with an identifier. It is compiled by itself, where its loop has registers enough.
 #[inline(never)]
 pub fn word_length(bytes: &[u8]) -> usize
     ensures run { result ≡ length (take_while is_identifier_byte bytes.now) }
     ensures within { result ≤ length bytes.now }
 {
-    let mut length = 0usize;
-    while length + 4 <= bytes.len() {
-        if !is_identifier_byte(bytes[length]) {
-            return length;
-        }
-        if !is_identifier_byte(bytes[length + 1]) {
-            return length + 1;
-        }
-        if !is_identifier_byte(bytes[length + 2]) {
-            return length + 2;
-        }
-        if !is_identifier_byte(bytes[length + 3]) {
-            return length + 3;
-        }
-        length += 4;
-    }
-    let (_, rest) = bytes.split_at(length);
-    length + last_length(rest)
+    run_length::<Word>(bytes)
 }
 
 fn is_quote(b: u8) -> bool

@@ -8,10 +8,10 @@ ghost use Rattle.pp_tokens.specs.parts.TextLines.{is_ordinary, is_token_part, be
 ghost use Rattle.pp_tokens.specs.parts.Text.{part_told};
 ghost use Rattle.pp_tokens.specs.parts.Unpaired.{KnowsUnpaired};
 
-use crate::class::is_ordinary;
 use crate::due::{Before, spells_hash};
 use crate::lexer::{newlines, splices_passed, stretch};
 use crate::part::{What, next_part};
+use crate::run::{Ordinary, run_length};
 use crate::unpaired::Unpaired;
 
 /// Where the line behind a line of text begins, the physical line of that place without its splices, and the physical line
@@ -29,7 +29,8 @@ fn is_token(what: What) -> bool
     matches!(what, What::Token(_))
 }
 
-fn begins_line(before: Before) -> bool
+/// Whether no token stands on the line so far.
+pub fn begins_line(before: Before) -> bool
     ensures { result ≡ begins_line before }
 {
     matches!(before, Before::Nothing)
@@ -49,7 +50,7 @@ fn ordinary_at(text: &[u8], at: usize) -> usize
     ensures within { at + result ≤ length text.now }
 {
     let (_, rest) = text.split_at(at);
-    rest.iter().take_while(|b| is_ordinary(**b)).count()
+    run_length::<Ordinary>(rest)
 }
 
 /// The end of a line of text, from a place behind its first token on, with the physical line of that place and the splices
