@@ -18,7 +18,7 @@ use Rattle.pp_tokens.specs.parts.Text.{after_word, is_due, opens_header}
 use Rattle.pp_tokens.specs.parts.Gathered.{newlines, lines_left, present_tokens, file_with, lines_with, present_with, before_with, IsGathered, IsPart, GathersNothing, EndsLine, EndsLastLine, AddsToken, AddsGap, Gathers}
 use Rattle.pp_tokens.proofs.Reading.{cut_off, next_element, drop_one_more, first_stands, some_length}
 use Rattle.pp_tokens.proofs.LinedRests.{lined_bytes, lined_past, cut_bytes, cut_line}
-use Rattle.pp_tokens.proofs.TextLemmas.{white_byte, white_first, newline_first, no_delimiter}
+use Rattle.pp_tokens.proofs.TextLemmas.{white_first, newline_first, due_or_not, opens_none}
 use Rattle.pp_tokens.proofs.OneLine.{short_newlines}
 use Rattle.pp_tokens.proofs.Joining.{lines_joined}
 use Rattle.pp_tokens.proofs.Places.{ascends_last, ascends_more, ascends_line, last_of_more, within_more, all_dropped, same_lines, line_more, token_more}
@@ -47,6 +47,17 @@ first_is_part due (b ∷ bs) p n some found =
     by_stand : (due : Bool) (part : Part) (t after : List ℕ) → Stands due part t after → IsPart part t
     by_stand due part t after (inl (d, is, header)) = inr (is, header)
     by_stand due part t after (inr (none, is, longest)) = inl is
+
+-- the same from a place of a text on
+pub first_fits : (text : List ℕ) (at : ℕ) (due : Bool) (p : Part) (n : ℕ) → at < length text → ◌≡◌ {A = Part × ℕ} (p, n) (first_part due (drop at text))
+    → (0 < n) × (at + n ≤ length text)
+first_fits text at due p n below found =
+    let is = first_within due (drop at text) p n (omega (arith, length-drop at text, below)) found in
+    (is.0, omega (arith, is.1, length-drop at text, below))
+
+pub part_at : (text : List ℕ) (at : ℕ) (due : Bool) (p : Part) (n : ℕ) → at < length text → ◌≡◌ {A = Part × ℕ} (p, n) (first_part due (drop at text))
+    → IsPart p (take n (drop at text))
+part_at text at due p n below found = first_is_part due (drop at text) p n (omega (arith, length-drop at text, below)) found
 
 -- the first element of what is left, and the elements behind it
 pub part_first : (words : List (List ℕ)) (due : Bool) (splices : List ℕ) (at line n : ℕ) (p : Part) (xs : List ℕ) → 0 < length xs → header_due words ≡ due
@@ -301,25 +312,10 @@ lex_end view text splices old new at base past g state e =
 
 -- A RUN OF WHITE SPACE
 
--- no white space begins a header name
-no_opening : (b : ℕ) → is_white b ≡ true → opens_header b ≡ false
-no_opening b h =
-    elim (white_byte b h) [
-      | inl e ↦ rw e refl
-      | inr (inl e) ↦ rw e refl
-      | inr (inr (inl e)) ↦ rw e refl
-      | inr (inr (inr (inl e))) ↦ rw e refl
-      | inr (inr (inr (inr e))) ↦ rw e refl
-    ]
-
 white_is : (text : List ℕ) (at : ℕ) (due : Bool) → at < length text → is_white (get_or text at 0) ≡ true → first_part due (drop at text) ≡ (white, 1)
 white_is text at due below blank =
     let here : get_or (drop at text) 0 0 ≡ get_or text at 0 = get_or-drop at text 0 0 ∙ ap (λ i. get_or text i 0) (omega arith) in
-    by_due due (white_first (drop at text) (ap is_white here ∙ blank))
-  where
-    by_due : (d : Bool) → first_part false (drop at text) ≡ (white, 1) → first_part d (drop at text) ≡ (white, 1)
-    by_due false alone = alone
-    by_due true alone = no_delimiter text at below (no_opening (get_or text at 0) blank) ∙ alone
+    due_or_not text at due below (opens_none is_white (get_or text at 0) blank refl refl) ∙ white_first (drop at text) (ap is_white here ∙ blank)
 
 one_white : (view : LexedFile → LexedFile) (text splices : List ℕ) (old new : Gathering) (at base : ℕ) → IsGathered text old → LexState view text splices old at base → at < length text
     → is_white (get_or text at 0) ≡ true → AddsGap old new None → LexState view text splices new (at + 1) base
@@ -375,11 +371,7 @@ white_run view text splices old new at base (suc n) g state e some blank =
 newline_is : (text : List ℕ) (at : ℕ) (due : Bool) → at < length text → get_or text at 0 ≡ 10 → first_part due (drop at text) ≡ (newline, 1)
 newline_is text at due below is =
     let here : get_or (drop at text) 0 0 ≡ get_or text at 0 = get_or-drop at text 0 0 ∙ ap (λ i. get_or text i 0) (omega arith) in
-    by_due due (newline_first (drop at text) (here ∙ is))
-  where
-    by_due : (d : Bool) → first_part false (drop at text) ≡ (newline, 1) → first_part d (drop at text) ≡ (newline, 1)
-    by_due false alone = alone
-    by_due true alone = no_delimiter text at below (rw is refl) ∙ alone
+    due_or_not text at due below (rw is refl) ∙ newline_first (drop at text) (here ∙ is)
 
 one_newline : (xs : List ℕ) → 0 < length xs → get_or xs 0 0 ≡ 10 → newlines (take 1 xs) ≡ 1
 one_newline [] some is = absurd (omega (arith, some))

@@ -5,6 +5,7 @@ mod Headers
 pub mod Reading
 mod SliceLemmas
 mod FirstBytes
+mod FirstPut
 mod Numbers
 mod GoingOn
 mod Punctuators

@@ -6,6 +6,7 @@ use Rattle.pp_tokens.specs.declared.token.Kind.TheVariants.{Header}
 use Rattle.pp_tokens.specs.Grammar.{is_white, is_identifier, is_number, number_goes_on, is_string, is_character, is_header, is_punctuator, kind_of}
 use Rattle.pp_tokens.specs.Lines.{newline, white, token, part_of, is_comment, is_open_comment, NoLonger, longest_from, header_part, first_part}
 use Rattle.pp_tokens.specs.parts.Text.{opens_header}
+use Rattle.pp_tokens.proofs.FirstBytes.{apart}
 use Rattle.pp_tokens.proofs.Longest.{none_longest}
 use Rattle.pp_tokens.proofs.Reading.{stands_first}
 use Rattle.pp_tokens.proofs.Numbers.{single_stands}
@@ -78,6 +79,19 @@ pub no_delimiter : (text : List ℕ) (at : ℕ) → at < length text → opens_h
 no_delimiter [] at h none = absurd (omega arith)
 no_delimiter (b ∷ bs) zero h none = let both = or_parts (b == 60) (b == 34) none in not_begun true b bs both.0 both.1
 no_delimiter (b ∷ bs) (suc at) h none = no_delimiter bs at (omega arith) none
+
+-- so it's the same whether or not one is due
+pub due_or_not : (text : List ℕ) (at : ℕ) (due : Bool) → at < length text → opens_header (get_or text at 0) ≡ false
+    → first_part due (drop at text) ≡ first_part false (drop at text)
+due_or_not text at true below none = no_delimiter text at below none
+due_or_not text at false below none = refl
+
+-- a byte that passes a test which both delimiters fail is neither
+pub opens_none : (test : ℕ → Bool) (b : ℕ) → test b ≡ true → test 60 ≡ false → test 34 ≡ false → opens_header b ≡ false
+opens_none test b passes angle quote =
+    let a : (b == 60) ≡ false = apart test b 60 passes angle in
+    let q : (b == 34) ≡ false = apart test b 34 passes quote in
+    rw (a, q) refl
 
 pub delimiter_is : (b : ℕ) → opens_header b ≡ true → (b ≡ 60) ⊎ (b ≡ 34)
 delimiter_is b h =

@@ -1,7 +1,8 @@
 -- Punctuators that are no front of a longer one.
 use Rattle.std.specs.Prelude.{◌≡◌, ℕ, ◌<◌, Bool, true, false, cond, not, List, [], ◌∷◌, length, get_or, refl, ◌==◌, codes, ◌||◌}
 use Rattle.std.specs.List.{list_all, list_any}
-use Rattle.std.proofs.Common.{sym, ◌∙◌, ap, subst}
+use Rattle.std.proofs.Common.{sym, ◌∙◌, ap, subst, arith, length-drop, drop, ◌+◌}
+use Rattle.std.proofs.lemmas.List.{get_or-drop}
 use Rattle.std.proofs.lemmas.Bool.{eqb-true, and_parts, and_right}
 use Rattle.pp_tokens.specs.declared.token.Kind.TheVariants.{Punct, Other}
 use Rattle.pp_tokens.specs.Grammar.{is_white, is_newline, is_identifier_start}
@@ -45,7 +46,7 @@ no_pair a b h =
     rw (and_right (b == 61) _ equals, and_right (b == a) _ doubled, mixed) refl
 
 -- such a punctuator stands alone in front of any text
-pub text_mark_first : (text : List ℕ) → 0 < length text → is_text_mark (get_or text 0 0) ≡ true → first_part false text ≡ (token Punct, 1)
+text_mark_first : (text : List ℕ) → 0 < length text → is_text_mark (get_or text 0 0) ≡ true → first_part false text ≡ (token Punct, 1)
 text_mark_first text some h =
     let a = get_or text 0 0 in
     let b = get_or text 1 0 in
@@ -54,3 +55,10 @@ text_mark_first text some h =
     let single : is_single a ≡ true = of_each is_single a (codes ";,(){}[]") refl h in
     alone_first text some (mark a b h) (fails (λ k. is_quadruple k b c d) a refl h) (fails (λ k. is_triple k b c) a refl h) (no_pair a b h)
     ∙ ap (λ t. (token (cond t Punct Other), 1)) single
+
+-- the same from a place on
+pub text_mark_at : (text : List ℕ) (at : ℕ) → at < length text → is_text_mark (get_or text at 0) ≡ true → first_part false (drop at text) ≡ (token Punct, 1)
+text_mark_at text at below h =
+    let still : at + 0 ≡ at = omega arith in
+    let first : get_or (drop at text) 0 0 ≡ get_or text at 0 = get_or-drop at text 0 0 ∙ ap (λ i. get_or text i 0) still in
+    text_mark_first (drop at text) (omega (arith, length-drop at text, below)) (ap is_text_mark first ∙ h)

@@ -13,26 +13,28 @@ ghost use Rattle.std.specs.Prelude.{◌≡◌, ◌≤◌, ◌<◌, ◌+◌, ◌-
 ghost use Rattle.std.specs.List.{flat_map};
 ghost use Rattle.std.specs.Option.{option_map_or};
 ghost use Rattle.base_types.specs.Limits.{body_limit};
-ghost use Rattle.pp_tokens.specs.parts.Gathered.{newlines, GathersNothing, EndsLine, AddsToken, AddsGap, EndsLastLine, EndsTextLine, IsGathered, IsPart, Gathers};
+ghost use Rattle.pp_tokens.specs.parts.Gathered.{newlines, GathersNothing, EndsLine, AddsToken, AddsGap, EndsLastLine, EndsTextLine, IsGathered, IsPart, Gathers, PutsFirst};
 ghost use Rattle.pp_tokens.specs.Grammar.{is_white};
 ghost use Rattle.pp_tokens.specs.Lined.{lined, spliced_up_to, Rising};
-ghost use Rattle.pp_tokens.specs.Lines.{all_tokens, elements, file_of, lexed};
+ghost use Rattle.pp_tokens.specs.Lines.{all_tokens, elements, file_of, first_part, lexed};
 ghost use Rattle.pp_tokens.specs.DirectiveLines.{directives_alone};
 ghost use Rattle.pp_tokens.specs.parts.Packed.{place_told};
 ghost use Rattle.pp_tokens.specs.parts.Seen.{seen_file, token_of_place, IsWhole};
-ghost use Rattle.pp_tokens.specs.parts.Text.{part_told};
+ghost use Rattle.pp_tokens.specs.parts.Text.{is_due, part_told};
+ghost use Rattle.pp_tokens.specs.parts.Unpaired.{KnowsUnpaired};
 ghost use Rattle.pp_tokens.specs.Tokens.{token_seen};
 
-use crate::class::is_white;
+use crate::class::{is_identifier_start, is_text_mark, is_white};
 use crate::comment::line_length;
 use crate::due::{Before, after_word, is_due};
 use crate::excerpt::Excerpt;
 use crate::part::{What, next_part};
 use crate::place::Place;
+use crate::quoted::word_at;
 use crate::same_source::is_source_of;
 use crate::source::{SourceText, read_source};
-use crate::text_line::{begins_text, line_end};
-use crate::token::TokenRef;
+use crate::text_line::{begins_line, begins_text, line_end};
+use crate::token::{Kind, TokenRef};
 use crate::unpaired::Unpaired;
 use std::alloc::{AllocError, Global};
 use std::marker::Model;
@@ -261,6 +263,70 @@ pub fn newlines(what: What, part: &[u8]) -> usize
     }
 }
 
+// Gathers a part that stands at a place, on a line: the place behind it, and the line there without splices, where `base` is that of the place.
+#[inline(always)]
+fn put_part(
+    gathering: &mut Gathering,
+    text: &[u8],
+    at: usize,
+    base: usize,
+    line: u32,
+    part: (What, usize),
+) -> Result<(usize, usize), AllocError>
+    requires small { length text.now ≤ body_limit + 1 }
+    requires short { length text.now ≤ body_limit + newlines text.now }
+    requires at { at < length text.now }
+    requires base { base ≤ at + 1 }
+    requires few { length gathering.old.places.items ≤ at }
+    requires gathered { IsGathered text.now gathering.old }
+    requires part { (part_told part.0, part.1) ≡ first_part (is_due gathering.old.before) (drop at text.now) }
+    ensures { IfOk result (PutsFirst text.now gathering.old gathering.new at base line) }
+{
+    let (what, size) = part;
+    gathering.add(text, what, at, size, line)?;
+    Ok((at + size, base + newlines(what, stretch(text, at, size))))
+}
+
+// Gathers what stands first from a place on, as `put_part` does. Most parts are words, and punctuators of one byte: they go by a shorter way.
+#[inline(always)]
+fn put_first(
+    gathering: &mut Gathering,
+    text: &[u8],
+    at: usize,
+    base: usize,
+    passed: usize,
+    unpaired: &mut Unpaired,
+) -> Result<(usize, usize), AllocError>
+    requires small { length text.now ≤ body_limit + 1 }
+    requires short { length text.now ≤ body_limit + newlines text.now }
+    requires at { at < length text.now }
+    requires base { base ≤ at + 1 }
+    requires passed { base + passed ≤ body_limit + 2 }
+    requires few { length gathering.old.places.items ≤ at }
+    requires gathered { IsGathered text.now gathering.old }
+    requires known { KnowsUnpaired unpaired.old text.now at }
+    ensures puts { IfOk result (PutsFirst text.now gathering.old gathering.new at base (base + passed)) }
+    ensures known { KnowsUnpaired unpaired.new text.now at }
+{
+    let line = (base + passed) as u32;
+    if is_identifier_start(text[at]) {
+        let word = word_at(text, at, unpaired);
+        put_part(gathering, text, at, base, line, word)
+    } else if is_text_mark(text[at]) {
+        put_part(
+            gathering,
+            text,
+            at,
+            base,
+            line,
+            (What::Token(Kind::Punct), 1),
+        )
+    } else {
+        let part = next_part(text, at, is_due(gathering.before), unpaired);
+        put_part(gathering, text, at, base, line, part)
+    }
+}
+
 // What is gathered of a whole text.
 #[inline(never)]
 fn gather(alloc: Global, text: &[u8], splices: &[u32]) -> Result<Gathering, AllocError>
@@ -287,10 +353,9 @@ fn gather(alloc: Global, text: &[u8], splices: &[u32]) -> Result<Gathering, Allo
             at += 1;
         } else {
             passed = splices_passed(splices, passed, at);
-            let (what, size) = next_part(text, at, is_due(gathering.before), &mut unpaired);
-            gathering.add(text, what, at, size, (base + passed) as u32)?;
-            base += newlines(what, stretch(text, at, size));
-            at += size;
+            let (end, line) = put_first(&mut gathering, text, at, base, passed, &mut unpaired)?;
+            at = end;
+            base = line;
         }
     }
     gathering.end_last_line()?;
@@ -368,7 +433,8 @@ fn gather_directives(alloc: Global, text: &[u8], splices: &[u32]) -> Result<Gath
     ensures file { IfOk result (λ g. seen_file text.now g.places.items g.ends.items g.unended ≡ directives_alone (file_of (elements zero [] (lined splices.now 0 1 text.now)))) }
     ensures gathered { IfOk result (λ g. IsGathered text.now g) }
 {
-    let mut gathering = Gathering::with_room(alloc, text.len() / 8)?;
+    // Directives have less than half of most files' tokens.
+    let mut gathering = Gathering::with_room(alloc, text.len() / 2)?;
     let mut unpaired = Unpaired::new();
     // As in `gather`.
     let mut base = 1usize;
@@ -384,17 +450,23 @@ fn gather_directives(alloc: Global, text: &[u8], splices: &[u32]) -> Result<Gath
             at += 1;
         } else {
             passed = splices_passed(splices, passed, at);
-            let (what, size) = next_part(text, at, is_due(gathering.before), &mut unpaired);
-            let word = stretch(text, at, size);
-            if begins_text(gathering.before, what, word) {
-                let end = line_end(text, splices, at + size, base, passed, &mut unpaired);
-                gathering.end_text(end.comment)?;
-                base = end.base;
-                at = end.at;
+            if begins_line(gathering.before) {
+                let (what, size) = next_part(text, at, is_due(gathering.before), &mut unpaired);
+                let word = stretch(text, at, size);
+                if begins_text(gathering.before, what, word) {
+                    let end = line_end(text, splices, at + size, base, passed, &mut unpaired);
+                    gathering.end_text(end.comment)?;
+                    base = end.base;
+                    at = end.at;
+                } else {
+                    gathering.add(text, what, at, size, (base + passed) as u32)?;
+                    base += newlines(what, word);
+                    at += size;
+                }
             } else {
-                gathering.add(text, what, at, size, (base + passed) as u32)?;
-                base += newlines(what, word);
-                at += size;
+                let (end, line) = put_first(&mut gathering, text, at, base, passed, &mut unpaired)?;
+                at = end;
+                base = line;
             }
         }
     }

@@ -1,6 +1,6 @@
 -- What the lexer has gathered of a text so far, and the file that comes of it with what is left. No public contract rests on
 -- these.
-use Rattle.std.specs.Prelude.{◌≡◌, ℕ, ◌+◌, ◌≤◌, Bool, true, false, cond, List, [], ◌∷◌, ◌++◌, map, length, drop, Option, Some, None, ◌==◌, ◌⊎◌}
+use Rattle.std.specs.Prelude.{◌≡◌, ℕ, ◌+◌, ◌≤◌, Bool, true, false, cond, List, [], ◌∷◌, ◌++◌, map, length, take, drop, Option, Some, None, ◌==◌, ◌⊎◌}
 use Rattle.std.specs.List.{count_by}
 use Rattle.base_types.specs.Ascii as ascii
 use Rattle.pp_tokens.specs.declared.token.Token.{Token}
@@ -11,9 +11,9 @@ use Rattle.pp_tokens.specs.declared.due.Before.TheVariants.{Nothing}
 use Rattle.pp_tokens.specs.declared.place.Place.{Place}
 use Rattle.pp_tokens.specs.declared.lexer.Gathering.{Gathering}
 use Rattle.pp_tokens.specs.Phases.{Cell, bytes}
-use Rattle.pp_tokens.specs.Lines.{Part, newline, white, comment, open_comment, token, Element, LexedFile, line_of, unended_line, or_else, part_of}
+use Rattle.pp_tokens.specs.Lines.{Part, newline, white, comment, open_comment, token, Element, LexedFile, line_of, unended_line, or_else, part_of, first_part}
 use Rattle.pp_tokens.specs.parts.Seen.{token_of_place, seen_lines, last_end, Ascends, EachWithin}
-use Rattle.pp_tokens.specs.parts.Text.{after_word}
+use Rattle.pp_tokens.specs.parts.Text.{after_word, is_due}
 
 -- how many newlines stand in a text
 abbrev pub newlines : List ℕ → ℕ
@@ -135,3 +135,12 @@ pub record Gathers (text : List ℕ) (old new : Gathering) (part : Part) (spelli
   pub present : present_tokens text new ≡ present_with part (present_tokens text old) spelling line old.space
   pub file : (cells : List Cell) (es : List Element) → bytes cells ≡ spelling → line_of cells ≡ line
       → file_with text new es ≡ file_with text old (record { part = part; cells = cells } ∷ es)
+
+-- what stands first at a place is gathered, on a line: the place behind it, and the line there, without splices, where base is that of the place
+pub record PutsFirst (text : List ℕ) (old new : Gathering) (at base line : ℕ) (behind : ℕ × ℕ) : Type 0 where
+  pub part : Part
+  pub size : ℕ
+  pub first : ◌≡◌ {A = Part × ℕ} (part, size) (first_part (is_due old.before) (drop at text))
+  pub gathers : Gathers text old new part (take size (drop at text)) line
+  pub place : behind.0 ≡ at + size
+  pub counted : behind.1 ≡ base + newlines (take size (drop at text))

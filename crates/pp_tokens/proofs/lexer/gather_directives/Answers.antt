@@ -1,21 +1,22 @@
-use Rattle.std.proofs.Common.{◌≡◌, ◌≤◌, ◌<◌, ◌+◌, ◌-◌, ℕ, true, false, length, take, drop, ap, ◌∙◌, sym, arith, length-drop, subst, ◌==◌}
+use Rattle.std.proofs.Common.{◌≡◌, ◌≤◌, ◌<◌, ◌+◌, ◌-◌, ℕ, true, false, ◌&&◌, not, length, take, drop, ap, ◌∙◌, sym, arith, length-drop, subst, ◌==◌}
 use Rattle.std.proofs.lemmas.List.Sums.{count_by-le-length}
 use Rattle.std.proofs.lemmas.List.{length-take-le}
 use Rattle.std.proofs.lemmas.Bool.{and_parts}
 use Rattle.pp_tokens.specs.Lined.{spliced_up_to}
-use Rattle.pp_tokens.specs.Lines.{Part, newline, first_part}
+use Rattle.pp_tokens.specs.Lines.{Part, newline, first_part, spells_hash}
 use Rattle.pp_tokens.specs.DirectiveLines.{directives_alone}
 use Rattle.pp_tokens.specs.parts.Gathered.{newlines, IsPart, Gathers}
 use Rattle.pp_tokens.specs.parts.Text.{is_due, part_told}
-use Rattle.pp_tokens.specs.parts.TextLines.{begins_line, begins_text}
+use Rattle.pp_tokens.specs.parts.TextLines.{is_token_part, begins_line, begins_text}
 use Rattle.pp_tokens.specs.parts.Unpaired.{KnowsUnpaired}
+use Rattle.pp_tokens.proofs.FirstPut.{PutOn, first_put, known_behind}
 use Rattle.pp_tokens.proofs.LaterPlaces.{known_later}
 use Rattle.pp_tokens.proofs.Splices.{up_to_all, up_to_later}
 use Rattle.pp_tokens.proofs.ShortParts.{short_stretch}
 use Rattle.pp_tokens.proofs.LexSteps.{first_within, first_is_part, nothing_gathered, lex_start, lex_step, lex_end, white_up_to, newline_at}
 use Rattle.pp_tokens.proofs.DirectiveSteps.{nothing_outlined, gap_outlined, part_outlined, text_outlined, text_step, end_outlined, is_a_token, newline_no_text}
 use Rattle.pp_tokens.proofs.lexer.gather_directives.Goals as goal
-use Rattle.pp_tokens.proofs.lexer.gather_directives.Goals.{After-next_part-what}
+use Rattle.pp_tokens.proofs.lexer.gather_directives.Goals.{After-next_part-what, In_ok-end}
 
 pub loop-at-init : goal.loop-at-init
 loop-at-init c =
@@ -130,8 +131,8 @@ newlines-base-requires c =
 pub overflow_add-at-else-begins_text : goal.overflow_add-at-else-begins_text
 overflow_add-at-else-begins_text c = omega (arith, (size_is (goal.at.overflow_add-at-else-begins_text c).After-next_part-what).1, c.requires.small)
 
-pub loop-at-smaller : goal.loop-at-smaller
-loop-at-smaller c = let size = size_is (goal.at.loop-at-smaller c).After-next_part-what in omega (arith, size.0, size.1)
+pub loop-at-smaller-else-begins_text : goal.loop-at-smaller-else-begins_text
+loop-at-smaller-else-begins_text c = let size = size_is (goal.at.loop-at-smaller-else-begins_text c).After-next_part-what in omega (arith, size.0, size.1)
 
 pub loop-at-preserved-then-is_white : goal.loop-at-preserved-then-is_white
 loop-at-preserved-then-is_white c =
@@ -179,9 +180,9 @@ loop-at-preserved-then-text-at-eq10 c =
       state = next.0;
     }
 
-pub loop-at-preserved : goal.loop-at-preserved
-loop-at-preserved c =
-    let s = (goal.at.loop-at-preserved c).After-next_part-what in
+pub loop-at-preserved-else-begins_text : goal.loop-at-preserved-else-begins_text
+loop-at-preserved-else-begins_text c =
+    let s = (goal.at.loop-at-preserved-else-begins_text c).After-next_part-what in
     let size = size_is s in
     let text = c.args.text.now in
     let splices = c.args.splices.now in
@@ -206,6 +207,43 @@ loop-at-preserved c =
       gathered = step.gathered;
       outlined = part_outlined text word old new part (c.loop-at.base + spliced_up_to splices at) c.loop-at.invariant.outlined step other;
       state = rw passed (lex_step directives_alone text splices old new at c.loop-at.base n part c.loop-at.invariant.state c.loop-at-test.true (first s) step);
+    }
+
+pub put_first-requires-clause-passed : goal.put_first-requires-clause-passed
+put_first-requires-clause-passed c =
+    omega (arith, c.loop-at.invariant.counted, c.loop-at-test.true, c.splices_passed-passed.ensures, up_to_all c.args.splices.now c.loop-at.at, c.requires.small)
+
+put_on : (c : In_ok-end)
+    → PutOn directives_alone c.args.text.now c.args.splices.now c.put_first.new.gathering c.loop-at.at c.splices_passed-passed.result (c.in_ok-end.end, c.in_ok-end.line)
+put_on c =
+    first_put directives_alone c.args.text.now c.args.splices.now c.loop-at.gathering c.put_first.new.gathering c.loop-at.at c.loop-at.base c.splices_passed-passed.result
+    (c.in_ok-end.end, c.in_ok-end.line) c.loop-at-test.true c.loop-at.invariant.counted c.loop-at.invariant.few c.splices_passed-passed.ensures c.loop-at.invariant.state c.in_ok-end.ensures.puts
+
+pub loop-at-smaller : goal.loop-at-smaller
+loop-at-smaller c = let on = put_on c in omega (arith, on.later, on.within)
+
+pub loop-at-preserved : goal.loop-at-preserved
+loop-at-preserved c =
+    let on = put_on c in
+    let text = c.args.text.now in
+    let at = c.loop-at.at in
+    let old = c.loop-at.gathering in
+    let new = c.put_first.new.gathering in
+    let passed = c.splices_passed-passed.result in
+    let behind : ℕ × ℕ = (c.in_ok-end.end, c.in_ok-end.line) in
+    let put = c.in_ok-end.ensures.puts in
+    let word = take put.size (drop at text) in
+    let begun : begins_line old.before ≡ false = sym c.begins_line.ensures ∙ c.if-begins_line.false in
+    record {
+      within = on.within;
+      counted = on.counted;
+      passes = on.passes;
+      known = known_behind c.put_first.new.unpaired text old new at c.loop-at.base (c.loop-at.base + passed) behind c.in_ok-end.ensures.known put;
+      few = on.few;
+      gathered = on.gathered;
+      outlined = part_outlined text word old new put.part (c.loop-at.base + passed) c.loop-at.invariant.outlined put.gathers
+          (ap (λ t. t && (is_token_part put.part && not (spells_hash word))) begun);
+      state = on.state;
     }
 
 pub returns-clause-file : goal.returns-clause-file
