@@ -82,13 +82,14 @@ file_here tree is links dir name before path e file =
 
 -- BELOW A TEXT
 
-pub reached_nodes : (w : Walked) (dir : Path) (nodes : List Path) → reached_by w ≡ reach.Dir dir nodes → nodes ≡ w.nodes
-reached_nodes w dir nodes there = at_end w.end there
+-- a walk that reached a directory ended there, with these nodes and so many links left
+pub reached_dir : (w : Walked) (dir : Path) (nodes : List Path) (links : ℕ) → reached_by w ≡ reach.Dir dir nodes links → (w.end ≡ AtDir dir links) × (nodes ≡ w.nodes)
+reached_dir w dir nodes links there = at_end w.end there
   where
-    at_end : (end : End) → reached_at w.nodes end ≡ reach.Dir dir nodes → nodes ≡ w.nodes
+    at_end : (end : End) → reached_at w.nodes end ≡ reach.Dir dir nodes links → (end ≡ AtDir dir links) × (nodes ≡ w.nodes)
     at_end Nowhere e = absurd (cc)
     at_end (AtFile real) e = absurd (cc)
-    at_end (AtDir path links) e = cc
+    at_end (AtDir path left) e = let d : path ≡ dir = cc in let l : left ≡ links = cc in (ap (λ (p : Path). AtDir p left) d ∙ ap (AtDir dir) l, cc)
 
 module _ (tree : FileTree) (before : List Path) (list : List Text) (name : Text) where
   abbrev Front : Walked
@@ -104,21 +105,13 @@ module _ (tree : FileTree) (before : List Path) (list : List Text) (name : Text)
       at_end (AtDir path links) e = absurd (cc)
 
   -- what is located in the directory that it reached
-  module _ (dir : Path) (nodes : List Path) (there : reached_by Front ≡ reach.Dir dir nodes) where
-    pub in_dir : (links : ℕ) × (Front.end ≡ AtDir dir links)
-    in_dir = at_end Front.end there
-      where
-        at_end : (end : End) → reached_at Front.nodes end ≡ reach.Dir dir nodes → (links : ℕ) × (end ≡ AtDir dir links)
-        at_end Nowhere e = absurd (cc)
-        at_end (AtFile real) e = absurd (cc)
-        at_end (AtDir path links) e = let same : path ≡ dir = cc in (links, ap (λ (p : Path). AtDir p links) same)
-
-    as_located : located_below (entry_at tree) before list name ≡ located_in dir name (before ++ Front.nodes) (walk (entry_at tree) in_dir.0 dir (name ∷ []))
-    as_located = ap (last_looked_up (entry_at tree) name (before ++ Front.nodes)) in_dir.1
+  module _ (dir : Path) (nodes : List Path) (links : ℕ) (there : reached_by Front ≡ reach.Dir dir nodes links) where
+    as_located : located_below (entry_at tree) before list name ≡ located_in dir name (before ++ Front.nodes) (walk (entry_at tree) links dir (name ∷ []))
+    as_located = ap (last_looked_up (entry_at tree) name (before ++ Front.nodes)) (reached_dir Front dir nodes links there).0
 
     pub below_missing : entry_at tree (name ∷ dir) ≡ None → None ≡ located_below (entry_at tree) before list name
-    below_missing none = missing_here tree in_dir.0 dir name (before ++ Front.nodes) none ∙ sym as_located
+    below_missing none = missing_here tree links dir name (before ++ Front.nodes) none ∙ sym as_located
 
     pub below_file : IsTree tree → (path : Path) → path ≡ name ∷ dir → Some node.File ≡ node_at tree path
         → Some (record { place = path; real = path; walked = (before ++ Front.nodes) ++ path ∷ [] }) ≡ located_below (entry_at tree) before list name
-    below_file is path e file = file_here tree is in_dir.0 dir name (before ++ Front.nodes) path e file ∙ sym as_located
+    below_file is path e file = file_here tree is links dir name (before ++ Front.nodes) path e file ∙ sym as_located

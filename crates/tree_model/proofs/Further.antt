@@ -5,7 +5,7 @@ use Rattle.tree_model.specs.Trees.{FileTree, entry_at, node_at, node_of_entry}
 use Rattle.std.specs.Option.{option_map}
 use Rattle.tree_model.specs.Walk.{Look, components, Component, Stay, Up, Down, component_of, start, End, Nowhere, AtDir, AtFile, Walked, through, looking, walk_ended, file_end, entered, taken, walk, but_last, last_of}
 use Rattle.tree_model.specs.Reached.{reached, reached_at, reached_by}
-use Rattle.tree_model.specs.parts.Glances.{reached_below}
+use Rattle.tree_model.specs.parts.Glances.{reached_below, EndsInFrontOf}
 use Rattle.tree_model.specs.parts.Steps.{followed}
 use Rattle.tree_model.specs.declared.entry.Entry.{Entry}
 use Rattle.tree_model.specs.declared.entry.Entry.TheVariants.{Dir, File, Link}
@@ -14,7 +14,7 @@ use Rattle.tree_model.specs.declared.reached.Reached.{Reached}
 use Rattle.tree_model.specs.declared.reached.Reached.TheVariants as reach
 use Rattle.tree_model.proofs.PathLemmas.{canonical_from_test}
 use Rattle.tree_model.proofs.StepLemmas.{walk-cons, walk-nil, some_component, child_named}
-use Rattle.tree_model.proofs.Below.{entry_none, entry_file, taken_as, in_dir}
+use Rattle.tree_model.proofs.Below.{entry_none, entry_file, taken_as, reached_dir}
 
 -- THE END OF THE LONGER WALK
 
@@ -114,41 +114,42 @@ module _ (tree : FileTree) (text name : Text) where
       at_end (AtDir path links) e h = absurd (cc)
 
   -- behind one that reached a directory, it is by what stands at the name there
-  module _ (dir : Path) (nodes : List Path) (there : reached tree text ≡ reach.Dir dir nodes) (path : Path) (child : Some path ≡ child_of dir name) where
-    abbrev Last : ℕ → Option Entry → Walked
-    Last links found = entered (λ next. walk (entry_at tree) links next []) (followed (entry_at tree) links) [] dir (name ∷ dir) found
+  module _ (dir : Path) (nodes : List Path) (links : ℕ) (there : reached tree text ≡ reach.Dir dir nodes links) (path : Path) (child : Some path ≡ child_of dir name) where
+    abbrev Last : Option Entry → Walked
+    Last found = entered (λ next. walk (entry_at tree) links next []) (followed (entry_at tree) links) [] dir (name ∷ dir) found
 
     by_last : (found : Option Entry) → entry_at tree path ≡ found
-        → (links : ℕ) × ((Whole.end ≡ (Last links found).end) × (Whole.nodes ≡ Front.nodes ++ (Last links found).nodes))
+        → (Whole.end ≡ (Last found).end) × (Whole.nodes ≡ Front.nodes ++ (Last found).nodes)
     by_last found e =
-        let in_it : (links : ℕ) × (Front.end ≡ AtDir dir links) = in_dir tree [] (components text) name dir nodes there in
-        let links : ℕ = in_it.0 in
         let h : Further (entry_at tree) name Front.nodes (AtDir dir links) Whole =
-        subst (λ end. Further (entry_at tree) name Front.nodes end Whole) in_it.1 (walk-further (entry_at tree) name 40 [] (components text)) in
+        subst (λ end. Further (entry_at tree) name Front.nodes end Whole) (reached_dir Front dir nodes links there).0 (walk-further (entry_at tree) name 40 [] (components text)) in
         let at : entry_at tree (name ∷ dir) ≡ found = ap (entry_at tree) (sym (child_named dir name path child)) ∙ e in
-        let step : walk (entry_at tree) links dir (name ∷ []) ≡ looking (name ∷ dir) (Last links found) =
+        let step : walk (entry_at tree) links dir (name ∷ []) ≡ looking (name ∷ dir) (Last found) =
         taken_as (entry_at tree) links dir name (named dir name path child) [] found at in
-        (links, (h.0 ∙ ap (λ (w : Walked). w.end) step, h.1 ∙ ap (λ (w : Walked). Front.nodes ++ w.nodes) step))
+        (h.0 ∙ ap (λ (w : Walked). w.end) step, h.1 ∙ ap (λ (w : Walked). Front.nodes ++ w.nodes) step)
 
     pub below_absent : None ≡ node_at tree path → reach.Nowhere ≡ reached_below tree text name
     below_absent e =
         let h = by_last None (entry_none tree path e) in
-        sym (ap (reached_at Whole.nodes) h.1.0)
+        sym (ap (reached_at Whole.nodes) h.0)
 
     pub below_a_file : Some node.File ≡ node_at tree path → reach.Nowhere ≡ reached_below tree text name
     below_a_file e =
         let file = entry_file tree path e in
         let h = by_last (Some (File file.0)) file.1 in
-        sym (ap (reached_at Whole.nodes) h.1.0)
+        sym (ap (reached_at Whole.nodes) h.0)
 
-    pub below_a_dir : (walked : List Path) → walked ≡ Front.nodes ++ path ∷ [] → Some node.Dir ≡ node_at tree path → reach.Dir path walked ≡ reached_below tree text name
-    below_a_dir walked w e =
+    pub below_a_dir : (seen : List Path × ℕ) → EndsInFrontOf Front path seen → Some node.Dir ≡ node_at tree path → reach.Dir path seen.0 seen.1 ≡ reached_below tree text name
+    below_a_dir seen front e =
         let h = by_last (Some Dir) (entry_dir tree path e) in
         let is : path ≡ name ∷ dir = child_named dir name path child in
-        let nil : walk (entry_at tree) h.0 (name ∷ dir) [] ≡ walk_ended (AtDir (name ∷ dir) h.0) = walk-nil (entry_at tree) h.0 (name ∷ dir) in
-        let end : Whole.end ≡ AtDir (name ∷ dir) h.0 = h.1.0 ∙ ap (λ (w : Walked). w.end) nil in
-        let all : Whole.nodes ≡ Front.nodes ++ (name ∷ dir) ∷ [] = h.1.1 ∙ ap (λ (w : Walked). Front.nodes ++ (name ∷ dir) ∷ w.nodes) nil in
-        ap (reach.Dir path) (w ∙ ap (λ (p : Path). Front.nodes ++ p ∷ []) is ∙ sym all) ∙ ap (λ p. reach.Dir p Whole.nodes) is ∙ sym (ap (reached_at Whole.nodes) end)
+        let nil : walk (entry_at tree) links (name ∷ dir) [] ≡ walk_ended (AtDir (name ∷ dir) links) = walk-nil (entry_at tree) links (name ∷ dir) in
+        let end : Whole.end ≡ AtDir (name ∷ dir) links = h.0 ∙ ap (λ (w : Walked). w.end) nil in
+        let all : Whole.nodes ≡ Front.nodes ++ (name ∷ dir) ∷ [] = h.1 ∙ ap (λ (w : Walked). Front.nodes ++ (name ∷ dir) ∷ w.nodes) nil in
+        let at : AtDir front.1.0 seen.1 ≡ AtDir dir links = sym front.1.1 ∙ (reached_dir Front dir nodes links there).0 in
+        let left : seen.1 ≡ links = cc in
+        let nodes : seen.0 ≡ Whole.nodes = front.0 ∙ ap (λ (p : Path). Front.nodes ++ p ∷ []) is ∙ sym all in
+        ap (λ nodes. reach.Dir path nodes seen.1) nodes ∙ ap (reach.Dir path Whole.nodes) left ∙ ap (λ p. reach.Dir p Whole.nodes links) is ∙ sym (ap (reached_at Whole.nodes) end)
 
 -- TEXTS
 

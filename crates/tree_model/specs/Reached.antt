@@ -9,7 +9,7 @@ use Rattle.tree_model.specs.declared.reached.Reached.TheVariants as reach
 
 abbrev pub reached_at : List Path → End → Reached
 reached_at nodes Nowhere = reach.Nowhere
-reached_at nodes (AtDir path links) = reach.Dir path nodes
+reached_at nodes (AtDir path links) = reach.Dir path nodes links
 reached_at nodes (AtFile real) = reach.Nowhere
 
 abbrev pub reached_by : Walked → Reached

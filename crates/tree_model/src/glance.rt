@@ -53,7 +53,7 @@ pub(crate) fn recall_child<T: Tree>(
     match tree.recall(text) {
         None => Ok(Recalled::Unknown),
         Some(Reached::Nowhere) => Ok(Recalled::Nowhere),
-        Some(Reached::Dir(dir, _)) => match dir.child(alloc, name)? {
+        Some(Reached::Dir(dir, _, _)) => match dir.child(alloc, name)? {
             Some(path) => Ok(Recalled::Child(path)),
             None => Ok(Recalled::Unknown),
         },
@@ -96,7 +96,7 @@ fn nodes_to<T: Tree>(
     ensures { IfOk result (λ o. IfSome o (λ nodes. ForSome (T.told tree.now) (λ told.
         nodes ≡ ((from.now ∷ [] ∷ []) ++ (walk (entry_at told) link_limit [] (components text.now)).nodes) ++ path.now ∷ []))) }
 {
-    let Some(Reached::Dir(_, walked)) = tree.recall(text) else {
+    let Some(Reached::Dir(_, walked, _)) = tree.recall(text) else {
         return Ok(None);
     };
     let shared = walked.share()?;

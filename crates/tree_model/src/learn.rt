@@ -9,7 +9,7 @@ ghost use Rattle.base_types.specs.Causes.{HasCause};
 ghost use Rattle.base_types.specs.Limits.{link_limit};
 ghost use Rattle.tree_model.specs.Trees.{entry_at};
 ghost use Rattle.tree_model.specs.Walk.{components, walk};
-ghost use Rattle.tree_model.specs.parts.Glances.{TellsLocated, located_below, reached_below};
+ghost use Rattle.tree_model.specs.parts.Glances.{EndsInFrontOf, TellsLocated, located_below, reached_below};
 
 use crate::glance::{Glanced, Recalled, glance_at, recall_child};
 use crate::nodes::push_copies;
@@ -18,24 +18,24 @@ use crate::{CanonPath, Node, Reached, SharedNodes, Tree, TreeError};
 use base_types::{Bytes, List};
 use std::alloc::{AllocError, Global};
 
-// The nodes of a walk that is remembered, with a path behind them.
+// The nodes of a walk that is remembered, with a path behind them, and the links that it left.
 fn nodes_and<T: Tree>(
     alloc: Global,
     tree: &T,
     text: &[u8],
     path: &CanonPath,
-) -> Result<Option<SharedNodes>, AllocError>
-    ensures { IfOk result (λ o. IfSome o (λ nodes. ForSome (T.told tree.now) (λ told.
-        nodes ≡ (walk (entry_at told) link_limit [] (components text.now)).nodes ++ path.now ∷ []))) }
+) -> Result<Option<(SharedNodes, u32)>, AllocError>
+    ensures { IfOk result (λ o. IfSome o (λ seen. ForSome (T.told tree.now) (λ told.
+        EndsInFrontOf (walk (entry_at told) link_limit [] (components text.now)) path.now seen))) }
 {
-    let Some(Reached::Dir(_, walked)) = tree.recall(text) else {
+    let Some(Reached::Dir(_, walked, links)) = tree.recall(text) else {
         return Ok(None);
     };
     let walked = walked.as_slice();
     let mut nodes = List::of(Vec::with_capacity(alloc, walked.len().saturating_add(1))?);
     push_copies(alloc, &mut nodes, walked)?;
     nodes.push(path.copy(alloc)?)?;
-    Ok(Some(SharedNodes::of(alloc, nodes)?))
+    Ok(Some((SharedNodes::of(alloc, nodes)?, *links)))
 }
 
 // What the walk of a text with one more component reaches, as far as what is remembered of the text and one look tell.
@@ -59,7 +59,7 @@ fn look_below<T: Tree>(
             Some(Node::File) => Ok(Some(Reached::Nowhere)),
             Some(Node::Link(_)) => Ok(None),
             Some(Node::Dir) => match nodes_and(alloc, tree, text, &path)? {
-                Some(nodes) => Ok(Some(Reached::Dir(path, nodes))),
+                Some((nodes, links)) => Ok(Some(Reached::Dir(path, nodes, links))),
                 None => Ok(None),
             },
         },

@@ -13,12 +13,12 @@ use std::alloc::Global;
 use std::collections::HashMap;
 use std::hash::{FoldHasher, Hasher};
 
-/// What the walk of a text from the root reached: a directory, with the nodes walked behind the root, or nothing below which a text
-/// locates a file.
+/// What the walk of a text from the root reached: a directory, with the nodes walked behind the root and how many links may still be
+/// followed, or nothing below which a text locates a file.
 #[derive(Drop)]
 pub enum Reached {
     Nowhere,
-    Dir(CanonPath, SharedNodes),
+    Dir(CanonPath, SharedNodes, u32),
 }
 
 /// What the walks of texts reached. The texts of a search are the directories that it names, so they are few.
@@ -30,7 +30,7 @@ pub struct Walks {
 
 // A number of 64 bits that is made of a text's bytes: other texts seldom have it too.
 #[tactic(auto, unfolding(crate::specs::parts::Remembered::number_of))]
-fn number_of(text: &[u8]) -> u64
+pub(crate) fn number_of(text: &[u8]) -> u64
     ensures { result ≡ remembered.number_of text.now }
 {
     let mut state = FoldHasher::default();

@@ -353,10 +353,27 @@ fn locate_last<T: Tree>(
 fn reached_by(alloc: Global, stop: &Stop, nodes: &SharedNodes) -> Result<Reached, AllocError>
     ensures { IfOk result (λ it. it ≡ reached_at nodes.now (end_of stop.now)) }
 {
-    let Stop::Dir(dir, _) = stop else {
+    let Stop::Dir(dir, links) = stop else {
         return Ok(Reached::Nowhere);
     };
-    Ok(Reached::Dir(dir.copy(alloc)?, nodes.share()?))
+    Ok(Reached::Dir(dir.copy(alloc)?, nodes.share()?, *links))
+}
+
+// Where the walk of a text from the root stopped, with the nodes walked, where the tree remembers that it reached a directory.
+fn recall_front<T: Tree>(
+    alloc: Global,
+    tree: &T,
+    text: &[u8],
+) -> Result<Option<(Stop, SharedNodes)>, AllocError>
+    ensures { IfOk result (λ o. IfSome o (λ it. ForSome (T.told tree.now) (λ told. GoesOn [] (walk (entry_at told) link_limit [] (components text.now)) it.1 (walk_ended (end_of it.0))))) }
+{
+    match tree.recall(text) {
+        Some(Reached::Dir(dir, nodes, links)) => {
+            let stop = Stop::Dir(dir.copy(alloc)?, *links);
+            Ok(Some((stop, nodes.share()?)))
+        }
+        _ => Ok(None),
+    }
 }
 
 // Walks a text from the root, and has the tree remember what that reached. The nodes walked are answered too.
@@ -406,7 +423,10 @@ fn walk_below<T: Tree>(
     ensures never_large { IsErrOf result TreeError.Large → ⊥ }
     ensures no_read { T.reads tree.new ≡ T.reads tree.old }
 {
-    let (stop, shared) = walk_front(alloc, tree, text)?;
+    let (stop, shared) = match recall_front(alloc, tree, text)? {
+        Some(known) => known,
+        None => walk_front(alloc, tree, text)?,
+    };
     match stop {
         Stop::Dir(last, links) => {
             let before = nodes_before(alloc, dir)?;

@@ -1,9 +1,9 @@
 -- What is remembered of a directory, and a look at a name in it, tell of a text.
-use Rattle.std.specs.Prelude.{◌≡◌, List, [], ◌∷◌, ◌++◌, Option, Some, None}
+use Rattle.std.specs.Prelude.{◌≡◌, ℕ, List, [], ◌∷◌, ◌++◌, Option, Some, None}
 use Rattle.base_types.specs.Limits.{link_limit}
 use Rattle.tree_model.specs.Paths.{Text, Path, child_of}
 use Rattle.tree_model.specs.Trees.{FileTree, entry_at}
-use Rattle.tree_model.specs.Walk.{Look, walk, components, last_looked_up}
+use Rattle.tree_model.specs.Walk.{Look, AtDir, Walked, walk, components, last_looked_up}
 use Rattle.tree_model.specs.Reached.{reached_by}
 use Rattle.tree_model.specs.declared.glance.Glance.{Glance}
 use Rattle.tree_model.specs.declared.glance.Glance.TheVariants as glance
@@ -19,7 +19,11 @@ use Rattle.tree_model.specs.declared.walk.Located.{Located}
 abbrev pub Recalls : Reached → Text → Recalled → Type 0
 Recalls it name recalled.Unknown = Unit {0}
 Recalls it name recalled.Nowhere = it ≡ reach.Nowhere
-Recalls it name (recalled.Child path) = (dir : Path) × (nodes : List Path) × ((it ≡ reach.Dir dir nodes) × (Some path ≡ child_of dir name))
+Recalls it name (recalled.Child path) = (dir : Path) × (nodes : List Path) × (links : ℕ) × ((it ≡ reach.Dir dir nodes links) × (Some path ≡ child_of dir name))
+
+-- a walk that ended at a directory, with this path behind its nodes and so many links left
+abbrev pub EndsInFrontOf : Walked → Path → List Path × ℕ → Type 0
+EndsInFrontOf walked path seen = (seen.0 ≡ walked.nodes ++ path ∷ []) × ((dir : Path) × (walked.end ≡ AtDir dir seen.1))
 
 -- what is told of the file that a last component leads to, behind these nodes
 abbrev pub Tells : List Path → Glance → Option Located → Type 0

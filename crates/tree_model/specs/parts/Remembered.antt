@@ -78,21 +78,21 @@ pub IsTrueOf-prop : (told : Option FileTree) (known : RememberedNodes) → IsPro
 IsTrueOf-prop told known = hlevel (props, Coded-set (coded_option node_code), is_node-prop)
 
 -- a code of what was reached
-abbrev reached_to : Reached → Unit {0} ⊎ (Path × List Path)
+abbrev reached_to : Reached → Unit {0} ⊎ (Path × (List Path × ℕ))
 reached_to reach.Nowhere = inl tt
-reached_to (reach.Dir path nodes) = inr (path, nodes)
+reached_to (reach.Dir path nodes links) = inr (path, (nodes, links))
 
-abbrev reached_from : Unit {0} ⊎ (Path × List Path) → Reached
+abbrev reached_from : Unit {0} ⊎ (Path × (List Path × ℕ)) → Reached
 reached_from (inl _) = reach.Nowhere
-reached_from (inr (path, nodes)) = reach.Dir path nodes
+reached_from (inr (path, (nodes, links))) = reach.Dir path nodes links
 
 reached_back : (it : Reached) → reached_from (reached_to it) ≡ it
 reached_back reach.Nowhere = refl
-reached_back (reach.Dir path nodes) = refl
+reached_back (reach.Dir path nodes links) = refl
 
 reached_code : Coded Reached
 reached_code =
-    code_by (Unit {0} ⊎ (Path × List Path)) (coded⊎ coded_unit (coded× (coded_list (coded_list coded_ℕ)) (coded_list (coded_list (coded_list coded_ℕ))))) reached_to reached_from reached_back
+    code_by (Unit {0} ⊎ (Path × (List Path × ℕ))) (coded⊎ coded_unit (coded× (coded_list (coded_list coded_ℕ)) (coded× (coded_list (coded_list (coded_list coded_ℕ))) coded_ℕ))) reached_to reached_from reached_back
 
 pub AreTrueWalks-prop : (told : Option FileTree) (known : Text → Option Reached) → IsProp (AreTrueWalks told known)
 AreTrueWalks-prop told known = hlevel (props, Coded-set reached_code)
