@@ -3,35 +3,57 @@ ghost use Rattle.std.specs.Prelude.{◌≡◌, None, Some, IfOk, IfErr, IfSome, 
 ghost use Rattle.std.proofs.lemmas.Option.{none-some};
 ghost use Rattle.base_types.specs.Causes.{HasCause, raised};
 ghost use Rattle.tree_model.specs.Entries.{bodies_fit, links_fit, makes_tree, mirror_error};
+ghost use Rattle.tree_model.specs.parts.Placed.{all_placed};
 ghost use Rattle.tree_model.specs.parts.Remembered.{walks_known, AreTrueWalks, AreTrueWalks-prop};
 ghost use Rattle.tree_model.specs.Trees.{tree_of, node_at, body_at, BodiesAreSmall, BodiesAreSmall-prop, IsBody, IsLinkAt, IsNode, IsTooLarge, IsTree, IsTree-prop, told_whole};
 
 use base_types::{Bytes, List};
 use std::alloc::Global;
 use tree_model::{
-    CanonPath, Entry, MirrorError, Node, Reached, Tree, TreeError, Unnamed, Walks, copied,
+    CanonPath, Entry, MirrorError, Node, Places, Reached, Tree, TreeError, Unnamed, Walks, copied,
     entry_at, fitting_bodies_are_small, judge_entries, lists_make_trees,
 };
 
 /// The tree of a request's entries and the root. It tells its content, has no faults, and keeps the list that it is
-/// given. Lookups are binary searches by the bytes of the path's spelling, and what walks reached is remembered.
+/// given. Lookups take constant time, and what walks reached is remembered.
 #[derive(Drop)]
 pub struct Mirror {
     alloc: Global,
     entries: List<(CanonPath, Entry)>,
+    places: Places,
     reads: u64,
     walks: Walks,
     ghost made: { IsTrue (makes_tree entries) },
+    ghost placed: { IsTrue (all_placed places.known entries) },
     ghost is_tree: { IsTree (tree_of entries) } by { IsTree-prop (tree_of entries) },
     ghost small: { BodiesAreSmall (tree_of entries) } by { BodiesAreSmall-prop (tree_of entries) },
     ghost true_walks: { AreTrueWalks (Some (tree_of entries)) (walks_known walks) } by { AreTrueWalks-prop (Some (tree_of entries)) (walks_known walks) },
 }
 
 impl Mirror {
-    /// The tree of these entries and the root, of which no file was read. `Order` exactly where the paths' spellings
-    /// don't increase strictly; else `Parent` exactly where a path is the root, or its parent is neither the root nor a
-    /// directory before it. It takes no memory, and keeps the allocator for the copies that `read`, and `node` of a link,
-    /// hand out.
+    /// The tree of entries that make one and the root, of which no file was read. It keeps the allocator for the copies that
+    /// `read`, and `node` of a link, hand out.
+    pub fn of(alloc: Global, entries: List<(CanonPath, Entry)>) -> Mirror
+        requires made { IsTrue (makes_tree entries) }
+        requires bodies { IsTrue (bodies_fit entries) }
+        ensures told { ⟦<Mirror as Tree>⟧.told result ≡ Some (tree_of entries) }
+        ensures faults { ⟦<Mirror as Tree>⟧.faults result ≡ 0 }
+        ensures reads { ⟦<Mirror as Tree>⟧.reads result ≡ 0 }
+    {
+        lists_make_trees();
+        fitting_bodies_are_small();
+        let places = Places::of(alloc, entries.as_slice());
+        Mirror {
+            alloc,
+            entries,
+            places,
+            reads: 0,
+            walks: Walks::new(alloc),
+        }
+    }
+
+    /// The same of entries that may make none: `Order` exactly where the paths' spellings don't increase strictly; else
+    /// `Parent` exactly where a path is the root, or its parent is neither the root nor a directory before it.
     pub fn build(alloc: Global, entries: List<(CanonPath, Entry)>) -> Result<Mirror, MirrorError>
         requires links { IsTrue (links_fit entries) }
         requires bodies { IsTrue (bodies_fit entries) }
@@ -41,17 +63,10 @@ impl Mirror {
         ensures ok { OnOk result (mirror_error entries ≡ None) }
         ensures error { IfErr result (λ e. mirror_error entries ≡ Some e) }
     {
-        lists_make_trees();
-        fitting_bodies_are_small();
         if let Some(error) = judge_entries(entries.as_slice()) {
             return Err(error);
         }
-        Ok(Mirror {
-            alloc,
-            entries,
-            reads: 0,
-            walks: Walks::new(alloc),
-        })
+        Ok(Mirror::of(alloc, entries))
     }
 }
 
@@ -79,7 +94,7 @@ impl Tree for Mirror {
         ensures only_links { IfSome (⟦<Mirror as Tree>⟧.told self.old) (λ tree. OnErr result (IsLinkAt tree path.now)) }
     {
         let root = Entry::Dir;
-        match entry_at(&root, self.entries.as_slice(), path) {
+        match entry_at(&root, self.entries.as_slice(), &self.places, path) {
             None => Ok(None),
             Some(entry) => Ok(Some(entry.shown(self.alloc)?)),
         }
@@ -105,7 +120,7 @@ impl Tree for Mirror {
     {
         self.reads = self.reads.saturating_add(1);
         let root = Entry::Dir;
-        match entry_at(&root, self.entries.as_slice(), path) {
+        match entry_at(&root, self.entries.as_slice(), &self.places, path) {
             None => Ok(None),
             Some(entry) => match entry {
                 Entry::Dir => Ok(None),

@@ -15,6 +15,7 @@
 --     Below          what is located below a text whose walk from the root reached a directory, or none
 --     Further        walks with one component more
 --     ShownLemmas    what is shown of a list, one member more
+--     PlacedLemmas   where entries stand, and what is found by it
 --     WalkExamples   worked walks
 pub mod PathLemmas
 pub mod OrderLemmas
@@ -32,4 +33,5 @@ pub mod RememberedLemmas
 pub mod Below
 pub mod Further
 pub mod ShownLemmas
+pub mod PlacedLemmas
 mod WalkExamples

@@ -4,8 +4,10 @@
 --     Glances     what two looks at a tree tell of a text
 --     Shared      the nodes that walks share
 --     Stored      the spelling that a path keeps
+--     Placed      where the entries of a list stand
 pub mod Steps
 pub mod Glances
 pub mod Remembered
 pub mod Shared
 pub mod Stored
+pub mod Placed

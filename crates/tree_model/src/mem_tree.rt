@@ -6,13 +6,16 @@ ghost use Rattle.base_types.specs.Calls.{FailsAsListed};
 ghost use Rattle.base_types.specs.Causes.{HasCause, raised};
 ghost use Rattle.tree_model.specs.Entries.{links_fit, makes_tree, mirror_error};
 ghost use Rattle.tree_model.specs.Reached.{reached};
+ghost use Rattle.tree_model.specs.parts.Placed.{all_placed};
 ghost use Rattle.tree_model.specs.parts.Remembered.{walks_known, AreTrueWalks, AreTrueWalks-prop};
 ghost use Rattle.tree_model.specs.Trees as trees;
 ghost use Rattle.tree_model.specs.Trees.{tree_of, node_at, body_at, IsNode, IsBody, IsTooLarge, IsTree, IsTree-prop, NamesOnly, NamesOnly-prop, told_whole};
 ghost use Rattle.tree_model.specs.declared.entry.Entry.TheVariants.{Dir};
 
-use crate::order::{entry_spelled, judge_entries};
-use crate::{CanonPath, Entry, Frozen, Node, Reached, Tree, TreeError, Walks, lists_make_trees};
+use crate::order::judge_entries;
+use crate::{
+    CanonPath, Entry, Frozen, Node, Places, Reached, Tree, TreeError, Walks, lists_make_trees,
+};
 use base_types::{Bytes, Calls, Counted};
 use std::alloc::Global;
 use std::marker::PhantomData;
@@ -31,11 +34,13 @@ pub enum MirrorError {
 pub struct MemTree<F: Frozen> {
     alloc: Global,
     entries: Vec<(CanonPath, Entry)>,
+    places: Places,
     calls: Calls,
     reads: u64,
     walks: Walks,
     of: PhantomData<F>,
     ghost made: { IsTrue (makes_tree entries.items) },
+    ghost placed: { IsTrue (all_placed places.known entries.items) },
     ghost is_tree: { IsTree (tree_of entries.items) } by { IsTree-prop (tree_of entries.items) },
     ghost true_walks: { AreTrueWalks (Some (tree_of entries.items)) (walks_known walks) } by { AreTrueWalks-prop (Some (tree_of entries.items)) (walks_known walks) },
     ghost names_this: { NamesOnly F.named (tree_of entries.items) } by { NamesOnly-prop F.named (tree_of entries.items) },
@@ -43,7 +48,7 @@ pub struct MemTree<F: Frozen> {
 
 impl<F: Frozen> MemTree<F> {
     /// The tree of these entries and the root, at which no call was made; or the first of the two reasons why they
-    /// make none. It takes no memory, and keeps the allocator for its answers.
+    /// make none. It keeps the allocator for its answers.
     pub fn new(
         alloc: Global,
         entries: Vec<(CanonPath, Entry)>,
@@ -63,9 +68,11 @@ impl<F: Frozen> MemTree<F> {
         if let Some(error) = judge_entries(entries.as_slice()) {
             return Err(error);
         }
+        let places = Places::of(alloc, entries.as_slice());
         Ok(MemTree {
             alloc,
             entries,
+            places,
             calls: Calls::new(fails),
             reads: 0,
             walks: Walks::new(alloc),
@@ -85,32 +92,36 @@ impl<F: Frozen> MemTree<F> {
 pub fn entry_at<'a>(
     root: &'a Entry,
     entries: &'a [(CanonPath, Entry)],
+    places: &Places,
     path: &CanonPath,
 ) -> Option<&'a Entry>
     requires root { root.now ≡ Dir }
     requires made { IsTrue (makes_tree entries.now) }
+    requires placed { IsTrue (all_placed places.now.known entries.now) }
     ensures { option_map (λ entry. entry.now) result ≡ trees.entry_at (tree_of entries.now) path.now }
 {
     if path.is_root() {
         return Some(root);
     }
-    entry_spelled(entries, path.bytes())
+    places.entry(entries, path.bytes())
 }
 
 // The node that the tree of the entries has at a path, if one is there.
 fn node_among(
     alloc: Global,
     entries: &[(CanonPath, Entry)],
+    places: &Places,
     path: &CanonPath,
 ) -> Result<Option<Node>, TreeError>
     requires made { IsTrue (makes_tree entries.now) }
+    requires placed { IsTrue (all_placed places.now.known entries.now) }
     requires whole { IsTree (tree_of entries.now) }
     ensures answer { IfOk result (λ got. got ≡ node_at (tree_of entries.now) path.now) }
     ensures form { IfOk result IsNode }
     ensures memory { (e : _) → result ≡ Err e → e ≡ TreeError.Memory }
 {
     let root = Entry::Dir;
-    match entry_at(&root, entries, path) {
+    match entry_at(&root, entries, places, path) {
         None => Ok(None),
         Some(entry) => Ok(Some(entry.shown(alloc)?)),
     }
@@ -120,16 +131,18 @@ fn node_among(
 fn body_among(
     alloc: Global,
     entries: &[(CanonPath, Entry)],
+    places: &Places,
     path: &CanonPath,
 ) -> Result<Option<Bytes>, TreeError>
-    requires { IsTrue (makes_tree entries.now) }
+    requires made { IsTrue (makes_tree entries.now) }
+    requires placed { IsTrue (all_placed places.now.known entries.now) }
     ensures answer { IfOk result (λ got. got ≡ body_at (tree_of entries.now) path.now) }
     ensures form { IfOk result IsBody }
     ensures large { IsErrOf result TreeError.Large → IsTooLarge (tree_of entries.now) path.now }
     ensures no_fault { IsErrOf result TreeError.Fault → ⊥ }
 {
     let root = Entry::Dir;
-    match entry_at(&root, entries, path) {
+    match entry_at(&root, entries, places, path) {
         None => Ok(None),
         Some(entry) => entry.body(alloc),
     }
@@ -169,7 +182,7 @@ impl<F: Frozen> Tree for MemTree<F> {
         if self.calls.next_fails() {
             return Err(TreeError::Fault);
         }
-        node_among(self.alloc, &self.entries, path)
+        node_among(self.alloc, &self.entries, &self.places, path)
     }
 
     fn recall(&self, text: &[u8]) -> Option<&Reached> {
@@ -203,6 +216,6 @@ impl<F: Frozen> Tree for MemTree<F> {
         if self.calls.next_fails() {
             return Err(TreeError::Fault);
         }
-        body_among(self.alloc, &self.entries, path)
+        body_among(self.alloc, &self.entries, &self.places, path)
     }
 }

@@ -10,5 +10,5 @@ returns-then-is_root c =
 
 pub returns : goal.returns
 returns c =
-    c.entry_spelled.ensures ∙ ap (λ (t : List ℕ). by_bytes t c.args.entries.now) c.bytes.ensures.value
+    c.entry.ensures ∙ ap (λ (t : List ℕ). by_bytes t c.args.entries.now) c.bytes.ensures.value
     ∙ at_path c.args.entries.now c.args.path.now c.requires.made (λ e. let t : false ≡ true = c.if-is_root.ensures.1 e in cc) c.bytes.ensures.canonical
