@@ -1,7 +1,6 @@
 pub mod LastMember
 pub mod Outcome
 pub mod Standing
-pub mod WholeTrees
 pub mod WholeRequests
 pub mod ReplyPuts
 pub mod RequestReads

@@ -51,9 +51,7 @@ pub(crate) fn preprocessed(
     requires bodies { IsTrue (bodies_fit entries) }
     ensures { IfOk result (λ reply. IsAnswerTo Answers (Some job.now) entries reply) }
 {
-    let Ok(mut tree) = Mirror::build(alloc, entries) else {
-        unreachable!()
-    };
+    let mut tree = Mirror::of(alloc, entries);
     let outcome = outcome_over(alloc, &mut tree, job, last)?;
     // The reply takes the memory of the files.
     drop(tree);
