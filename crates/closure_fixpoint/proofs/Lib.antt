@@ -10,6 +10,7 @@ pub mod NodeLaws
 pub mod WorklistLaws
 pub mod FollowsLaws
 pub mod GrownLaws
+pub mod FoundNext
 pub mod StandsLaws
 pub mod PlanLaws
 pub mod LoopLaws
