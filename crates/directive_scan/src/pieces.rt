@@ -118,15 +118,9 @@ impl Pieces {
         self.parts.spots.len()
     }
 
-    /// About how many bytes of the file its runs of text take, for room that is taken beforehand.
+    /// How many bytes of the file its runs of text take at most, for room that is taken beforehand.
     pub fn text_bytes(&self) -> usize {
-        let mut bytes = 0usize;
-        for spot in self.parts.spots.iter() {
-            if let Spot::Text { from, end } = spot {
-                bytes = bytes.saturating_add(self.parts.lexed.bytes_between(*from, *end));
-            }
-        }
-        bytes
+        self.parts.lexed.text_bytes()
     }
 
     /// The first malformed line of the file: an `#elif`, `#else` or `#endif` that has no place there, or at the end of

@@ -67,7 +67,7 @@ pub fn is_single(b: u8) -> bool
     CLASS[b as usize] & SINGLE != 0
 }
 
-/// Whether a byte is a punctuator that is no front of a longer one.
+/// Whether a byte is one of `;` `,` `(` `)` `{` `}` `[` `]`: the punctuators of one byte that no longer one begins with.
 pub fn is_text_mark(b: u8) -> bool
     ensures { result ≡ is_text_mark b }
 {

@@ -41,6 +41,7 @@ pub fn after_word(before: Before, word: &[u8]) -> Before
     match before {
         Before::Other => Before::Other,
         Before::Nothing => after_nothing(word),
+        Before::Condition => after_condition(word),
         _ => after_hashed(before, word),
     }
 }
@@ -113,6 +114,7 @@ fn after_hash(word: &[u8]) -> Before
 }
 
 #[tactic(auto, unfolding(crate::specs::parts::Text::after_word))]
+#[inline(always)]
 fn after_condition(word: &[u8]) -> Before
     ensures { result ≡ after_word Before.Condition word.now }
 {

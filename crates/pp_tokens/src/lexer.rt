@@ -231,6 +231,24 @@ fn white_end(text: &[u8], at: usize) -> usize
     end
 }
 
+// How many bytes a text has in which a byte counts the newlines.
+const SHORT: usize = 255;
+
+// How many newlines stand in a short text: so few that a byte counts them, and the processor counts many bytes at once.
+#[inline(always)]
+fn newlines_in_short(part: &[u8]) -> u8
+    requires { length part.now ≤ 255 }
+    ensures { result ≡ newlines part.now }
+{
+    let mut count = 0u8;
+    for byte in part {
+        if *byte == b'\n' {
+            count += 1;
+        }
+    }
+    count
+}
+
 // How many newlines stand in a text.
 #[inline(never)]
 fn newlines_within(part: &[u8]) -> usize
@@ -240,12 +258,9 @@ fn newlines_within(part: &[u8]) -> usize
     let mut at = 0usize;
     while at < part.len() {
         let (_, rest) = part.split_at(at);
-        let line = line_length(rest);
-        if line == rest.len() {
-            return count;
-        }
-        count += 1;
-        at += line + 1;
+        let (short, _) = rest.split_at(rest.len().min(SHORT));
+        count += newlines_in_short(short) as usize;
+        at += short.len();
     }
     count
 }
@@ -617,14 +632,9 @@ impl Lexed {
         Excerpt::over(&self.text, front(places, end.saturating_sub(from)))
     }
 
-    /// How many bytes of the text lie from the start of one token to that of the last before another, as `token_at` counts them: what
-    /// is left of room for them is little.
-    pub fn bytes_between(&self, from: usize, end: usize) -> usize {
-        if end <= from || self.places.len() < end {
-            return 0;
-        }
-        let first = self.places[from];
-        self.places[end - 1].start().saturating_sub(first.start())
+    /// How many bytes the text has, with comments and white space.
+    pub fn text_bytes(&self) -> usize {
+        self.text.len()
     }
 
     /// The line of a comment that never ends.

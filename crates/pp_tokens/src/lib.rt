@@ -23,6 +23,7 @@ mod tokens;
 mod unpaired;
 
 pub use base_types::{Bytes, List};
+pub use class::is_text_mark;
 pub use excerpt::Excerpt;
 pub use law::{one_reading, tokens_are_slices};
 pub use lexer::{Lexed, lex, lex_body, lex_directives};
