@@ -4,7 +4,7 @@ ghost use Rattle.base_types.specs.Ascii as ascii;
 ghost use Rattle.pp_tokens.specs.Tokens.{token_seen};
 ghost use Rattle.cpp_output.specs.Layout.{is_tight, last_on_line, gap};
 
-use pp_tokens::TokenRef;
+use pp_tokens::{TokenRef, is_text_mark};
 
 /// What stands last on an output line: nothing, one of the spellings `( ) [ ] { } , ;`, or another token.
 #[derive(Clone, Copy, Debug, PartialEq, Eq, Drop)]
@@ -19,14 +19,7 @@ pub enum Last {
 fn is_tight_byte(byte: u8) -> bool
     ensures { result ≡ is_tight (byte ∷ []) }
 {
-    byte == b'('
-        || byte == b')'
-        || byte == b'['
-        || byte == b']'
-        || byte == b'{'
-        || byte == b'}'
-        || byte == b','
-        || byte == b';'
+    is_text_mark(byte)
 }
 
 #[inline(always)]
