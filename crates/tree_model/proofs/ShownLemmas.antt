@@ -1,6 +1,6 @@
 -- What is shown of a list, one member more, and of plain bytes.
-use Rattle.std.proofs.Common.{◌≡◌, ◌<◌, ◌+◌, ℕ, List, [], ◌∷◌, ◌++◌, length, get_or, take, sym, ◌∙◌, ap, refl, Bool, true, false, not, ◌&&◌, ◌==◌, if◌then◌else◌, codes}
-use Rattle.std.specs.List.{flat_map, list_all}
+use Rattle.std.proofs.Common.{◌≡◌, ◌<◌, ◌+◌, ℕ, List, [], ◌∷◌, ◌++◌, length, get_or, take, sym, ◌∙◌, ap, refl, Bool, true, false, not, ◌&&◌, ◌||◌, ◌==◌, if◌then◌else◌, codes}
+use Rattle.std.specs.List.{flat_map, list_all, list_any}
 use Rattle.std.proofs.lemmas.Bool.{and_parts}
 use Rattle.base_types.specs.Ascii as ascii
 use Rattle.tree_model.specs.Paths.{Text}
@@ -26,3 +26,22 @@ plain-shown (b ∷ text) plain =
     let both = and_parts (is_plain b) (list_all is_plain text) plain in
     ap (λ (l : Text). shown_byte b ++ l) (plain-shown text both.1)
     ∙ plain-byte (b == ascii.backslash) (b == ascii.quote) (b == ascii.newline) b text both.0
+
+-- three tests of one element and of those behind it, and whether all pass none of them
+apart : (a b c A B C : Bool) → not (((a || A) || (b || B)) || (c || C)) ≡ ((not a && (not b && not c)) && not ((A || B) || C))
+apart true b c A B C = refl
+apart false b c true B C = by_rest b c B C
+  where
+    by_rest : (b c B C : Bool) → false ≡ ((true && (not b && not c)) && false)
+    by_rest true c B C = refl
+    by_rest false true B C = refl
+    by_rest false false B C = refl
+apart false true c false B C = refl
+apart false false true false true C = refl
+apart false false true false false C = refl
+apart false false false false B C = refl
+
+-- a name is plain where none of the three bytes stands in it
+pub plain_without : (bs : List ℕ) → not ((list_any (λ b. (b == 92)) bs || list_any (λ b. (b == 34)) bs) || list_any (λ b. (b == 10)) bs) ≡ list_all is_plain bs
+plain_without [] = refl
+plain_without (b ∷ bs) = apart (b == 92) (b == 34) ((b == 10)) _ _ _ ∙ ap (λ (rest : Bool). is_plain b && rest) (plain_without bs)

@@ -20,17 +20,14 @@ pub fn shown(alloc: Global, text: &[u8]) -> Result<Vec<u8>, AllocError>
     Ok(bytes)
 }
 
-// Whether each byte is shown as it is, as those of nearly all names are.
+// Whether each byte is shown as it is, as those of nearly all names are. Three searches for a byte are faster than one look at each.
 fn are_plain(text: &[u8]) -> bool
     ensures { result ≡ list_all is_plain text.now }
 {
-    text.iter().all(|b| is_plain(*b))
-}
-
-fn is_plain(byte: u8) -> bool
-    ensures { result ≡ is_plain byte }
-{
-    byte != b'\\' && byte != b'"' && byte != b'\n'
+    let backslash = text.contains(&b'\\');
+    let quote = text.contains(&b'"');
+    let newline = text.contains(&b'\n');
+    !(backslash | quote | newline)
 }
 
 fn add_shown(bytes: &mut Vec<u8>, byte: u8) -> Result<(), AllocError>
