@@ -6,7 +6,7 @@ use base_types::{Bytes, List};
 use case_texts::{Texts, Wrong, spelled};
 use directive_scan::{Asked, Directive, DirectiveRef, PieceRef, Pieces};
 use macro_defs::{DefineError, MacroTable, names_macro, read_shared};
-use macro_expand::{ExpandError, Mode, Presumed, RunError, Work, expand, expand_for};
+use macro_expand::{ExpandError, Mode, Presumed, RunError, Spelling, Work, expand, expand_for};
 use pp_tokens::{Lexed, Token, lex};
 use std::alloc::{AllocError, Global};
 use std::sync::Arc;
@@ -206,12 +206,12 @@ impl Expansion {
 fn add_named(
     text: &mut String,
     error: &str,
-    spellings: &[&Bytes],
+    spellings: &[&Spelling],
     line: u32,
 ) -> Result<(), AllocError> {
     write!(text, "!{error}")?;
     for spelling in spellings {
-        write!(text, " {}", spelled(spelling))?;
+        write!(text, " {}", spelled(spelling.as_bytes()))?;
     }
     write!(text, " {line}")
 }

@@ -9,7 +9,7 @@ ghost use Rattle.macro_expand.specs.Seen.{marked_of, lists_of, part_seen, parts_
 ghost use Rattle.macro_expand.specs.parts.Stamps.{Stamps, Stamped, AllStamped, EachStamped, CutStamped, CallStamped};
 
 use crate::marked::Marked;
-use crate::outcome::RunError;
+use crate::outcome::{RunError, Spelling};
 use crate::pending::Pending;
 use crate::replace::{Part, Parts};
 use base_types::Bytes;
@@ -161,7 +161,7 @@ pub(crate) fn with_kept<'a>(
 fn unclosed(alloc: Global, t: &Marked) -> RunError
     ensures { (result ≡ RunError.Memory) ⊎ (result ≡ RunError.Unclosed t.now.token.text t.now.token.line) }
 {
-    match Bytes::copy_of(alloc, t.token.text()) {
+    match Spelling::copy_of(alloc, t.token.text()) {
         Ok(name) => RunError::Unclosed {
             name,
             line: t.token.line(),
@@ -173,7 +173,7 @@ fn unclosed(alloc: Global, t: &Marked) -> RunError
 fn miscounted(alloc: Global, t: &Marked) -> RunError
     ensures { (result ≡ RunError.Memory) ⊎ (result ≡ RunError.Count t.now.token.text t.now.token.line) }
 {
-    match Bytes::copy_of(alloc, t.token.text()) {
+    match Spelling::copy_of(alloc, t.token.text()) {
         Ok(name) => RunError::Count {
             name,
             line: t.token.line(),

@@ -26,5 +26,5 @@ pub use answers::{Answers, Presumed, TablePlace};
 pub use expansion::expand_for;
 pub use laws::{choice_fact, expansion_is_frugal, expansion_unfolds};
 pub use lent::Lent;
-pub use outcome::{ExpandError, Mode, RunError, Work};
+pub use outcome::{ExpandError, Mode, RunError, Spelling, Work};
 pub use stream::{Expander, Standing, expand};

@@ -1,8 +1,9 @@
 // What expansion is asked to do, what it may cost, and how it ends.
-ghost use Rattle.std.specs.Prelude.{◌≡◌};
+ghost use Rattle.std.specs.Prelude.{◌≡◌, IfOk};
 
 use base_types::Bytes;
-use std::alloc::AllocError;
+use std::alloc::{AllocError, Global};
+use std::marker::Model;
 
 /// What is expanded: text, or the line of an `#if` or `#elif`, where a `defined` keeps its operand (ISO C 6.10.1).
 #[derive(Clone, Copy, Debug, PartialEq, Eq, Drop)]
@@ -17,6 +18,46 @@ pub struct Work {
     pub left: u64,
 }
 
+/// A spelling that an error names. It is in memory of its own, since what may be an error is moved about for each token, and so is to be
+/// small.
+#[derive(Debug, Drop)]
+pub struct Spelling {
+    bytes: Box<Bytes>,
+}
+
+impl Model for Spelling {
+    ghost use Rattle.std.specs.Prelude.{ℕ, List, box_value};
+
+    ghost Value = { List ℕ };
+
+    ghost view = { λ s. box_value s.bytes };
+}
+
+impl Spelling {
+    /// A copy of a slice. The only error is want of memory.
+    pub(crate) fn copy_of(alloc: Global, slice: &[u8]) -> Result<Spelling, AllocError>
+        ensures { IfOk result (λ s. s ≡ slice.now) }
+    {
+        let copy = Bytes::copy_of(alloc, slice)?;
+        match Box::new(alloc, copy) {
+            Ok(bytes) => Ok(Spelling { bytes }),
+            Err(_) => Err(AllocError),
+        }
+    }
+
+    pub fn as_slice(&self) -> &[u8]
+        ensures { result.now ≡ self.now }
+    {
+        self.bytes.as_slice()
+    }
+
+    pub fn as_bytes(&self) -> &Bytes
+        ensures { result.now ≡ self.now }
+    {
+        &self.bytes
+    }
+}
+
 /// Why a list of tokens has no expansion. `Count`: a call of the macro `name` has the wrong number of arguments (ISO C
 /// 6.10.3 paragraph 4). `Unclosed`: a call doesn't end (6.10.3 paragraph 10). `Paste`: `##` joins two spellings that
 /// make no single token (6.10.3.3 paragraph 3). `Deep`: arguments are expanded more than 400 deep. `Work`: a replacement costs
@@ -24,16 +65,16 @@ pub struct Work {
 #[derive(Debug, Drop)]
 pub enum ExpandError {
     Count {
-        name: Bytes,
+        name: Spelling,
         line: u32,
     },
     Unclosed {
-        name: Bytes,
+        name: Spelling,
         line: u32,
     },
     Paste {
-        left: Bytes,
-        right: Bytes,
+        left: Spelling,
+        right: Spelling,
         line: u32,
     },
     Deep {
@@ -47,16 +88,16 @@ pub enum ExpandError {
 #[derive(Debug, Drop)]
 pub enum RunError {
     Count {
-        name: Bytes,
+        name: Spelling,
         line: u32,
     },
     Unclosed {
-        name: Bytes,
+        name: Spelling,
         line: u32,
     },
     Paste {
-        left: Bytes,
-        right: Bytes,
+        left: Spelling,
+        right: Spelling,
         line: u32,
     },
     Deep {

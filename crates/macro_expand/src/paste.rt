@@ -7,7 +7,7 @@ ghost use Rattle.macro_expand.specs.parts.Pasting.{joined_from, IsOneToken, Made
 
 use crate::expansion::put;
 use crate::marked::{Marked, Piece};
-use crate::outcome::RunError;
+use crate::outcome::{RunError, Spelling};
 use base_types::Bytes;
 use pp_tokens::{Kind, Token, TokenCow, goes_on, single_token};
 use std::alloc::{AllocError, Global};
@@ -82,10 +82,10 @@ fn made_of_two<'t>(
 fn not_pasted(alloc: Global, t: &Marked, left: Marked, right: Marked) -> RunError
     ensures { (result ≡ RunError.Memory) ⊎ (result ≡ RunError.Paste left.entry.token.text right.entry.token.text t.now.token.line) }
 {
-    let Ok(left) = Bytes::copy_of(alloc, left.token.text()) else {
+    let Ok(left) = Spelling::copy_of(alloc, left.token.text()) else {
         return RunError::Memory;
     };
-    let Ok(right) = Bytes::copy_of(alloc, right.token.text()) else {
+    let Ok(right) = Spelling::copy_of(alloc, right.token.text()) else {
         return RunError::Memory;
     };
     RunError::Paste {

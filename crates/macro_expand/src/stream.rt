@@ -16,9 +16,9 @@ use crate::answers::{Presumed, TablePlace};
 use crate::expansion::{expand_head, public_error};
 use crate::lent::Lent;
 use crate::marked::Marked;
-use crate::outcome::{ExpandError, Mode, RunError, Work};
+use crate::outcome::{ExpandError, Mode, RunError, Spelling, Work};
 use crate::pending::Pending;
-use base_types::{Bytes, List};
+use base_types::List;
 use macro_defs::{MacroTable, Run};
 use pp_tokens::{Token, TokenCow, TokenRef};
 use std::alloc::{AllocError, Global};
@@ -310,16 +310,16 @@ fn copied(alloc: Global, e: &ExpandError) -> Result<ExpandError, AllocError>
 {
     Ok(match e {
         ExpandError::Count { name, line } => ExpandError::Count {
-            name: Bytes::copy_of(alloc, name.as_slice())?,
+            name: Spelling::copy_of(alloc, name.as_slice())?,
             line: *line,
         },
         ExpandError::Unclosed { name, line } => ExpandError::Unclosed {
-            name: Bytes::copy_of(alloc, name.as_slice())?,
+            name: Spelling::copy_of(alloc, name.as_slice())?,
             line: *line,
         },
         ExpandError::Paste { left, right, line } => ExpandError::Paste {
-            left: Bytes::copy_of(alloc, left.as_slice())?,
-            right: Bytes::copy_of(alloc, right.as_slice())?,
+            left: Spelling::copy_of(alloc, left.as_slice())?,
+            right: Spelling::copy_of(alloc, right.as_slice())?,
             line: *line,
         },
         ExpandError::Deep { line } => ExpandError::Deep { line: *line },
