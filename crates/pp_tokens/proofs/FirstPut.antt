@@ -1,6 +1,6 @@
 -- What stands first at a place is gathered: what is left of the text begins behind it.
 use Rattle.std.specs.Prelude.{◌≡◌, ℕ, ◌+◌, ◌≤◌, ◌<◌, ◌==◌, length, take, drop, List}
-use Rattle.std.proofs.Common.{sym, ◌∙◌, ap, arith, subst, length-drop}
+use Rattle.std.proofs.Common.{sym, arith, subst, length-drop}
 use Rattle.std.proofs.lemmas.List.Sums.{count_by-le-length}
 use Rattle.std.proofs.lemmas.List.{length-take-le}
 use Rattle.pp_tokens.specs.declared.lexer.Gathering.{Gathering}

@@ -14,7 +14,7 @@ use Rattle.pp_tokens.specs.Lines.{Part, newline, white, comment, open_comment, t
 use Rattle.pp_tokens.specs.parts.Packed.{PlaceTold, place_told}
 use Rattle.pp_tokens.specs.parts.Seen.{seen_lines, seen_file, last_end, Ascends, EachWithin}
 use Rattle.pp_tokens.specs.Grammar.{is_white}
-use Rattle.pp_tokens.specs.parts.Text.{after_word, is_due, opens_header}
+use Rattle.pp_tokens.specs.parts.Text.{after_word, is_due}
 use Rattle.pp_tokens.specs.parts.Gathered.{newlines, lines_left, present_tokens, file_with, lines_with, present_with, before_with, IsGathered, IsPart, GathersNothing, EndsLine, EndsLastLine, AddsToken, AddsGap, Gathers}
 use Rattle.pp_tokens.proofs.Reading.{cut_off, next_element, drop_one_more, first_stands, some_length}
 use Rattle.pp_tokens.proofs.LinedRests.{lined_bytes, lined_past, cut_bytes, cut_line}

@@ -21,9 +21,9 @@ mod LinedRests
 mod LaterPlaces
 mod Splices
 mod OneLine
-mod NewlineCounts
 mod ShortParts
 mod ByteTables
+mod RunLanes
 mod LexSteps
 mod Places
 mod FlatPlaces

@@ -25,7 +25,6 @@ ghost use Rattle.pp_tokens.specs.parts.Unpaired.{KnowsUnpaired};
 ghost use Rattle.pp_tokens.specs.Tokens.{token_seen};
 
 use crate::class::{is_identifier_start, is_text_mark, is_white};
-use crate::comment::line_length;
 use crate::due::{Before, after_word, is_due};
 use crate::excerpt::Excerpt;
 use crate::part::{What, next_part};

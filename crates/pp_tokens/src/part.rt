@@ -10,7 +10,7 @@ use crate::class::{is_digit, is_identifier_start, is_text_mark, is_white};
 use crate::comment::slash_part;
 use crate::marks::{byte_at, mark_part, number_part};
 use crate::quoted::{header_at, quoted_at, word_at};
-use crate::run::{Word, run_length};
+use crate::run::{LANES, Word, near_length, short_length};
 use crate::token::Kind;
 use crate::unpaired::Unpaired;
 
@@ -24,13 +24,22 @@ pub enum What {
     Token(Kind),
 }
 
-/// How many bytes at the front go on with an identifier. It is compiled by itself, where its loop has registers enough.
+/// How many bytes at the front go on with an identifier. It is compiled by itself, where it has registers enough. Nearly all words end in the
+/// first 16 bytes.
 #[inline(never)]
 pub fn word_length(bytes: &[u8]) -> usize
     ensures run { result ≡ length (take_while is_identifier_byte bytes.now) }
     ensures within { result ≤ length bytes.now }
 {
-    run_length::<Word>(bytes)
+    if bytes.len() < LANES {
+        return short_length::<Word>(bytes);
+    }
+    let near = near_length::<Word>(bytes);
+    if near < LANES {
+        return near;
+    }
+    let (_, rest) = bytes.split_at(LANES);
+    LANES + short_length::<Word>(rest)
 }
 
 fn is_quote(b: u8) -> bool

@@ -1,4 +1,4 @@
-use Rattle.std.proofs.Common.{◌≡◌, ◌≤◌, ◌<◌, ◌+◌, ◌-◌, ℕ, length, take, drop, ap, ◌∙◌, arith, length-drop, subst}
+use Rattle.std.proofs.Common.{◌≡◌, ◌+◌, ◌-◌, length, ap, arith, subst}
 use Rattle.pp_tokens.specs.Lined.{spliced_up_to}
 use Rattle.pp_tokens.specs.parts.Unpaired.{KnowsUnpaired}
 use Rattle.pp_tokens.proofs.FirstPut.{PutOn, first_put, known_behind}

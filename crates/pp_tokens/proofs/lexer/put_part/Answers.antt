@@ -1,5 +1,5 @@
-use Rattle.std.proofs.Common.{◌≡◌, ◌≤◌, ◌<◌, ◌+◌, ℕ, length, take, drop, subst, sym, ap, ◌∙◌, arith}
-use Rattle.pp_tokens.specs.parts.Gathered.{newlines, IsPart}
+use Rattle.std.proofs.Common.{subst, sym, arith}
+use Rattle.pp_tokens.specs.parts.Gathered.{IsPart}
 use Rattle.pp_tokens.specs.parts.Text.{is_due, part_told}
 use Rattle.pp_tokens.proofs.LexSteps.{first_fits, part_at}
 use Rattle.pp_tokens.proofs.ShortParts.{short_stretch}
