@@ -589,10 +589,17 @@ impl Reader {
         self.file.next += 1;
         match moved {
             Ok(Move::Onward) => Ok(()),
-            Ok(Move::Enter { at, file }) => self.enter(alloc, tree, setup, at, file),
-            Ok(Move::Renumber { at, new }) => {
-                renumber(alloc, &mut self.kept, &self.source, &mut self.file, at, new)
+            Ok(Move::Enter { at, file }) => {
+                self.enter(alloc, tree, setup, at, file.into_inner())
             }
+            Ok(Move::Renumber { at, new }) => renumber(
+                alloc,
+                &mut self.kept,
+                &self.source,
+                &mut self.file,
+                at,
+                new.into_inner(),
+            ),
             Err(stop) => Err(stop),
         }
     }

@@ -14,6 +14,7 @@ use crate::kept::{Kept, Places};
 use crate::line::{NewLine, read_line};
 use crate::stop::{Stop, refused};
 use crate::text::run_text;
+use base_types::Boxed;
 use cpp_output::LayError;
 use directive_scan::{Asked, Directive, DirectiveRef, PieceRef, Target};
 use pp_tokens::Token;
@@ -21,12 +22,19 @@ use search_path::Visit;
 use std::alloc::Global;
 use tree_model::{Located, Tree};
 
-/// What a piece leads to: the next piece, the file of an include on a line, or other numbers behind a `#line`.
+/// What a piece leads to: the next piece, the file of an include on a line, or other numbers behind a `#line`. What is large is in
+/// memory of its own, since this is moved about for each piece.
 #[derive(Drop)]
 pub enum Move {
     Onward,
-    Enter { at: u32, file: (Visit, Located) },
-    Renumber { at: u32, new: NewLine },
+    Enter {
+        at: u32,
+        file: Boxed<(Visit, Located)>,
+    },
+    Renumber {
+        at: u32,
+        new: Boxed<NewLine>,
+    },
 }
 
 /// Reads a piece that stands by itself: text and pragmas go into the output, definitions into the table, and includes are searched.
@@ -146,7 +154,10 @@ fn run_include<T: Tree>(
     ensures cause { HasCause Stop.Fault (T.faults tree.old) (T.faults tree.new) result }
 {
     match include(alloc, tree, kept, places, next, at, target) {
-        Ok(Some(file)) => Ok(Move::Enter { at, file }),
+        Ok(Some(file)) => {
+            let file = Boxed::new(alloc, file)?;
+            Ok(Move::Enter { at, file })
+        }
         Ok(None) => Ok(Move::Onward),
         Err(stop) => Err(stop),
     }
@@ -166,7 +177,10 @@ fn renumber(
     ensures no_fault { IsErrOf result Stop.Fault → ⊥ }
 {
     match read_line(alloc, kept, places, at, tokens) {
-        Ok(new) => Ok(Move::Renumber { at, new }),
+        Ok(new) => {
+            let new = Boxed::new(alloc, new)?;
+            Ok(Move::Renumber { at, new })
+        }
         Err(stop) => Err(stop),
     }
 }

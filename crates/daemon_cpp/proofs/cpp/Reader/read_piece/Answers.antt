@@ -32,7 +32,7 @@ returns-in-Ok-Enter-clause-brings g c = λ told is behind.
     let brings = subst (λ (r : Result Move Stop). Brings (RestLeadsTo (world_of told c.args.setup.now) behind c.args.self.now) mid (λ move w. MoveLeadsTo (world_of told c.args.setup.now) behind mid move w) r) (c.in-Ok-Enter.is ∙ ap Ok c.in-Ok-Enter.field-0-is)
     (piece-brings (world_of told c.args.setup.now) behind c.args.self.now c.run_piece-moved.new.kept piece c.piece-piece.ensures.shown c.requires.below (ap role_of c.piece-piece.ensures.shown ∙ c.requires.role piece) c.run_piece-moved.result moves) in
     brings-then (RestLeadsTo (world_of told c.args.setup.now) behind c.args.self.now) mid c.enter.new.self (λ move w. MoveLeadsTo (world_of told c.args.setup.now) behind mid move w) (λ done. RestLeadsTo (world_of told c.args.setup.now) behind c.enter.new.self) (Enter c.in-Ok-Enter.at c.in-Ok-Enter.file) c.enter.result
-    brings (c.enter.ensures.brings told (c.in-Ok-Enter.ensures.same ∙ is) behind)
+    brings (rw c.into_inner.ensures at (c.enter.ensures.brings told (c.in-Ok-Enter.ensures.same ∙ is) behind))
 
 pub returns-in-Ok-Renumber-clause-brings : goal.returns-in-Ok-Renumber-clause-brings
 returns-in-Ok-Renumber-clause-brings g c = λ told is behind.
@@ -46,7 +46,7 @@ returns-in-Ok-Renumber-clause-brings g c = λ told is behind.
     brings-then (RestLeadsTo (world_of told c.args.setup.now) behind c.args.self.now) mid after (λ move w. MoveLeadsTo (world_of told c.args.setup.now) behind mid move w) (λ done. RestLeadsTo (world_of told c.args.setup.now) behind after) (Renumber c.in-Ok-Renumber.at c.in-Ok-Renumber.new) c.renumber.result
     brings
     (turns-brings (world_of told c.args.setup.now) behind mid after (here_of c.args.self.now.file) (λ state. line_set c.in-Ok-Renumber.at c.in-Ok-Renumber.new state) c.renumber.result refl refl
-    (ap (λ (n : ℕ). drop n c.renumber.new.file.pieces) c.renumber.ensures.rest.1 ∙ ap (drop (c.args.self.now.file.next + 1)) c.renumber.ensures.rest.0) c.renumber.ensures.turns)
+    (ap (λ (n : ℕ). drop n c.renumber.new.file.pieces) c.renumber.ensures.rest.1 ∙ ap (drop (c.args.self.now.file.next + 1)) c.renumber.ensures.rest.0) (rw c.into_inner-in-Ok-Renumber.ensures at c.renumber.ensures.turns))
 
 pub returns-in-Err-clause-brings : goal.returns-in-Err-clause-brings
 returns-in-Err-clause-brings g c = λ told is behind.
