@@ -17,7 +17,7 @@ impl Replier for Starved {
     fn reply(
         &mut self,
         _alloc: Global,
-        _job: &Job,
+        _job: Job,
         _entries: List<(CanonPath, Entry)>,
     ) -> Result<Bytes, AllocError> {
         Err(AllocError)

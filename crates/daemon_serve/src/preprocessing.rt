@@ -6,6 +6,7 @@ use crate::replying::preprocessed;
 use base_types::{Bytes, List};
 use job_words::Job;
 use std::alloc::{AllocError, Global};
+use std::mem::forget;
 use tree_model::{CanonPath, Entry};
 
 // Answers a request by preprocessing its job over the tree of its entries alone; `last` says whether the process ends behind it.
@@ -20,9 +21,18 @@ impl Replier for Preprocessing {
     fn reply(
         &mut self,
         alloc: Global,
-        job: &Job,
+        job: Job,
         entries: List<(CanonPath, Entry)>,
     ) -> Result<Bytes, AllocError> {
-        preprocessed(alloc, job, entries, self.last).map_err(|_| AllocError)
+        let reply = preprocessed(alloc, &job, entries, self.last);
+        let_go(job, self.last);
+        reply.map_err(|_| AllocError)
+    }
+}
+
+// Gives back what a job takes, or leaves it where the process ends behind it.
+fn let_go(job: Job, last: bool) {
+    if last {
+        forget(job);
     }
 }

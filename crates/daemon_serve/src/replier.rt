@@ -19,10 +19,10 @@ pub trait Replier {
     fn reply(
         &mut self,
         alloc: Global,
-        job: &Job,
+        job: Job,
         entries: List<(CanonPath, Entry)>,
     ) -> Result<Bytes, AllocError>
         requires made { IsTrue (makes_tree entries) }
         requires bodies { IsTrue (bodies_fit entries) }
-        ensures { IfOk result (λ reply. IsAnswerTo may (Some job.now) entries reply) };
+        ensures { IfOk result (λ reply. IsAnswerTo may (Some job) entries reply) };
 }

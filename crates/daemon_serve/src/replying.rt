@@ -26,12 +26,12 @@ pub(crate) fn reply_to<K: Sink, R: Replier>(
     alloc: Global,
     replier: &mut R,
     sink: &mut K,
-    job: &Job,
+    job: Job,
     entries: List<(CanonPath, Entry)>,
 ) -> Result<Served, WriteFault>
     requires made { IsTrue (makes_tree entries) }
     requires bodies { IsTrue (bodies_fit entries) }
-    ensures { IsReplyPut (AnswersBy R.may job.now entries) (K.held sink.old) (K.held sink.new) (K.faults sink.old) (K.faults sink.new) result }
+    ensures { IsReplyPut (AnswersBy R.may job entries) (K.held sink.old) (K.held sink.new) (K.faults sink.old) (K.faults sink.new) result }
 {
     match replier.reply(alloc, job, entries) {
         Ok(reply) => return put_whole(sink, reply.as_slice(), Served::Replied),

@@ -62,7 +62,7 @@ pub fn serve_exactly<S: Source, K: Sink, R: Replier>(
 {
     request_spellings();
     match read_request(alloc, source) {
-        Ok((job, entries)) => return reply_to(alloc, replier, sink, &job, entries),
+        Ok((job, entries)) => return reply_to(alloc, replier, sink, job, entries),
         Err(why) => return unserved(sink, why),
     }
 }
