@@ -8,7 +8,7 @@ use Rattle.directive_scan.specs.declared.Directive.{Directive}
 use Rattle.directive_scan.specs.declared.Piece.{Piece}
 use Rattle.directive_scan.specs.declared.Piece.TheVariants.{Run, Line}
 use Rattle.directive_scan.specs.Directives.{directive_of, onto_run, line_before, pieces}
-use Rattle.daemon_cpp.specs.declared.lexed_files.FileText.{FileText}
+use Rattle.daemon_cpp.specs.declared.file_text.FileText.{FileText}
 use Rattle.daemon_cpp.specs.parts.FileTexts.{IsTextOf, HasFewPieces}
 use Rattle.daemon_cpp.specs.parts.Reading.{token_count}
 

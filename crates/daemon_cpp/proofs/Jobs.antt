@@ -17,6 +17,7 @@ use Rattle.daemon_cpp.specs.declared.outcome.Outcome.TheVariants as outcome
 use Rattle.daemon_cpp.specs.declared.cpp.Reader.{Reader}
 use Rattle.daemon_cpp.specs.Diagnostics.{NoSource, TextLimit, diagnostic_text}
 use Rattle.daemon_cpp.specs.Prep.{World, PrepStep, world_of, and_then, first_state, run_forced, enter_file, open_source, run_job, prep, outcome_over}
+use Rattle.daemon_cpp.specs.parts.KnownTexts.{KnowsTexts}
 use Rattle.daemon_cpp.specs.parts.Files.{IsShown, ComesTo, told_of, source_behind, source_told}
 use Rattle.daemon_cpp.proofs.Limits.{within, past}
 
@@ -26,11 +27,12 @@ whole world names source step = and_then (λ state. open_source world source sta
 
 -- a source behind its first marker, and one whose first marker doesn't fit
 pub begins-told : (world : World) (macros : List MacroWord) (source : Hit) (names : List Text) (reader : Reader) → length (begun (presumed_name source.0.place)).text ≤ text_limit →
-    IsShown reader (first_state macros source) → ComesTo (source_behind world source names) reader (source_told world macros source names)
+    IsShown reader (first_state macros source) → KnowsTexts world reader.lexed → ComesTo world (source_behind world source names) reader (source_told world macros source names)
 unfolding run_forced begun
-begins-told world macros source names reader short shows = record {
+begins-told world macros source names reader short shows knows = record {
   state = first_state macros source;
   shows = shows;
+  knows = knows;
   same = sym (ap (λ (step : PrepStep). told_of (whole world names source step)) (within (first_state macros source) short));
 }
 

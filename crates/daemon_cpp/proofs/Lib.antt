@@ -13,6 +13,7 @@
 --     Conditions   what the steps of conditions lead to
 --     Controlled   a condition's line, read token by token as it is expanded
 --     Judged       what a line says that was read so is what its tokens say
+--     KnownFiles   what is kept of the files that were lexed, one more
 --     Flat         pieces one after another are groups
 --     Skipping     pieces that aren't read
 --     Sections     where an if-section goes on
@@ -35,6 +36,7 @@ pub mod Lines
 pub mod Conditions
 pub mod Controlled
 pub mod Judged
+pub mod KnownFiles
 pub mod Flat
 pub mod Skipping
 pub mod Sections

@@ -11,6 +11,7 @@ use Rattle.tree_model.specs.Shown.{presumed_name}
 use Rattle.search_path.specs.Search.{Hit}
 use Rattle.search_path.specs.Asks.{forced_ask}
 use Rattle.daemon_cpp.specs.declared.kept.Kept.{Kept}
+use Rattle.daemon_cpp.specs.declared.lexed_files.LexedFiles.{LexedFiles}
 use Rattle.daemon_cpp.specs.declared.stop.Stop.{Stop}
 use Rattle.daemon_cpp.specs.declared.stop.Stop.TheVariants as stop
 use Rattle.daemon_cpp.specs.declared.pieces.Move.{Move}
@@ -22,6 +23,7 @@ use Rattle.daemon_cpp.specs.declared.cpp.Reader.{Reader}
 use Rattle.daemon_cpp.specs.Diagnostics.{TooNested, diagnostic_text}
 use Rattle.daemon_cpp.specs.Prep.{World, Here, Entering, State, PrepStep, Go, Stop as Stopped, and_then, with_value, piece_step, piece_test, found_file, complain, open_file, enter_file, back_in, run_forced, open_source, here_at}
 use Rattle.daemon_cpp.specs.parts.Reading.{Frame, run_flat, staged, stage_of, reading, seeking, entering_at}
+use Rattle.daemon_cpp.specs.parts.KnownTexts.{KnowsTexts}
 use Rattle.daemon_cpp.specs.parts.Showing.{Shows, StopsWith, Refuses, Leads, Moves, Seeks, Includes, Opens}
 use Rattle.daemon_cpp.specs.parts.Files.{After, here_of, pieces_left, frame_of, frames_of, told_of, told_behind, run_rest, RestLeadsTo, StepsTo, EntersTo, ComesTo, opened_file, GoesInto, Brings, IsEnd, Turns, AllRead, work_ahead, source_behind, behind_piece, MoveLeadsTo, NamedTo, InsideTo}
 use Rattle.daemon_cpp.proofs.Steps.{stops-on, ends-step}
@@ -44,11 +46,11 @@ brings-stop before reader between after (stop.Ended words) first = first
 brings-stop before reader between after stop.Fault first = tt
 brings-stop before reader between after stop.Memory first = tt
 
-pub brings-end : {A : Type 0} (before : Told → Type 0) (reader : Reader) (r : Result A Stop) (whole : Told) → before whole → Brings before reader (λ done. ComesTo (λ state. Go state) reader) r → IsEnd reader whole r
-brings-end before reader (Ok x) whole is brings = brings whole is
-brings-end before reader (Err (stop.Ended words)) whole is brings = brings whole is
-brings-end before reader (Err stop.Fault) whole is brings = tt
-brings-end before reader (Err stop.Memory) whole is brings = tt
+pub brings-end : {A : Type 0} (world : World) (before : Told → Type 0) (reader : Reader) (r : Result A Stop) (whole : Told) → before whole → Brings before reader (λ done. ComesTo world (λ state. Go state) reader) r → IsEnd world reader whole r
+brings-end world before reader (Ok x) whole is brings = brings whole is
+brings-end world before reader (Err (stop.Ended words)) whole is brings = brings whole is
+brings-end world before reader (Err stop.Fault) whole is brings = tt
+brings-end world before reader (Err stop.Memory) whole is brings = tt
 
 pub brings-before : {A : Type 0} (first before : Told → Type 0) (reader : Reader) (after : A → Told → Type 0) (r : Result A Stop) →
     ((whole : Told) → first whole → before whole) → Brings before reader after r → Brings first reader after r
@@ -82,6 +84,7 @@ module _ (world : World) (behind : After) (reader : Reader) (new : Kept) (piece 
       record {
         state = one.0;
         shows = one.1.1;
+        knows = left.knows;
         same = sym (ap (λ (step : PrepStep). told_behind world behind (frames_of reader) (and_then (λ after. run_rest world (frames_of reader) (drop (reader.file.next + 1) reader.file.pieces) after) step)) one.1.0) ∙ read-first whole left;
       }
   piece-brings (Ok (Enter at inner)) moves = λ whole left.
@@ -89,6 +92,7 @@ module _ (world : World) (behind : After) (reader : Reader) (new : Kept) (piece 
       record {
         state = one.0;
         shows = one.1.1;
+        knows = left.knows;
         same = sym (ap (λ (step : PrepStep). told_behind world behind (frames_of reader) (and_then (λ after. run_rest world (frames_of reader) (drop (reader.file.next + 1) reader.file.pieces) after) step)) one.1.0) ∙ read-first whole left;
       }
   piece-brings (Ok (Renumber at numbers)) moves = λ whole left.
@@ -96,6 +100,7 @@ module _ (world : World) (behind : After) (reader : Reader) (new : Kept) (piece 
       record {
         state = one.0;
         shows = one.1.1;
+        knows = left.knows;
         same = sym (ap (λ (step : PrepStep). told_behind world behind (frames_of reader) (and_then (λ after. run_rest world (frames_of reader) (drop (reader.file.next + 1) reader.file.pieces) after) step)) one.1.0) ∙ read-first whole left;
       }
   piece-brings (Err (stop.Ended words)) moves = λ whole left.
@@ -107,25 +112,26 @@ module _ (world : World) (behind : After) (reader : Reader) (new : Kept) (piece 
 
 -- a step between two files
 pub turns-brings : {A : Type 0} (world : World) (behind : After) (reader after : Reader) (from : Here) (step : State → PrepStep) (r : Result A Stop) →
-    after.source ≡ reader.source → after.around ≡ reader.around → pieces_left after.file ≡ pieces_left reader.file →
+    after.source ≡ reader.source → after.lexed ≡ reader.lexed → after.around ≡ reader.around → pieces_left after.file ≡ pieces_left reader.file →
     Turns reader.kept after.kept reader.source from (here_of after.file) step r → Brings (StepsTo world behind reader from step) after (λ done. RestLeadsTo world behind after) r
-turns-brings world behind reader after from step (Ok x) source around rest turns = λ whole steps.
+turns-brings world behind reader after from step (Ok x) source lexed around rest turns = λ whole steps.
     let one = turns steps.state steps.shows in
     record {
       state = one.0;
       shows = subst (λ (p : Path). Shows after.kept p (here_of after.file) one.0) (sym source) one.1.1;
+      knows = subst (λ (f : LexedFiles). KnowsTexts world f) (sym lexed) steps.knows;
       same =
           ap (λ (rest : List Piece). told_behind world behind (frames_of after) (run_rest world (frames_of after) rest one.0)) rest
           ∙ ap (λ (left : Vec Left Global). told_behind world behind (map frame_of left.items) (run_rest world (map frame_of left.items) (pieces_left reader.file) one.0)) around
           ∙ sym (ap (λ (s : PrepStep). told_behind world behind (frames_of reader) (and_then (λ after. run_rest world (frames_of reader) (pieces_left reader.file) after) s)) one.1.0)
           ∙ steps.same;
     }
-turns-brings world behind reader after from step (Err (stop.Ended words)) source around rest turns = λ whole steps.
+turns-brings world behind reader after from step (Err (stop.Ended words)) source lexed around rest turns = λ whole steps.
     stopped world behind (frames_of reader) words after.kept.opened (and_then (λ after. run_rest world (frames_of reader) (pieces_left reader.file) after) (step steps.state))
     (stops-on (λ after. run_rest world (frames_of reader) (pieces_left reader.file) after) words after.kept.opened (step steps.state) (turns steps.state steps.shows))
     ∙ steps.same
-turns-brings world behind reader after from step (Err stop.Fault) source around rest turns = tt
-turns-brings world behind reader after from step (Err stop.Memory) source around rest turns = tt
+turns-brings world behind reader after from step (Err stop.Fault) source lexed around rest turns = tt
+turns-brings world behind reader after from step (Err stop.Memory) source lexed around rest turns = tt
 
 -- ---- conditionals ----
 
@@ -136,6 +142,7 @@ pub goes-on-at : (world : World) (behind : After) (reader : Reader) (n : ℕ) �
 goes-on-at world behind reader n same whole left = record {
   state = left.state;
   shows = left.shows;
+  knows = left.knows;
   same = sym (ap (λ (step : PrepStep). told_behind world behind (frames_of reader) step) (same (entering_at world (length (frames_of reader))) left.state)) ∙ left.same;
 }
 
@@ -147,6 +154,7 @@ seeks-brings world behind reader new (Ok n) seeks = λ whole left.
     record {
       state = one.0;
       shows = one.1.1;
+      knows = left.knows;
       same = sym (ap (λ (step : PrepStep). told_behind world behind (frames_of reader) step) one.1.0) ∙ left.same;
     }
 seeks-brings world behind reader new (Err (stop.Ended words)) seeks = λ whole left.
@@ -225,10 +233,10 @@ enter-step world behind reader at inner whole shallow enters_to =
 
 -- a reader that has gone into a file
 inside : (world : World) (behind : After) (reader after : Reader) (at : ℕ) (inner : Hit) (pieces : List Piece) (state : State) (whole : Told) →
-    GoesInto reader (opened_file inner pieces) at after → Shows reader.kept reader.source (here_at inner) state →
+    GoesInto reader (opened_file inner pieces) at after → Shows reader.kept reader.source (here_at inner) state → KnowsTexts world reader.lexed →
     told_behind world behind (frames_of reader) (and_then (λ s. run_rest world (frames_of reader) (pieces_left reader.file) s) (and_then (λ s. back_in (here_of reader.file) at s) (run_flat world (entering_at world (suc (length (frames_of reader)))) reading pieces state))) ≡ whole →
     RestLeadsTo world behind after whole
-inside world behind reader after at inner pieces state whole goes shows same =
+inside world behind reader after at inner pieces state whole goes shows knows same =
     let left : Left = record { file = reader.file; at = at } in
     let frames : frames_of after ≡ frames_of reader ++ frame_of left ∷ [] = ap (map frame_of) goes.around ∙ map-append frame_of reader.around.items (left ∷ []) in
     let longer : length (frames_of reader ++ frame_of left ∷ []) ≡ suc (length (frames_of reader)) = omega (arith, length-append (frames_of reader) (frame_of left ∷ [])) in
@@ -237,6 +245,7 @@ inside world behind reader after at inner pieces state whole goes shows same =
       shows =
           subst (λ (h : Here). Shows after.kept after.source h state) (ap here_of (sym goes.file_is))
           (subst (λ (p : Path). Shows after.kept p (here_at inner) state) (sym goes.source) (subst (λ (k : Kept). Shows k reader.source (here_at inner) state) (sym goes.kept) shows));
+      knows = subst (λ (f : LexedFiles). KnowsTexts world f) (sym goes.lexed) knows;
       same =
           ap (λ (file : OpenFile). told_behind world behind (frames_of after) (run_rest world (frames_of after) (pieces_left file) state)) goes.file_is
           ∙ ap (λ (fs : List Frame). told_behind world behind fs (run_rest world fs pieces state)) frames
@@ -245,34 +254,37 @@ inside world behind reader after at inner pieces state whole goes shows same =
           ∙ same;
     }
 
-pub opens-brings : (world : World) (behind : After) (reader : Reader) (new : Kept) (at : ℕ) (inner : Hit) (r : Result (List Piece) Stop) → length reader.around.items < 200 →
-    Opens reader.kept new reader.source world inner (λ entering state. open_file world entering (enter (presumed_name inner.0.place) ∷ []) inner state) r →
-    Brings (EntersTo world behind reader at inner) (record reader { kept = new }) (λ pieces whole. InsideTo world behind (record reader { kept = new }) at inner pieces whole) r
-opens-brings world behind reader new at inner (Ok pieces) shallow opens = λ whole enters_to after goes.
-    let one = opens (entering_at world (suc (length (frames_of reader)))) (here_of reader.file) enters_to.state enters_to.shows in
-    inside world behind (record reader { kept = new }) after at inner pieces one.0 whole goes one.1.1
-    (sym (ap (λ (step : PrepStep). told_behind world behind (frames_of reader) (and_then (λ s. run_rest world (frames_of reader) (pieces_left reader.file) s) (and_then (λ s. back_in (here_of reader.file) at s) step))) one.1.0)
-    ∙ enter-step world behind reader at inner whole shallow enters_to)
-opens-brings world behind reader new at inner (Err (stop.Ended words)) shallow opens = λ whole enters_to.
-    let opening = open_file world (entering_at world (suc (length (frames_of reader)))) (enter (presumed_name inner.0.place) ∷ []) inner enters_to.state in
-    let back = and_then (λ s. back_in (here_of reader.file) at s) opening in
-    stopped world behind (frames_of reader) words new.opened (and_then (λ s. run_rest world (frames_of reader) (pieces_left reader.file) s) back)
-    (stops-on (λ s. run_rest world (frames_of reader) (pieces_left reader.file) s) words new.opened back
-    (stops-on (λ s. back_in (here_of reader.file) at s) words new.opened opening (opens (entering_at world (suc (length (frames_of reader)))) (here_of reader.file) enters_to.state enters_to.shows)))
-    ∙ enter-step world behind reader at inner whole shallow enters_to
-opens-brings world behind reader new at inner (Err stop.Fault) shallow opens = tt
-opens-brings world behind reader new at inner (Err stop.Memory) shallow opens = tt
+-- what is read of a file that is opened, where what was kept of the files before it is known
+module _ (world : World) (behind : After) (reader : Reader) (new : Kept) (files : LexedFiles) (at : ℕ) (inner : Hit) (shallow : length reader.around.items < 200) (known : KnowsTexts world reader.lexed → KnowsTexts world files) where
+  pub opens-brings : (r : Result (List Piece) Stop) →
+      (KnowsTexts world reader.lexed → Opens reader.kept new reader.source world inner (λ entering state. open_file world entering (enter (presumed_name inner.0.place) ∷ []) inner state) r) →
+      Brings (EntersTo world behind reader at inner) (record reader { kept = new; lexed = files }) (λ pieces whole. InsideTo world behind (record reader { kept = new; lexed = files }) at inner pieces whole) r
+  opens-brings (Ok pieces) opens = λ whole enters_to after goes.
+      let one = opens enters_to.knows (entering_at world (suc (length (frames_of reader)))) (here_of reader.file) enters_to.state enters_to.shows in
+      inside world behind (record reader { kept = new; lexed = files }) after at inner pieces one.0 whole goes one.1.1 (known enters_to.knows)
+      (sym (ap (λ (step : PrepStep). told_behind world behind (frames_of reader) (and_then (λ s. run_rest world (frames_of reader) (pieces_left reader.file) s) (and_then (λ s. back_in (here_of reader.file) at s) step))) one.1.0)
+      ∙ enter-step world behind reader at inner whole shallow enters_to)
+  opens-brings (Err (stop.Ended words)) opens = λ whole enters_to.
+      let opening = open_file world (entering_at world (suc (length (frames_of reader)))) (enter (presumed_name inner.0.place) ∷ []) inner enters_to.state in
+      let back = and_then (λ s. back_in (here_of reader.file) at s) opening in
+      stopped world behind (frames_of reader) words new.opened (and_then (λ s. run_rest world (frames_of reader) (pieces_left reader.file) s) back)
+      (stops-on (λ s. run_rest world (frames_of reader) (pieces_left reader.file) s) words new.opened back
+      (stops-on (λ s. back_in (here_of reader.file) at s) words new.opened opening (opens enters_to.knows (entering_at world (suc (length (frames_of reader)))) (here_of reader.file) enters_to.state enters_to.shows)))
+      ∙ enter-step world behind reader at inner whole shallow enters_to
+  opens-brings (Err stop.Fault) opens = tt
+  opens-brings (Err stop.Memory) opens = tt
 
 -- ---- the end of a file ----
 
 pub came-back : (world : World) (behind : After) (reader after : Reader) (outer : Left) (whole : Told) → length reader.file.pieces ≤ reader.file.next → reader.around.items ≡ after.around.items ++ outer ∷ [] →
-    after.source ≡ reader.source → after.kept ≡ reader.kept → after.file ≡ outer.file →
+    after.source ≡ reader.source → after.kept ≡ reader.kept → after.lexed ≡ reader.lexed → after.file ≡ outer.file →
     RestLeadsTo world behind reader whole → StepsTo world behind after (here_of reader.file) (λ state. back_in (here_of outer.file) outer.at state) whole
-came-back world behind reader after outer whole ends around_is source kept file left =
+came-back world behind reader after outer whole ends around_is source kept lexed file left =
     let frames : frames_of reader ≡ frames_of after ++ frame_of outer ∷ [] = ap (map frame_of) around_is ∙ map-append frame_of after.around.items (outer ∷ []) in
     record {
       state = left.state;
       shows = subst (λ (p : Path). Shows after.kept p (here_of reader.file) left.state) (sym source) (subst (λ (k : Kept). Shows k reader.source (here_of reader.file) left.state) (sym kept) left.shows);
+      knows = subst (λ (f : LexedFiles). KnowsTexts world f) (sym lexed) left.knows;
       same =
           ap (λ (f : OpenFile). told_behind world behind (frames_of after) (and_then (λ s. run_rest world (frames_of after) (pieces_left f) s) (back_in (here_of outer.file) outer.at left.state))) file
           ∙ sym (behind-frame world behind (frames_of after) (frame_of outer) (Go left.state))
@@ -292,10 +304,11 @@ alone-behind world behind reader state ends alone =
     ∙ ap (λ (items : List Left). told_behind world behind (map frame_of items) (Go state)) alone
     ∙ at-end world behind (Go state)
 
-pub all-read : (world : World) (behind : After) (reader : Reader) (whole : Told) → AllRead reader → RestLeadsTo world behind reader whole → ComesTo behind reader whole
+pub all-read : (world : World) (behind : After) (reader : Reader) (whole : Told) → AllRead reader → RestLeadsTo world behind reader whole → ComesTo world behind reader whole
 all-read world behind reader whole read left = record {
   state = left.state;
   shows = left.shows;
+  knows = left.knows;
   same = sym (alone-behind world behind reader left.state read.ended read.alone) ∙ left.same;
 }
 
@@ -314,12 +327,13 @@ named-first world source name names state =
 
 pub named-brings : (world : World) (source : Hit) (name : Text) (names : List Text) (reader : Reader) (new : Kept) (r : Result (Option Hit) Stop) → AllRead reader →
     Includes reader.kept new reader.source (here_of reader.file) 0 (λ entering state. named_step world name entering state) r →
-    Brings (ComesTo (source_behind world source (name ∷ names)) reader) (record reader { kept = new }) (λ found whole. NamedTo world source names (record reader { kept = new }) found whole) r
+    Brings (ComesTo world (source_behind world source (name ∷ names)) reader) (record reader { kept = new }) (λ found whole. NamedTo world source names (record reader { kept = new }) found whole) r
 named-brings world source name names reader new (Ok None) read includes = λ whole comes.
     let one = includes (enter_file world include_depth_limit) comes.state comes.shows in
     record {
       state = one.0;
       shows = one.1.1;
+      knows = comes.knows;
       same = sym (ap (λ (step : PrepStep). told_of (and_then (λ after. source_behind world source names after) step)) one.1.0) ∙ sym (named-first world source name names comes.state) ∙ comes.same;
     }
 named-brings world source name names reader new (Ok (Some hit)) read includes = λ whole comes.
@@ -328,6 +342,7 @@ named-brings world source name names reader new (Ok (Some hit)) read includes = 
     record {
       state = one.0;
       shows = one.1.1;
+      knows = comes.knows;
       same =
           ap (λ (items : List Left). told_behind world behind (map frame_of items) (and_then (λ s. run_rest world (map frame_of items) (pieces_left reader.file) s) (entering_at world (length (map frame_of items)) 0 hit one.0))) read.alone
           ∙ at-end world behind (and_then (λ s. run_rest world [] (pieces_left reader.file) s) (entering_at world 0 0 hit one.0))
@@ -350,12 +365,13 @@ named-brings world source name names reader new (Err stop.Memory) read includes 
 
 -- the next name of the job's words
 pub next-name : (world : World) (source : Hit) (forced : List Text) (i : ℕ) (item name : Text) (reader : Reader) (whole : Told) → i < length forced → item ≡ get_or forced i item → name ≡ item →
-    ComesTo (source_behind world source (drop i forced)) reader whole → ComesTo (source_behind world source (name ∷ drop (i + 1) forced)) reader whole
+    ComesTo world (source_behind world source (drop i forced)) reader whole → ComesTo world (source_behind world source (name ∷ drop (i + 1) forced)) reader whole
 next-name world source forced i item name reader whole below at same comes =
     let names : drop i forced ≡ name ∷ drop (i + 1) forced = drop_more forced i item below ∙ ap (λ (n : Text). n ∷ drop (i + 1) forced) (sym (same ∙ at)) in
     record {
       state = comes.state;
       shows = comes.shows;
+      knows = comes.knows;
       same = sym (ap (λ (ns : List Text). told_of (source_behind world source ns comes.state)) names) ∙ comes.same;
     }
 
@@ -365,27 +381,29 @@ source-next : (world : World) (source : Hit) (state : State) → told_of (source
 unfolding run_forced
 source-next world source state = refl
 
-pub source-brings : (world : World) (source : Hit) (reader : Reader) (new : Kept) (r : Result (List Piece) Stop) → AllRead reader →
-    Opens reader.kept new reader.source world source (λ entering state. open_file world entering [] source state) r →
-    Brings (ComesTo (source_behind world source []) reader) (record reader { kept = new }) (λ pieces whole. RestLeadsTo world (λ state. Go state) (record reader { kept = new; file = opened_file source pieces }) whole) r
-source-brings world source reader new (Ok pieces) read opens = λ whole comes.
-    let one = opens (enter_file world include_depth_limit) (here_of reader.file) comes.state comes.shows in
-    record {
-      state = one.0;
-      shows = one.1.1;
-      same =
-          ap (λ (items : List Left). told_behind world (λ state. Go state) (map frame_of items) (run_rest world (map frame_of items) pieces one.0)) read.alone
-          ∙ at-end world (λ state. Go state) (run_rest world [] pieces one.0)
-          ∙ ap told_of (then-go (run_rest world [] pieces one.0))
-          ∙ sym (ap told_of one.1.0)
-          ∙ sym (source-next world source comes.state)
-          ∙ comes.same;
-    }
-source-brings world source reader new (Err (stop.Ended words)) read opens = λ whole comes.
-    stopped-at-once words new.opened (open_file world (enter_file world include_depth_limit) [] source comes.state) (opens (enter_file world include_depth_limit) (here_of reader.file) comes.state comes.shows)
-    ∙ sym (source-next world source comes.state) ∙ comes.same
-source-brings world source reader new (Err stop.Fault) read opens = tt
-source-brings world source reader new (Err stop.Memory) read opens = tt
+module _ (world : World) (source : Hit) (reader : Reader) (new : Kept) (files : LexedFiles) (read : AllRead reader) (known : KnowsTexts world reader.lexed → KnowsTexts world files) where
+  pub source-brings : (r : Result (List Piece) Stop) →
+      (KnowsTexts world reader.lexed → Opens reader.kept new reader.source world source (λ entering state. open_file world entering [] source state) r) →
+      Brings (ComesTo world (source_behind world source []) reader) (record reader { kept = new; lexed = files }) (λ pieces whole. RestLeadsTo world (λ state. Go state) (record reader { kept = new; lexed = files; file = opened_file source pieces }) whole) r
+  source-brings (Ok pieces) opens = λ whole comes.
+      let one = opens comes.knows (enter_file world include_depth_limit) (here_of reader.file) comes.state comes.shows in
+      record {
+        state = one.0;
+        shows = one.1.1;
+        knows = known comes.knows;
+        same =
+            ap (λ (items : List Left). told_behind world (λ state. Go state) (map frame_of items) (run_rest world (map frame_of items) pieces one.0)) read.alone
+            ∙ at-end world (λ state. Go state) (run_rest world [] pieces one.0)
+            ∙ ap told_of (then-go (run_rest world [] pieces one.0))
+            ∙ sym (ap told_of one.1.0)
+            ∙ sym (source-next world source comes.state)
+            ∙ comes.same;
+      }
+  source-brings (Err (stop.Ended words)) opens = λ whole comes.
+      stopped-at-once words new.opened (open_file world (enter_file world include_depth_limit) [] source comes.state) (opens comes.knows (enter_file world include_depth_limit) (here_of reader.file) comes.state comes.shows)
+      ∙ sym (source-next world source comes.state) ∙ comes.same
+  source-brings (Err stop.Fault) opens = tt
+  source-brings (Err stop.Memory) opens = tt
 
 -- ---- the work ahead ----
 

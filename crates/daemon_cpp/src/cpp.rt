@@ -24,6 +24,7 @@ ghost use Rattle.directive_scan.specs.Groups.{role_of, single, opening};
 ghost use Rattle.directive_scan.specs.Spots.{role_told};
 ghost use Rattle.daemon_cpp.specs.parts.Reading.{run_flat, reading};
 ghost use Rattle.daemon_cpp.specs.parts.Showing.{Seeks, IsBetween, here_seen};
+ghost use Rattle.daemon_cpp.specs.parts.KnownTexts.{KnowsTexts};
 ghost use Rattle.daemon_cpp.specs.parts.Files.{After, RestLeadsTo, EntersTo, ComesTo, Brings, IsEnd, Turns, here_of, told_of, ended_told, opened_file, GoesInto, AllRead, work_ahead, source_behind, source_told};
 
 use crate::condition::test_line;
@@ -55,8 +56,8 @@ use tree_model::{CanonPath, Located, Tree, shown};
 /// Preprocesses a job over a tree: translation phases 1 to 4 (ISO C 5.1.1.2) of the files that its words name, of its
 /// source, found by the working directory and the source's name, and of the files that these include (6.10.2). Time is
 /// linear in the bytes of the files read, each counted as often as it is included, and in the work of macro expansion; a file
-/// that is included again is compared, and not lexed again. Includes and conditionals take no more of the program's stack,
-/// however deep.
+/// that is included again is neither read nor lexed again, as far as there is room for its lines. Includes and conditionals take
+/// no more of the program's stack, however deep.
 ///
 /// `Fault` comes where the tree failed, `Memory` where no memory was found; all else is an `Outcome`.
 pub fn preprocess<T: Tree>(alloc: Global, tree: &mut T, job: &Job) -> Result<Outcome, CppError>
@@ -323,12 +324,13 @@ fn renumber(
     }
 }
 
-// Reads the files of a job: the source's place, what is kept, the file that is read, and the files around it, which were
-// left at an include, the source first.
+// Reads the files of a job: the source's place, what is kept, the files that were lexed, the file that is read, and the files
+// around it, which were left at an include, the source first.
 #[derive(Drop)]
 pub struct Reader {
     source: CanonPath,
     kept: Kept,
+    lexed: LexedFiles,
     file: OpenFile,
     around: Vec<Left>,
 }
@@ -344,7 +346,7 @@ impl Reader {
         requires begun { layout ≡ begun (presumed_name source.now.0.place) }
         requires within { length layout.text ≤ text_limit }
         ensures read { IfOk result AllRead }
-        ensures comes { IfOk result (λ reader. (world : World) (forced : List Text) → ComesTo (source_behind world source.now forced) reader (source_told world macros.now source.now forced)) }
+        ensures comes { IfOk result (λ reader. (world : World) (forced : List Text) → ComesTo world (source_behind world source.now forced) reader (source_told world macros.now source.now forced)) }
     {
         let place = source.0.place.copy(alloc)?;
         let file = OpenFile::copy_of(alloc, source, Pieces::empty(alloc)?)?;
@@ -368,6 +370,7 @@ impl Reader {
         ensures opened { result.kept.opened ≡ [] }
         ensures file { result.file ≡ file }
         ensures around { result.around.items ≡ [] }
+        ensures knows { (world : World) → KnowsTexts world result.lexed }
     {
         Reader {
             source,
@@ -377,8 +380,8 @@ impl Reader {
                 work: Work { left: WORK_LIMIT },
                 once: OnceMarks::new(alloc),
                 opened: List::new(alloc),
-                lexed: LexedFiles::new(alloc),
             },
+            lexed: LexedFiles::new(alloc),
             file,
             around: Vec::new(alloc),
         }
@@ -394,7 +397,7 @@ impl Reader {
     ) -> Result<(), Stop>
         requires { AllRead self.old }
         ensures same { T.told tree.new ≡ T.told tree.old }
-        ensures brings { ForSome (T.told tree.old) (λ told. Brings (ComesTo (source_behind (world_of told job.now.setup) source.now job.now.forced) self.old) self.new (λ done. ComesTo Go self.new) result) }
+        ensures brings { ForSome (T.told tree.old) (λ told. Brings (ComesTo (world_of told job.now.setup) (source_behind (world_of told job.now.setup) source.now job.now.forced) self.old) self.new (λ done. ComesTo (world_of told job.now.setup) Go self.new) result) }
         ensures cause { HasCause Stop.Fault (T.faults tree.old) (T.faults tree.new) result }
     {
         match self.open_source(alloc, tree, job, source) {
@@ -413,7 +416,7 @@ impl Reader {
     ) -> Result<(), Stop>
         requires { AllRead self.old }
         ensures same { T.told tree.new ≡ T.told tree.old }
-        ensures brings { ForSome (T.told tree.old) (λ told. Brings (ComesTo (source_behind (world_of told job.now.setup) source.now job.now.forced) self.old) self.new (λ done. RestLeadsTo (world_of told job.now.setup) Go self.new) result) }
+        ensures brings { ForSome (T.told tree.old) (λ told. Brings (ComesTo (world_of told job.now.setup) (source_behind (world_of told job.now.setup) source.now job.now.forced) self.old) self.new (λ done. RestLeadsTo (world_of told job.now.setup) Go self.new) result) }
         ensures cause { HasCause Stop.Fault (T.faults tree.old) (T.faults tree.new) result }
     {
         match self.read_forced(alloc, tree, job) {
@@ -432,13 +435,14 @@ impl Reader {
     ) -> Result<(), Stop>
         requires { AllRead self.old }
         ensures same { T.told tree.new ≡ T.told tree.old }
-        ensures brings { ForSome (T.told tree.old) (λ told. Brings (ComesTo (source_behind (world_of told setup.now) source.now []) self.old) self.new (λ done. RestLeadsTo (world_of told setup.now) Go self.new) result) }
+        ensures brings { ForSome (T.told tree.old) (λ told. Brings (ComesTo (world_of told setup.now) (source_behind (world_of told setup.now) source.now []) self.old) self.new (λ done. RestLeadsTo (world_of told setup.now) Go self.new) result) }
         ensures cause { HasCause Stop.Fault (T.faults tree.old) (T.faults tree.new) result }
     {
         match open_file(
             alloc,
             tree,
             &mut self.kept,
+            &mut self.lexed,
             setup,
             &self.source,
             source,
@@ -456,7 +460,7 @@ impl Reader {
     fn read_forced<T: Tree>(&mut self, alloc: Global, tree: &mut T, job: &Job) -> Result<(), Stop>
         requires { AllRead self.old }
         ensures same { T.told tree.new ≡ T.told tree.old }
-        ensures brings { ForSome (T.told tree.old) (λ told. (source : Hit) → Brings (ComesTo (source_behind (world_of told job.now.setup) source job.now.forced) self.old) self.new (λ done. ComesTo (source_behind (world_of told job.now.setup) source []) self.new) result) }
+        ensures brings { ForSome (T.told tree.old) (λ told. (source : Hit) → Brings (ComesTo (world_of told job.now.setup) (source_behind (world_of told job.now.setup) source job.now.forced) self.old) self.new (λ done. ComesTo (world_of told job.now.setup) (source_behind (world_of told job.now.setup) source []) self.new) result) }
         ensures read { OnOk result (AllRead self.new) }
         ensures cause { HasCause Stop.Fault (T.faults tree.old) (T.faults tree.new) result }
     {
@@ -479,7 +483,7 @@ impl Reader {
     ) -> Result<(), Stop>
         requires { AllRead self.old }
         ensures same { T.told tree.new ≡ T.told tree.old }
-        ensures brings { ForSome (T.told tree.old) (λ told. (source : Hit) (names : List Text) → Brings (ComesTo (source_behind (world_of told setup.now) source (name.now ∷ names)) self.old) self.new (λ done. ComesTo (source_behind (world_of told setup.now) source names) self.new) result) }
+        ensures brings { ForSome (T.told tree.old) (λ told. (source : Hit) (names : List Text) → Brings (ComesTo (world_of told setup.now) (source_behind (world_of told setup.now) source (name.now ∷ names)) self.old) self.new (λ done. ComesTo (world_of told setup.now) (source_behind (world_of told setup.now) source names) self.new) result) }
         ensures read { OnOk result (AllRead self.new) }
         ensures cause { HasCause Stop.Fault (T.faults tree.old) (T.faults tree.new) result }
     {
@@ -506,7 +510,7 @@ impl Reader {
         file: (Visit, Located),
     ) -> Result<(), Stop>
         ensures same { T.told tree.new ≡ T.told tree.old }
-        ensures brings { ForSome (T.told tree.old) (λ told. (behind : After) → Brings (EntersTo (world_of told setup.now) behind self.old 0 file) self.new (λ done. ComesTo behind self.new) result) }
+        ensures brings { ForSome (T.told tree.old) (λ told. (behind : After) → Brings (EntersTo (world_of told setup.now) behind self.old 0 file) self.new (λ done. ComesTo (world_of told setup.now) behind self.new) result) }
         ensures read { OnOk result (AllRead self.new) }
         ensures cause { HasCause Stop.Fault (T.faults tree.old) (T.faults tree.new) result }
     {
@@ -519,7 +523,7 @@ impl Reader {
     // Reads the file and those around it, up to their ends.
     fn read<T: Tree>(&mut self, alloc: Global, tree: &mut T, setup: &Setup) -> Result<(), Stop>
         ensures same { T.told tree.new ≡ T.told tree.old }
-        ensures brings { ForSome (T.told tree.old) (λ told. (behind : After) → Brings (RestLeadsTo (world_of told setup.now) behind self.old) self.new (λ done. ComesTo behind self.new) result) }
+        ensures brings { ForSome (T.told tree.old) (λ told. (behind : After) → Brings (RestLeadsTo (world_of told setup.now) behind self.old) self.new (λ done. ComesTo (world_of told setup.now) behind self.new) result) }
         ensures read { OnOk result (AllRead self.new) }
         ensures cause { HasCause Stop.Fault (T.faults tree.old) (T.faults tree.new) result }
     {
@@ -672,6 +676,7 @@ impl Reader {
             alloc,
             tree,
             &mut self.kept,
+            &mut self.lexed,
             setup,
             &self.source,
             &inner,
@@ -711,16 +716,20 @@ impl Reader {
     // What is told of the job once its files are read, or were left at a diagnostic. Where the process ends behind it, what the macros and
     // the files take isn't given back.
     fn told(self, alloc: Global, ended: Result<(), Stop>, last: bool) -> Result<Told, CppError>
-        ensures told { IfOk result (λ all. (whole : Told) → IsEnd self whole ended → all ≡ whole) }
+        ensures told { IfOk result (λ all. (world : World) (whole : Told) → IsEnd world self whole ended → all ≡ whole) }
         ensures fits { IfOk result (λ all. OutcomeFits all.outcome) }
         ensures fault { IsErrOf result CppError.Fault → IsErrOf ended Stop.Fault }
     {
-        let Reader { source, kept, .. } = self;
+        let Reader {
+            source,
+            kept,
+            lexed,
+            ..
+        } = self;
         let Kept {
             layout,
             opened,
             macros,
-            lexed,
             ..
         } = kept;
         let_go(macros, lexed, last);

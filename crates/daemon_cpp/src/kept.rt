@@ -3,7 +3,6 @@ ghost use Rattle.std.specs.Prelude.{◌≡◌, Some, IfOk, OnOk};
 ghost use Rattle.macro_defs.specs.Table.{lookup, SetsDefinition};
 ghost use Rattle.daemon_cpp.specs.Prep.{first_table, with_word};
 
-use crate::lexed_files::LexedFiles;
 use crate::once::OnceMarks;
 use base_types::{Bytes, List};
 use cpp_output::Layout;
@@ -15,7 +14,7 @@ use std::alloc::{AllocError, Global};
 use tree_model::CanonPath;
 
 /// What goes through a job: the output so far, the macros in force, the work left, the real paths of the files that are read
-/// once, the places of the files opened, in order and with repeats, and what was lexed.
+/// once, and the places of the files opened, in order and with repeats.
 #[derive(Drop)]
 pub struct Kept {
     pub layout: Layout,
@@ -23,7 +22,6 @@ pub struct Kept {
     pub work: Work,
     pub once: OnceMarks,
     pub opened: List<CanonPath>,
-    pub lexed: LexedFiles,
 }
 
 /// What the job's words say of searches, its source by its place, and the file that is read: as one that asks, by its path

@@ -7,6 +7,7 @@ mod cpp;
 mod define;
 mod defined;
 mod diagnostic;
+mod file_text;
 mod header;
 mod kept;
 mod lexed_files;

@@ -1,21 +1,21 @@
 // Opening a file.
-ghost use Rattle.std.specs.Prelude.{◌≡◌, ◌≤◌, ◌+◌, ◌++◌, ◌∷◌, [], suc, length, IfOk, OnOk, IsErrOf};
+ghost use Rattle.std.specs.Prelude.{◌≡◌, ◌≤◌, ◌+◌, ◌++◌, ◌∷◌, [], suc, length, IfOk, IfErr, IfSome, OnOk, IsErrOf};
 ghost use Rattle.std.specs.Option.{ForSome};
 ghost use Rattle.base_types.specs.Causes.{HasCause};
-ghost use Rattle.base_types.specs.Limits.{body_limit};
 ghost use Rattle.directive_scan.specs.Groups.{malformed_by, outline, role_of};
-ghost use Rattle.pp_tokens.specs.Lines.{lexed, LexedFile};
+ghost use Rattle.pp_tokens.specs.Lines.{LexedFile};
 ghost use Rattle.daemon_cpp.specs.Prep.{World, Here, world_of, and_then, say, run_outline, run_file, open_file};
 ghost use Rattle.daemon_cpp.specs.parts.Reading.{front_events, work_after, run_body, malformed_told, run_flat, reading};
-ghost use Rattle.daemon_cpp.specs.parts.FileTexts.{IsTextOf};
-ghost use Rattle.daemon_cpp.specs.parts.Showing.{Opens, BeginsFile, Goes, Refuses};
+ghost use Rattle.daemon_cpp.specs.parts.FileTexts.{IsTextOf, IsJudged};
+ghost use Rattle.daemon_cpp.specs.parts.KnownTexts.{IsReadAt, KnowsTexts};
+ghost use Rattle.daemon_cpp.specs.parts.Showing.{Opens, BeginsFile, Goes, Refuses, TellsNothing};
 
 use crate::diagnostic::Problem;
+use crate::file_text::FileText;
 use crate::kept::Kept;
-use crate::lexed_files::FileText;
+use crate::lexed_files::LexedFiles;
 use crate::stop::{Stop, refused};
 use crate::tree::read_body;
-use base_types::Bytes;
 use cpp_output::LayError;
 use directive_scan::{Malformed, Pieces, nesting_told, one_outline};
 use search_path::{Setup, Visit};
@@ -27,22 +27,52 @@ pub fn open_file<T: Tree>(
     alloc: Global,
     tree: &mut T,
     kept: &mut Kept,
+    lexed: &mut LexedFiles,
     setup: &Setup,
     source: &CanonPath,
     file: &(Visit, Located),
     included: bool,
 ) -> Result<Pieces, Stop>
     ensures same { T.told tree.new ≡ T.told tree.old }
-    ensures opens { ForSome (T.told tree.old) (λ told. Opens kept.old kept.new source.now (world_of told setup.now) file.now
+    ensures opens { ForSome (T.told tree.old) (λ told. KnowsTexts (world_of told setup.now) lexed.old → Opens kept.old kept.new source.now (world_of told setup.now) file.now
         (λ entering state. open_file (world_of told setup.now) entering (front_events included file.now.0.place) file.now state) result) }
+    ensures knows { ForSome (T.told tree.old) (λ told. KnowsTexts (world_of told setup.now) lexed.old → KnowsTexts (world_of told setup.now) lexed.new) }
     ensures shortens { IfOk result (λ pieces. length pieces + 1 + (kept.new.work.left + kept.new.work.left) ≤ kept.old.work.left + kept.old.work.left) }
     ensures cause { HasCause Stop.Fault (T.faults tree.old) (T.faults tree.new) result }
 {
     let (visit, located) = file;
     note_opened(alloc, kept, &visit.place)?;
-    match read_body(alloc, tree, &located.real) {
-        Ok(Some(body)) => { open_body(alloc, kept, setup, source, file, included, body) }
+    match read_text(alloc, tree, lexed, setup, &located.real) {
+        Ok(Some(text)) => open_paid(alloc, kept, source, &visit.place, included, text),
         Ok(None) => Err(refused(alloc, &visit.place, 0, Problem::TooLarge)),
+        Err(stop) => Err(stop),
+    }
+}
+
+// What the file at a path is read as; None where it has more than 16,777,216 bytes.
+fn read_text<T: Tree>(
+    alloc: Global,
+    tree: &mut T,
+    lexed: &mut LexedFiles,
+    setup: &Setup,
+    path: &CanonPath,
+) -> Result<Option<FileText>, Stop>
+    ensures same { T.told tree.new ≡ T.told tree.old }
+    ensures text { ForSome (T.told tree.old) (λ told. KnowsTexts (world_of told setup.now) lexed.old → IfOk result (IsReadAt (world_of told setup.now) path.now)) }
+    ensures knows { ForSome (T.told tree.old) (λ told. KnowsTexts (world_of told setup.now) lexed.old → KnowsTexts (world_of told setup.now) lexed.new) }
+    ensures judged { IfOk result (λ found. IfSome found IsJudged) }
+    ensures silent { IfErr result TellsNothing }
+    ensures cause { HasCause Stop.Fault (T.faults tree.old) (T.faults tree.new) result }
+{
+    if let Some(text) = lexed.get(path)? {
+        return Ok(Some(text));
+    }
+    match read_body(alloc, tree, path) {
+        Ok(Some(body)) => {
+            let text = lexed.read(alloc, path, body, setup.trigraphs())?;
+            Ok(Some(text))
+        }
+        Ok(None) => Ok(None),
         Err(stop) => Err(stop),
     }
 }
@@ -55,30 +85,25 @@ fn note_opened(alloc: Global, kept: &mut Kept, place: &CanonPath) -> Result<(), 
     Ok(())
 }
 
-// The bytes of a file that was noted.
-fn open_body(
+// The text of a file that was noted.
+fn open_paid(
     alloc: Global,
     kept: &mut Kept,
-    setup: &Setup,
     source: &CanonPath,
-    found: &(Visit, Located),
+    place: &CanonPath,
     included: bool,
-    body: Bytes,
+    text: FileText,
 ) -> Result<Pieces, Stop>
-    requires { length body ≤ body_limit }
-    ensures begins { (world : World) (file : Here) → file.place ≡ found.now.0.place → BeginsFile kept.old kept.new source.now file world
-        (λ entering state. run_body world entering (front_events included found.now.0.place) (lexed setup.now.trigraphs body) state) result }
+    requires { IsJudged text }
+    ensures begins { (world : World) (file : Here) (lexed : LexedFile) → file.place ≡ place.now → IsTextOf lexed text → BeginsFile kept.old kept.new source.now file world
+        (λ entering state. run_body world entering (front_events included place.now) lexed state) result }
     ensures shortens { IfOk result (λ pieces. length pieces + 1 + (kept.new.work.left + kept.new.work.left) ≤ kept.old.work.left + kept.old.work.left) }
     ensures no_fault { IsErrOf result Stop.Fault → ⊥ }
 {
-    let (visit, located) = found;
-    let text = kept
-        .lexed
-        .text_of(alloc, &located.real, body, setup.trigraphs())?;
     match pay(text.tokens, kept.work.left) {
         Some(left) => {
             kept.work.left = left;
-            open_text(alloc, kept, source, &visit.place, included, text)
+            open_text(alloc, kept, source, place, included, text)
         }
         None => Err(refused(alloc, source, 0, Problem::WorkLimit)),
     }

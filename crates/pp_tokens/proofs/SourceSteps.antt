@@ -1,7 +1,7 @@
 -- The reading of a body up to a place: its text and splices so far, and what is left of it.
-use Rattle.std.specs.Prelude.{◌≡◌, ℕ, ◌+◌, ◌≤◌, ◌<◌, Bool, true, false, cond, List, [], ◌∷◌, ◌++◌, length, take, drop, refl, ◌==◌}
+use Rattle.std.specs.Prelude.{◌≡◌, ℕ, ◌+◌, ◌<◌, Bool, true, false, cond, List, [], ◌∷◌, ◌++◌, length, take, drop, refl, ◌==◌}
 use Rattle.std.proofs.Common.{sym, ◌∙◌, ap, append_assoc, subst, arith}
-use Rattle.std.proofs.lemmas.List.{append-nil, length-append, drop-append-le, drop-drop, drop_all, take-append-drop, take-append-le}
+use Rattle.std.proofs.lemmas.List.{append-nil, length-append, drop-append-le, take-append-drop}
 use Rattle.pp_tokens.specs.declared.source.Piece.TheVariants.{Byte, Splice}
 use Rattle.pp_tokens.specs.Phases.{Cell, cell, newline_ended, with_newlines, numbered, without_trigraphs, spliced, source_text}
 use Rattle.pp_tokens.specs.Lined.{lined}
@@ -86,30 +86,3 @@ source_front trigraphs body text splices rest n ascends stays state =
 pub rest_lines : (body lines : List ℕ) (at : ℕ) → body ≡ lines ++ (10 ∷ []) → at < length body → drop at body ≡ drop at lines ++ (10 ∷ [])
 rest_lines body lines at is before =
     ap (drop at) is ∙ drop-append-le at lines (10 ∷ []) (omega (arith, ap length is, length-append lines (10 ∷ [])))
-
--- PLACES IN THE LINES, BEHIND WHICH THE LAST NEWLINE STANDS
-
--- a run of bytes at a place
-pub source_run_at : (trigraphs : Bool) (body text splices lines rest kept behind : List ℕ) (at run : ℕ) → at ≤ length lines → rest ≡ drop at lines → run ≤ length rest
-    → kept ≡ take run rest → behind ≡ drop run rest → Ascends 0 splices (length text) → FrontStays trigraphs (rest ++ (10 ∷ [])) run
-    → SourceState trigraphs body text splices (drop at (lines ++ (10 ∷ []))) → SourceState trigraphs body (text ++ kept) splices (behind ++ (10 ∷ []))
-source_run_at trigraphs body text splices lines rest kept behind at run within is fits front back ascends stays state =
-    let left : drop at (lines ++ (10 ∷ [])) ≡ rest ++ (10 ∷ []) = drop-append-le at lines (10 ∷ []) within ∙ ap (λ (l : List ℕ). l ++ (10 ∷ [])) (sym is) in
-    let first : take run (rest ++ (10 ∷ [])) ≡ kept = take-append-le run rest (10 ∷ []) fits ∙ sym front in
-    let last : drop run (rest ++ (10 ∷ [])) ≡ behind ++ (10 ∷ []) = drop-append-le run rest (10 ∷ []) fits ∙ ap (λ (l : List ℕ). l ++ (10 ∷ [])) (sym back) in
-    let cut : rest ++ (10 ∷ []) ≡ kept ++ (behind ++ (10 ∷ [])) = sym (take-append-drop run (rest ++ (10 ∷ []))) ∙ (λ i. first i ++ last i) in
-    source_run trigraphs body text splices kept (behind ++ (10 ∷ [])) ascends
-    (λ line. ap (source_from trigraphs line) (sym cut) ∙ stays line ∙ (λ i. numbered line (first i) ++ source_from trigraphs (line_behind line (first i)) (last i)))
-    (subst (SourceState trigraphs body text splices) (left ∙ cut) state)
-
--- what is left behind a run and a piece
-pub rest_behind : (lines rest behind : List ℕ) (at run n : ℕ) → at ≤ length lines → rest ≡ drop at lines → run ≤ length rest → behind ≡ drop run rest
-    → drop n (behind ++ (10 ∷ [])) ≡ drop (at + (run + n)) (lines ++ (10 ∷ []))
-rest_behind lines rest behind at run n within is fits back =
-    let left : drop at (lines ++ (10 ∷ [])) ≡ rest ++ (10 ∷ []) = drop-append-le at lines (10 ∷ []) within ∙ ap (λ (l : List ℕ). l ++ (10 ∷ [])) (sym is) in
-    let next : drop run (rest ++ (10 ∷ [])) ≡ behind ++ (10 ∷ []) = drop-append-le run rest (10 ∷ []) fits ∙ ap (λ (l : List ℕ). l ++ (10 ∷ [])) (sym back) in
-    ap (drop n) (sym next) ∙ drop-drop n run (rest ++ (10 ∷ [])) ∙ ap (drop (run + n)) (sym left) ∙ drop-drop (run + n) at (lines ++ (10 ∷ []))
-
--- nothing is left behind the last newline
-pub rest_end : (lines : List ℕ) (at : ℕ) → length lines < at → drop at (lines ++ (10 ∷ [])) ≡ []
-rest_end lines at past = drop_all at (lines ++ (10 ∷ [])) (omega (arith, length-append lines (10 ∷ [])))

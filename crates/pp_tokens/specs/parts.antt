@@ -5,7 +5,6 @@
 --     Unpaired  what the lexer knows of quotes that have no partner
 --     Literals  what opens a literal or a header name
 --     Text      what the lexer's functions tell of a text
---     Met       what of a text and of its splices was met in a body
 --     TextLines what is left of a file from a line of text on
 pub mod Pieces
 pub mod Literals
@@ -14,5 +13,4 @@ pub mod Gathered
 pub mod Packed
 pub mod Seen
 pub mod Text
-pub mod Met
 pub mod TextLines

@@ -19,7 +19,7 @@ ghost use Rattle.pp_tokens.specs.Lined.{lined, spliced_up_to, Rising};
 ghost use Rattle.pp_tokens.specs.Lines.{all_tokens, elements, file_of, first_part, lexed};
 ghost use Rattle.pp_tokens.specs.DirectiveLines.{directives_alone};
 ghost use Rattle.pp_tokens.specs.parts.Packed.{place_told};
-ghost use Rattle.pp_tokens.specs.parts.Seen.{seen_file, token_of_place, IsWhole};
+ghost use Rattle.pp_tokens.specs.parts.Seen.{seen_file, token_of_place};
 ghost use Rattle.pp_tokens.specs.parts.Text.{is_due, part_told};
 ghost use Rattle.pp_tokens.specs.parts.Unpaired.{KnowsUnpaired};
 ghost use Rattle.pp_tokens.specs.Tokens.{token_seen};
@@ -30,7 +30,6 @@ use crate::excerpt::Excerpt;
 use crate::part::{What, next_part};
 use crate::place::Place;
 use crate::quoted::word_at;
-use crate::same_source::is_source_of;
 use crate::source::{SourceText, read_source};
 use crate::text_line::{begins_line, begins_text, line_end};
 use crate::token::{Kind, TokenRef};
@@ -43,8 +42,6 @@ use std::marker::Model;
 #[derive(Drop)]
 pub struct Lexed {
     text: Vec<u8>,
-    // the places of the splices, where all tokens of the text are here
-    splices: Option<Vec<u32>>,
     places: Vec<Place>,
     ends: Vec<u32>,
     unended: Option<u32>,
@@ -52,15 +49,14 @@ pub struct Lexed {
 
 impl Model for Lexed {
     ghost use Rattle.pp_tokens.specs.Lines.{LexedFile};
-    ghost use Rattle.pp_tokens.specs.parts.Seen.{seen_file, Ascends, EachWithin, IsWhole};
+    ghost use Rattle.pp_tokens.specs.parts.Seen.{seen_file, Ascends, EachWithin};
     ghost use Rattle.std.specs.Prelude.{length};
 
     ghost Value = { LexedFile };
 
     ghost view = { λ l. seen_file l.text.items l.places.items l.ends.items l.unended };
 
-    ghost invariant = { λ l. Ascends 0 l.ends.items (length l.places.items) × EachWithin l.text.items l.places.items
-        × IsWhole l.splices l.text.items (seen_file l.text.items l.places.items l.ends.items l.unended) };
+    ghost invariant = { λ l. Ascends 0 l.ends.items (length l.places.items) × EachWithin l.text.items l.places.items };
 }
 
 /// `size` bytes of a text, from a place on.
@@ -385,11 +381,9 @@ fn give_back<T>(list: &mut Vec<T>)
     }
 }
 
-// The file that a text makes and what is gathered of all of it, with its splices where that is all its tokens. Much room that
-// nothing took is given back.
-fn finished(text: Vec<u8>, splices: Option<Vec<u32>>, gathering: Gathering) -> Lexed
+// The file that a text makes and what is gathered of all of it. Much room that nothing took is given back.
+fn finished(text: Vec<u8>, gathering: Gathering) -> Lexed
     requires gathered { IsGathered text.items gathering }
-    requires whole { IsWhole splices text.items (seen_file text.items gathering.places.items gathering.ends.items gathering.unended) }
     ensures { result ≡ seen_file text.items gathering.places.items gathering.ends.items gathering.unended }
 {
     let Gathering {
@@ -402,7 +396,6 @@ fn finished(text: Vec<u8>, splices: Option<Vec<u32>>, gathering: Gathering) -> L
     give_back(&mut ends);
     Lexed {
         text,
-        splices,
         places,
         ends,
         unended,
@@ -435,7 +428,7 @@ pub fn lex_body(alloc: Global, body: Vec<u8>, trigraphs: bool) -> Result<Lexed, 
 {
     let SourceText { text, splices } = read_source(alloc, body, trigraphs)?;
     let gathering = gather(alloc, &text, &splices)?;
-    Ok(finished(text, Some(splices), gathering))
+    Ok(finished(text, gathering))
 }
 
 // What is gathered of a whole text's directives alone.
@@ -496,7 +489,7 @@ pub fn lex_directives(alloc: Global, body: Vec<u8>, trigraphs: bool) -> Result<L
 {
     let SourceText { text, splices } = read_source(alloc, body, trigraphs)?;
     let gathering = gather_directives(alloc, &text, &splices)?;
-    Ok(finished(text, None, gathering))
+    Ok(finished(text, gathering))
 }
 
 // The number of the first place of a line.
@@ -551,23 +544,9 @@ impl Lexed {
     {
         Lexed {
             text: Vec::new(alloc),
-            splices: None,
             places: Vec::new(alloc),
             ends: Vec::new(alloc),
             unended: None,
-        }
-    }
-
-    /// Whether these are sure to be the tokens of a body of at most 16 MiB, read with trigraphs or without: what `lex` gives of it. `false` tells
-    /// nothing: it is the answer where the file was lexed for its directives alone, and where a body of other bytes has these tokens
-    /// too. It takes no memory, and the first difference between the body and the one that was lexed ends it.
-    pub fn is_of(&self, body: &[u8], trigraphs: bool) -> bool
-        requires { length body.now ≤ body_limit }
-        ensures { result ≡ true → self.now ≡ lexed trigraphs body.now }
-    {
-        match &self.splices {
-            Some(splices) => is_source_of(&self.text, splices, body, trigraphs),
-            None => false,
         }
     }
 

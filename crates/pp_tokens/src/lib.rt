@@ -13,7 +13,6 @@ mod place;
 mod plain;
 mod quoted;
 mod run;
-mod same_source;
 mod single;
 mod source;
 mod text_line;

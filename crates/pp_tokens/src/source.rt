@@ -30,21 +30,11 @@ pub struct SourceText {
 
 // What stands at the front of what is left of a body.
 #[derive(Clone, Copy, Drop)]
-pub enum Piece {
+enum Piece {
     // A byte of the text.
     Byte(u8),
     // A backslash and the newline behind it.
     Splice,
-}
-
-// A body up to the newline that ends it, which needn't stand there.
-pub fn without_last_newline(body: &[u8]) -> &[u8]
-    requires { 0 < length body.now }
-    ensures ended { newline_ended body.now ≡ result.now ++ (ascii.newline ∷ []) }
-    ensures within { length result.now ≤ length body.now }
-{
-    let (front, last) = body.split_at(body.len() - 1);
-    if last[0] == b'\n' { front } else { body }
 }
 
 // Whether phases 1 and 2 leave a byte as it is, whatever stands behind it.
@@ -111,7 +101,7 @@ fn run_without(stop: u8, rest: &[u8], bound: usize) -> usize
 }
 
 // How many bytes at the front are sure to be bytes of the text. The start of a search costs more than a look at a few bytes.
-pub fn run_length(rest: &[u8], trigraphs: bool) -> usize
+fn run_length(rest: &[u8], trigraphs: bool) -> usize
     ensures within { result ≤ length rest.now }
     ensures short { result ≤ 1040 }
     ensures run { FrontStays trigraphs (rest.now ++ (ascii.newline ∷ [])) result }
@@ -185,7 +175,7 @@ fn front_character(rest: &[u8], trigraphs: bool) -> (u8, usize)
 }
 
 // What stands at the front, and how many bytes it has. The newline that ends the body stands behind the rest.
-pub fn front_piece(rest: &[u8], trigraphs: bool) -> (Piece, usize)
+fn front_piece(rest: &[u8], trigraphs: bool) -> (Piece, usize)
     ensures front { (line : ℕ) → IsFront trigraphs line (rest.now ++ (ascii.newline ∷ [])) result.0 result.1 }
     ensures moves { 0 < result.1 }
     ensures within { result.1 ≤ length rest.now + 1 }

@@ -19,6 +19,7 @@ use Rattle.daemon_cpp.specs.declared.cpp.Left.{Left}
 use Rattle.daemon_cpp.specs.declared.cpp.Reader.{Reader}
 use Rattle.daemon_cpp.specs.Prep.{World, Here, State, PrepStep, Go, and_then, limited, first_state, enter_file, run_forced, open_source, prepared, line_set}
 use Rattle.daemon_cpp.specs.parts.Reading.{Frame, run_flat, reading, entering_at, frames_resumed}
+use Rattle.daemon_cpp.specs.parts.KnownTexts.{KnowsTexts}
 use Rattle.daemon_cpp.specs.parts.Showing.{Shows, StopsWith}
 
 abbrev pub here_of : OpenFile → Here
@@ -63,12 +64,14 @@ run_rest world frames rest state = run_flat world (entering_at world (length fra
 pub record RestLeadsTo (world : World) (behind : After) (reader : Reader) (whole : Told) : Type 0 where
   pub state : State
   pub shows : IsShown reader state
+  pub knows : KnowsTexts world reader.lexed
   pub same : told_behind world behind (frames_of reader) (run_rest world (frames_of reader) (pieces_left reader.file) state) ≡ whole
 
 -- a step from a state in some file, what is left to read, and what comes behind it, lead to this
 pub record StepsTo (world : World) (behind : After) (reader : Reader) (from : Here) (step : State → PrepStep) (whole : Told) : Type 0 where
   pub state : State
   pub shows : Shows reader.kept reader.source from state
+  pub knows : KnowsTexts world reader.lexed
   pub same : told_behind world behind (frames_of reader) (and_then (λ after. run_rest world (frames_of reader) (pieces_left reader.file) after) (step state)) ≡ whole
 
 -- a file that is entered from an include on a line of the one that is read
@@ -77,9 +80,10 @@ EntersTo world behind reader at inner whole =
     StepsTo world behind reader (here_of reader.file) (λ state. entering_at world (length (frames_of reader)) at inner state) whole
 
 -- what comes behind the files that were read leads to this
-pub record ComesTo (behind : After) (reader : Reader) (whole : Told) : Type 0 where
+pub record ComesTo (world : World) (behind : After) (reader : Reader) (whole : Told) : Type 0 where
   pub state : State
   pub shows : IsShown reader state
+  pub knows : KnowsTexts world reader.lexed
   pub same : told_of (behind state) ≡ whole
 
 -- a file that was found, of whose pieces none is read
@@ -96,6 +100,7 @@ opened_file hit pieces = record {
 pub record GoesInto (reader : Reader) (file : OpenFile) (at : ℕ) (after : Reader) : Type 0 where
   pub source : after.source ≡ reader.source
   pub kept : after.kept ≡ reader.kept
+  pub lexed : after.lexed ≡ reader.lexed
   pub file_is : after.file ≡ file
   pub around : after.around.items ≡ reader.around.items ++ record { file = reader.file; at = at } ∷ []
 
@@ -107,11 +112,11 @@ Brings before reader after (Err stop.Fault) = Unit {0}
 Brings before reader after (Err stop.Memory) = Unit {0}
 
 -- what is told where reading ended so
-abbrev pub IsEnd : {A : Type 0} → Reader → Told → Result A Stop → Type 0
-IsEnd reader whole (Ok x) = ComesTo Go reader whole
-IsEnd reader whole (Err (stop.Ended words)) = ended_told words reader.kept.opened ≡ whole
-IsEnd reader whole (Err stop.Fault) = Unit {0}
-IsEnd reader whole (Err stop.Memory) = Unit {0}
+abbrev pub IsEnd : {A : Type 0} → World → Reader → Told → Result A Stop → Type 0
+IsEnd world reader whole (Ok x) = ComesTo world Go reader whole
+IsEnd world reader whole (Err (stop.Ended words)) = ended_told words reader.kept.opened ≡ whole
+IsEnd world reader whole (Err stop.Fault) = Unit {0}
+IsEnd world reader whole (Err stop.Memory) = Unit {0}
 
 -- a step between two files, which are shown before and behind it
 abbrev pub Turns : {A : Type 0} → Kept → Kept → Path → Here → Here → (State → PrepStep) → Result A Stop → Type 0
@@ -154,7 +159,7 @@ MoveLeadsTo world behind reader (Renumber at numbers) whole = StepsTo world behi
 
 -- what a file of the job's words leads to: the names behind it, or its file, and then these
 abbrev pub NamedTo : World → Hit → List Text → Reader → Option Hit → Told → Type 0
-NamedTo world source names reader None whole = ComesTo (source_behind world source names) reader whole
+NamedTo world source names reader None whole = ComesTo world (source_behind world source names) reader whole
 NamedTo world source names reader (Some hit) whole = EntersTo world (source_behind world source names) reader 0 hit whole
 
 -- what opening a file leads to, once it is gone into

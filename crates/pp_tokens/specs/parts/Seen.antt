@@ -1,11 +1,9 @@
 -- What a lexed file's fields show: the tokens of all lines in one list of places, and for each line the number of
 -- places up to its end.
-use Rattle.std.specs.Prelude.{ℕ, ◌+◌, ◌-◌, ◌≤◌, List, [], ◌∷◌, length, map, take, drop, Vec, Option, Some, None, ◌≡◌}
-use Rattle.std.specs.declared.alloc.Global.{Global}
+use Rattle.std.specs.Prelude.{ℕ, ◌+◌, ◌-◌, ◌≤◌, List, [], ◌∷◌, length, map, take, drop, Option}
 use Rattle.pp_tokens.specs.declared.place.Place.{Place}
 use Rattle.pp_tokens.specs.declared.token.Token.{Token}
-use Rattle.pp_tokens.specs.Lined.{lined}
-use Rattle.pp_tokens.specs.Lines.{LexedFile, elements, file_of}
+use Rattle.pp_tokens.specs.Lines.{LexedFile}
 use Rattle.pp_tokens.specs.parts.Packed.{place_told}
 
 -- the token at a place of the text
@@ -21,11 +19,6 @@ seen_lines text places from (end ∷ ends) = map (token_of_place text) (take (en
 
 abbrev pub seen_file : List ℕ → List Place → List ℕ → Option ℕ → LexedFile
 seen_file text places ends unended = record { lines = seen_lines text places 0 ends; unended = unended }
-
--- a file has all tokens of its text, where the splices of the text are kept
-abbrev pub IsWhole : Option (Vec ℕ Global) → List ℕ → LexedFile → Type 0
-IsWhole None text file = Unit {0}
-IsWhole (Some splices) text file = file ≡ file_of (elements 0 [] (lined splices.items 0 1 text))
 
 -- each line ends no earlier than the one before it, and none behind the last place
 unfoldable pub Ascends : ℕ → List ℕ → ℕ → Type 0

@@ -21,3 +21,4 @@ returns-clause-comes c = λ world forced.
       once = λ path. ap (list_any (is_same_path path)) (sym c.alone.ensures.once);
       here = ap here_of (sym (c.alone.ensures.file ∙ c.in_ok-file.ensures));
     })
+    (c.alone.ensures.knows world)

@@ -10,5 +10,5 @@ returns-clause-brings c = λ world behind.
     let mid : Reader = record c.args.self.now { file = c.in-Some.outer.file; around = c.pop.new.self } in
     let after : Reader = record mid { kept = c.mark_return.new.kept } in
     brings-before (RestLeadsTo world behind c.args.self.now) (StepsTo world behind mid (here_of c.args.self.now.file) (λ state. back_in (here_of c.in-Some.outer.file) c.in-Some.outer.at state)) after (λ done. RestLeadsTo world behind after) c.mark_return.result
-    (λ whole left. came-back world behind c.args.self.now mid c.in-Some.outer whole c.requires.ended c.in-Some.ensures.items refl refl refl left)
-    (turns-brings world behind mid after (here_of c.args.self.now.file) (λ state. back_in (here_of c.in-Some.outer.file) c.in-Some.outer.at state) c.mark_return.result refl refl refl (c.mark_return.ensures.turns (here_of c.args.self.now.file)))
+    (λ whole left. came-back world behind c.args.self.now mid c.in-Some.outer whole c.requires.ended c.in-Some.ensures.items refl refl refl refl left)
+    (turns-brings world behind mid after (here_of c.args.self.now.file) (λ state. back_in (here_of c.in-Some.outer.file) c.in-Some.outer.at state) c.mark_return.result refl refl refl refl (c.mark_return.ensures.turns (here_of c.args.self.now.file)))

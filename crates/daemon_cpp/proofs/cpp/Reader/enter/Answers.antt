@@ -19,9 +19,9 @@ pub returns-in_ok-go_into-in-Ok-clause-brings : goal.returns-in_ok-go_into-in-Ok
 returns-in_ok-go_into-in-Ok-clause-brings g c = λ told is behind whole enters_to.
     let same = ap length c.as_slice.ensures.value in
     let shallow : length c.args.self.now.around.items < include_depth_limit = omega (arith, same, c.if-as_slice-ge-INCLUDE_DEPTH_LIMIT.false) in
-    let mid : Reader = record c.args.self.now { kept = c.open_file.new.kept } in
+    let mid : Reader = record c.args.self.now { kept = c.open_file.new.kept; lexed = c.open_file.new.lexed } in
     let opened = subst (λ (r : Result (List Piece) Stop). Brings (EntersTo (world_of told c.args.setup.now) behind c.args.self.now c.args.at c.args.inner) mid (λ pieces w. InsideTo (world_of told c.args.setup.now) behind mid c.args.at c.args.inner pieces w) r) c.in-Ok.is
-    (opens-brings (world_of told c.args.setup.now) behind c.args.self.now c.open_file.new.kept c.args.at c.args.inner c.open_file.result shallow (c.open_file.ensures.opens told is)) in
+    (opens-brings (world_of told c.args.setup.now) behind c.args.self.now c.open_file.new.kept c.open_file.new.lexed c.args.at c.args.inner shallow (c.open_file.ensures.knows told is) c.open_file.result (c.open_file.ensures.opens told is)) in
     opened whole enters_to c.go_into.new.self
     (subst (λ (f : OpenFile). GoesInto mid f c.args.at c.go_into.new.self) c.in_ok-new-in-Ok.ensures c.in_ok-go_into-in-Ok.ensures)
 
@@ -29,7 +29,7 @@ pub returns-in-Err-clause-brings : goal.returns-in-Err-clause-brings
 returns-in-Err-clause-brings g c = λ told is behind.
     let same = ap length c.as_slice.ensures.value in
     let shallow : length c.args.self.now.around.items < include_depth_limit = omega (arith, same, c.if-as_slice-ge-INCLUDE_DEPTH_LIMIT.false) in
-    let mid : Reader = record c.args.self.now { kept = c.open_file.new.kept } in
+    let mid : Reader = record c.args.self.now { kept = c.open_file.new.kept; lexed = c.open_file.new.lexed } in
     brings-stop {B = Unit {0}} (EntersTo (world_of told c.args.setup.now) behind c.args.self.now c.args.at c.args.inner) mid (λ pieces w. InsideTo (world_of told c.args.setup.now) behind mid c.args.at c.args.inner pieces w) (λ done. RestLeadsTo (world_of told c.args.setup.now) behind mid) c.in-Err.stop
     (subst (λ (r : Result (List Piece) Stop). Brings (EntersTo (world_of told c.args.setup.now) behind c.args.self.now c.args.at c.args.inner) mid (λ pieces w. InsideTo (world_of told c.args.setup.now) behind mid c.args.at c.args.inner pieces w) r) c.in-Err.is
-    (opens-brings (world_of told c.args.setup.now) behind c.args.self.now c.open_file.new.kept c.args.at c.args.inner c.open_file.result shallow (c.open_file.ensures.opens told is)))
+    (opens-brings (world_of told c.args.setup.now) behind c.args.self.now c.open_file.new.kept c.open_file.new.lexed c.args.at c.args.inner shallow (c.open_file.ensures.knows told is) c.open_file.result (c.open_file.ensures.opens told is)))

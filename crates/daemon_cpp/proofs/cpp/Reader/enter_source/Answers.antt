@@ -10,14 +10,14 @@ use Rattle.daemon_cpp.proofs.cpp.Reader.enter_source.Goals as goal
 
 pub returns-in_ok-self-in-Ok-clause-brings : goal.returns-in_ok-self-in-Ok-clause-brings
 returns-in_ok-self-in-Ok-clause-brings g c = λ told is whole comes.
-    let mid : Reader = record c.args.self.now { kept = c.open_file.new.kept } in
-    let opened = subst (λ (r : Result (List Piece) Stop). Brings (ComesTo (source_behind (world_of told c.args.setup.now) c.args.source.now []) c.args.self.now) mid (λ pieces w. RestLeadsTo (world_of told c.args.setup.now) (λ state. Go state) (record mid { file = opened_file c.args.source.now pieces }) w) r) c.in-Ok.is
-    (source-brings (world_of told c.args.setup.now) c.args.source.now c.args.self.now c.open_file.new.kept c.open_file.result c.requires (c.open_file.ensures.opens told is)) in
+    let mid : Reader = record c.args.self.now { kept = c.open_file.new.kept; lexed = c.open_file.new.lexed } in
+    let opened = subst (λ (r : Result (List Piece) Stop). Brings (ComesTo (world_of told c.args.setup.now) (source_behind (world_of told c.args.setup.now) c.args.source.now []) c.args.self.now) mid (λ pieces w. RestLeadsTo (world_of told c.args.setup.now) (λ state. Go state) (record mid { file = opened_file c.args.source.now pieces }) w) r) c.in-Ok.is
+    (source-brings (world_of told c.args.setup.now) c.args.source.now c.args.self.now c.open_file.new.kept c.open_file.new.lexed c.requires (c.open_file.ensures.knows told is) c.open_file.result (c.open_file.ensures.opens told is)) in
     subst (λ (f : OpenFile). RestLeadsTo (world_of told c.args.setup.now) (λ state. Go state) (record mid { file = f }) whole) (sym c.in_ok-self-in-Ok.ensures) (opened whole comes)
 
 pub returns-in-Err-clause-brings : goal.returns-in-Err-clause-brings
 returns-in-Err-clause-brings g c = λ told is.
-    let mid : Reader = record c.args.self.now { kept = c.open_file.new.kept } in
-    brings-stop {B = Unit {0}} (ComesTo (source_behind (world_of told c.args.setup.now) c.args.source.now []) c.args.self.now) mid (λ pieces w. RestLeadsTo (world_of told c.args.setup.now) (λ state. Go state) (record mid { file = opened_file c.args.source.now pieces }) w) (λ done. RestLeadsTo (world_of told c.args.setup.now) (λ state. Go state) mid) c.in-Err.stop
-    (subst (λ (r : Result (List Piece) Stop). Brings (ComesTo (source_behind (world_of told c.args.setup.now) c.args.source.now []) c.args.self.now) mid (λ pieces w. RestLeadsTo (world_of told c.args.setup.now) (λ state. Go state) (record mid { file = opened_file c.args.source.now pieces }) w) r) c.in-Err.is
-    (source-brings (world_of told c.args.setup.now) c.args.source.now c.args.self.now c.open_file.new.kept c.open_file.result c.requires (c.open_file.ensures.opens told is)))
+    let mid : Reader = record c.args.self.now { kept = c.open_file.new.kept; lexed = c.open_file.new.lexed } in
+    brings-stop {B = Unit {0}} (ComesTo (world_of told c.args.setup.now) (source_behind (world_of told c.args.setup.now) c.args.source.now []) c.args.self.now) mid (λ pieces w. RestLeadsTo (world_of told c.args.setup.now) (λ state. Go state) (record mid { file = opened_file c.args.source.now pieces }) w) (λ done. RestLeadsTo (world_of told c.args.setup.now) (λ state. Go state) mid) c.in-Err.stop
+    (subst (λ (r : Result (List Piece) Stop). Brings (ComesTo (world_of told c.args.setup.now) (source_behind (world_of told c.args.setup.now) c.args.source.now []) c.args.self.now) mid (λ pieces w. RestLeadsTo (world_of told c.args.setup.now) (λ state. Go state) (record mid { file = opened_file c.args.source.now pieces }) w) r) c.in-Err.is
+    (source-brings (world_of told c.args.setup.now) c.args.source.now c.args.self.now c.open_file.new.kept c.open_file.new.lexed c.requires (c.open_file.ensures.knows told is) c.open_file.result (c.open_file.ensures.opens told is)))

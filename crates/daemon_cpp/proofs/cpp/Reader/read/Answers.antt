@@ -10,17 +10,17 @@ use Rattle.daemon_cpp.proofs.cpp.Reader.read.Goals as goal
 
 pub returns-in-Err-clause-brings : goal.returns-in-Err-clause-brings
 returns-in-Err-clause-brings g c = λ told is behind.
-    brings-before (RestLeadsTo (world_of told c.args.setup.now) behind c.args.self.now) (RestLeadsTo (world_of told c.args.setup.now) behind c.files.self) c.next_piece.new.self (λ (done : Unit {0}). ComesTo behind c.next_piece.new.self) (Err c.in-Err.stop)
+    brings-before (RestLeadsTo (world_of told c.args.setup.now) behind c.args.self.now) (RestLeadsTo (world_of told c.args.setup.now) behind c.files.self) c.next_piece.new.self (λ (done : Unit {0}). ComesTo (world_of told c.args.setup.now) behind c.next_piece.new.self) (Err c.in-Err.stop)
     (λ whole left. c.files.invariant.left told is behind whole left)
-    (brings-stop {A = Unit {0}} {B = Unit {0}} (RestLeadsTo (world_of told c.args.setup.now) behind c.files.self) c.next_piece.new.self (λ done. RestLeadsTo (world_of told c.args.setup.now) behind c.next_piece.new.self) (λ done. ComesTo behind c.next_piece.new.self) c.in-Err.stop
+    (brings-stop {A = Unit {0}} {B = Unit {0}} (RestLeadsTo (world_of told c.args.setup.now) behind c.files.self) c.next_piece.new.self (λ done. RestLeadsTo (world_of told c.args.setup.now) behind c.next_piece.new.self) (λ done. ComesTo (world_of told c.args.setup.now) behind c.next_piece.new.self) c.in-Err.stop
     (subst (λ (r : Result (Unit {0}) Stop). Brings (RestLeadsTo (world_of told c.args.setup.now) behind c.files.self) c.next_piece.new.self (λ done. RestLeadsTo (world_of told c.args.setup.now) behind c.next_piece.new.self) r) c.in-Err.is
     (c.next_piece.ensures.brings told (c.files.invariant.same ∙ is) behind)))
 
 pub returns-in-Err-come_back-clause-brings : goal.returns-in-Err-come_back-clause-brings
 returns-in-Err-come_back-clause-brings g c = λ told is behind.
-    brings-before (RestLeadsTo (world_of told c.args.setup.now) behind c.args.self.now) (RestLeadsTo (world_of told c.args.setup.now) behind c.files.self) c.come_back.new.self (λ (done : Unit {0}). ComesTo behind c.come_back.new.self) (Err c.in-Err-come_back.stop)
+    brings-before (RestLeadsTo (world_of told c.args.setup.now) behind c.args.self.now) (RestLeadsTo (world_of told c.args.setup.now) behind c.files.self) c.come_back.new.self (λ (done : Unit {0}). ComesTo (world_of told c.args.setup.now) behind c.come_back.new.self) (Err c.in-Err-come_back.stop)
     (λ whole left. c.files.invariant.left told is behind whole left)
-    (brings-stop {A = Unit {0}} {B = Unit {0}} (RestLeadsTo (world_of told c.args.setup.now) behind c.files.self) c.come_back.new.self (λ done. RestLeadsTo (world_of told c.args.setup.now) behind c.come_back.new.self) (λ done. ComesTo behind c.come_back.new.self) c.in-Err-come_back.stop
+    (brings-stop {A = Unit {0}} {B = Unit {0}} (RestLeadsTo (world_of told c.args.setup.now) behind c.files.self) c.come_back.new.self (λ done. RestLeadsTo (world_of told c.args.setup.now) behind c.come_back.new.self) (λ done. ComesTo (world_of told c.args.setup.now) behind c.come_back.new.self) c.in-Err-come_back.stop
     (subst (λ (r : Result (Unit {0}) Stop). Brings (RestLeadsTo (world_of told c.args.setup.now) behind c.files.self) c.come_back.new.self (λ done. RestLeadsTo (world_of told c.args.setup.now) behind c.come_back.new.self) r) c.in-Err-come_back.is
     (c.come_back.ensures.brings (world_of told c.args.setup.now) behind)))
 

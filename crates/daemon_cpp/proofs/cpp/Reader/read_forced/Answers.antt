@@ -13,12 +13,12 @@ returns-in-Err-clause-brings g c = λ told is source.
     let rest : List Text = drop (c.loop-name.name-index + 1) forced in
     let item : c.name-item.result ≡ get_or forced c.loop-name.name-index c.name-item.result = rw c.forced-name-items.ensures at c.name-item.is in
     let below : c.loop-name.name-index < length forced = rw c.forced-name-items.ensures at c.loop-name-test.true in
-    let brings = subst (λ (r : Result (Unit {0}) Stop). Brings (ComesTo (source_behind (world_of told c.args.job.now.setup) source (c.as_slice.result.now ∷ rest)) c.loop-name.self) c.read_named.new.self (λ done. ComesTo (source_behind (world_of told c.args.job.now.setup) source rest) c.read_named.new.self) r) c.in-Err.is
-    (subst (λ (setup : SetupData). Brings (ComesTo (source_behind (world_of told setup) source (c.as_slice.result.now ∷ rest)) c.loop-name.self) c.read_named.new.self (λ (done : Unit {0}). ComesTo (source_behind (world_of told setup) source rest) c.read_named.new.self) c.read_named.result) c.setup.ensures
+    let brings = subst (λ (r : Result (Unit {0}) Stop). Brings (ComesTo (world_of told c.args.job.now.setup) (source_behind (world_of told c.args.job.now.setup) source (c.as_slice.result.now ∷ rest)) c.loop-name.self) c.read_named.new.self (λ done. ComesTo (world_of told c.args.job.now.setup) (source_behind (world_of told c.args.job.now.setup) source rest) c.read_named.new.self) r) c.in-Err.is
+    (subst (λ (setup : SetupData). Brings (ComesTo (world_of told setup) (source_behind (world_of told setup) source (c.as_slice.result.now ∷ rest)) c.loop-name.self) c.read_named.new.self (λ (done : Unit {0}). ComesTo (world_of told setup) (source_behind (world_of told setup) source rest) c.read_named.new.self) c.read_named.result) c.setup.ensures
     (c.read_named.ensures.brings told (c.loop-name.invariant.same ∙ is) source rest)) in
-    brings-before (ComesTo (source_behind (world_of told c.args.job.now.setup) source forced) c.args.self.now) (ComesTo (source_behind (world_of told c.args.job.now.setup) source (c.as_slice.result.now ∷ rest)) c.loop-name.self) c.read_named.new.self (λ (done : Unit {0}). ComesTo (source_behind (world_of told c.args.job.now.setup) source []) c.read_named.new.self) (Err c.in-Err.stop)
+    brings-before (ComesTo (world_of told c.args.job.now.setup) (source_behind (world_of told c.args.job.now.setup) source forced) c.args.self.now) (ComesTo (world_of told c.args.job.now.setup) (source_behind (world_of told c.args.job.now.setup) source (c.as_slice.result.now ∷ rest)) c.loop-name.self) c.read_named.new.self (λ (done : Unit {0}). ComesTo (world_of told c.args.job.now.setup) (source_behind (world_of told c.args.job.now.setup) source []) c.read_named.new.self) (Err c.in-Err.stop)
     (λ whole comes. next-name (world_of told c.args.job.now.setup) source forced c.loop-name.name-index c.name-item.result c.as_slice.result.now c.loop-name.self whole below item c.as_slice.ensures (c.loop-name.invariant.comes told is source whole comes))
-    (brings-stop {A = Unit {0}} {B = Unit {0}} (ComesTo (source_behind (world_of told c.args.job.now.setup) source (c.as_slice.result.now ∷ rest)) c.loop-name.self) c.read_named.new.self (λ done. ComesTo (source_behind (world_of told c.args.job.now.setup) source rest) c.read_named.new.self) (λ done. ComesTo (source_behind (world_of told c.args.job.now.setup) source []) c.read_named.new.self) c.in-Err.stop brings)
+    (brings-stop {A = Unit {0}} {B = Unit {0}} (ComesTo (world_of told c.args.job.now.setup) (source_behind (world_of told c.args.job.now.setup) source (c.as_slice.result.now ∷ rest)) c.loop-name.self) c.read_named.new.self (λ done. ComesTo (world_of told c.args.job.now.setup) (source_behind (world_of told c.args.job.now.setup) source rest) c.read_named.new.self) (λ done. ComesTo (world_of told c.args.job.now.setup) (source_behind (world_of told c.args.job.now.setup) source []) c.read_named.new.self) c.in-Err.stop brings)
 
 pub loop-name-preserved : goal.loop-name-preserved
 loop-name-preserved g c =
@@ -31,8 +31,8 @@ loop-name-preserved g c =
           let rest : List Text = drop (c.loop-name.name-index + 1) forced in
           let item : c.name-item.result ≡ get_or forced c.loop-name.name-index c.name-item.result = rw c.forced-name-items.ensures at c.name-item.is in
           let below : c.loop-name.name-index < length forced = rw c.forced-name-items.ensures at c.loop-name-test.true in
-          let brings = subst (λ (r : Result (Unit {0}) Stop). Brings (ComesTo (source_behind (world_of told c.args.job.now.setup) source (c.as_slice.result.now ∷ rest)) c.loop-name.self) c.read_named.new.self (λ done. ComesTo (source_behind (world_of told c.args.job.now.setup) source rest) c.read_named.new.self) r) c.in-Ok.is
-          (subst (λ (setup : SetupData). Brings (ComesTo (source_behind (world_of told setup) source (c.as_slice.result.now ∷ rest)) c.loop-name.self) c.read_named.new.self (λ (done : Unit {0}). ComesTo (source_behind (world_of told setup) source rest) c.read_named.new.self) c.read_named.result) c.setup.ensures
+          let brings = subst (λ (r : Result (Unit {0}) Stop). Brings (ComesTo (world_of told c.args.job.now.setup) (source_behind (world_of told c.args.job.now.setup) source (c.as_slice.result.now ∷ rest)) c.loop-name.self) c.read_named.new.self (λ done. ComesTo (world_of told c.args.job.now.setup) (source_behind (world_of told c.args.job.now.setup) source rest) c.read_named.new.self) r) c.in-Ok.is
+          (subst (λ (setup : SetupData). Brings (ComesTo (world_of told setup) (source_behind (world_of told setup) source (c.as_slice.result.now ∷ rest)) c.loop-name.self) c.read_named.new.self (λ (done : Unit {0}). ComesTo (world_of told setup) (source_behind (world_of told setup) source rest) c.read_named.new.self) c.read_named.result) c.setup.ensures
           (c.read_named.ensures.brings told (c.loop-name.invariant.same ∙ is) source rest)) in
           brings whole (next-name (world_of told c.args.job.now.setup) source forced c.loop-name.name-index c.name-item.result c.as_slice.result.now c.loop-name.self whole below item c.as_slice.ensures (c.loop-name.invariant.comes told is source whole comes));
     }

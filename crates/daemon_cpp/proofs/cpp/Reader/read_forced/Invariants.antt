@@ -12,5 +12,5 @@ invariant-loop-name g l =
       same : g.T.Tree.told l.tree ≡ g.T.Tree.told l.fn.tree;
       later : g.T.Tree.faults l.fn.tree ≤ g.T.Tree.faults l.tree;
       read : AllRead l.self;
-      comes : (told : FileTree) → g.T.Tree.told l.fn.tree ≡ Some told → (source : Hit) (whole : Told) → ComesTo (source_behind (world_of told l.fn.job.setup) source l.fn.job.forced) l.fn.self whole → ComesTo (source_behind (world_of told l.fn.job.setup) source (drop l.name-index l.fn.job.forced)) l.self whole;
+      comes : (told : FileTree) → g.T.Tree.told l.fn.tree ≡ Some told → (source : Hit) (whole : Told) → ComesTo (world_of told l.fn.job.setup) (source_behind (world_of told l.fn.job.setup) source l.fn.job.forced) l.fn.self whole → ComesTo (world_of told l.fn.job.setup) (source_behind (world_of told l.fn.job.setup) source (drop l.name-index l.fn.job.forced)) l.self whole;
     }

@@ -45,7 +45,7 @@ returns-in-Ok-Renumber-clause-brings g c = λ told is behind.
     let after : Reader = record mid { kept = c.renumber.new.kept; file = c.renumber.new.file } in
     brings-then (RestLeadsTo (world_of told c.args.setup.now) behind c.args.self.now) mid after (λ move w. MoveLeadsTo (world_of told c.args.setup.now) behind mid move w) (λ done. RestLeadsTo (world_of told c.args.setup.now) behind after) (Renumber c.in-Ok-Renumber.at c.in-Ok-Renumber.new) c.renumber.result
     brings
-    (turns-brings (world_of told c.args.setup.now) behind mid after (here_of c.args.self.now.file) (λ state. line_set c.in-Ok-Renumber.at c.in-Ok-Renumber.new state) c.renumber.result refl refl
+    (turns-brings (world_of told c.args.setup.now) behind mid after (here_of c.args.self.now.file) (λ state. line_set c.in-Ok-Renumber.at c.in-Ok-Renumber.new state) c.renumber.result refl refl refl
     (ap (λ (n : ℕ). drop n c.renumber.new.file.pieces) c.renumber.ensures.rest.1 ∙ ap (drop (c.args.self.now.file.next + 1)) c.renumber.ensures.rest.0) (rw c.into_inner-in-Ok-Renumber.ensures at c.renumber.ensures.turns))
 
 pub returns-in-Err-clause-brings : goal.returns-in-Err-clause-brings
