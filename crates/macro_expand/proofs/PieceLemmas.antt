@@ -1,5 +1,5 @@
 -- How a replacement's pieces are made, part by part, and joined.
-use Rattle.std.proofs.Common.{◌≡◌, ℕ, Vec, Global, IfOk, IfErr, ◌+◌, ◌<◌, ◌≤◌, List, [], ◌∷◌, ◌++◌, map, length, get_or, drop, ap, sym, ◌∙◌, subst, Option, Some, None, Result, Ok, Err, append-nil, drop_of_length-le, ◌&&◌, ◌||◌, bytes_eq, Bool, true, false, refl, if◌then◌else◌}
+use Rattle.std.proofs.Common.{◌≡◌, ℕ, Vec, Global, IfOk, IfErr, ◌+◌, ◌<◌, ◌≤◌, List, [], ◌∷◌, ◌++◌, map, length, get_or, drop, ap, sym, ◌∙◌, subst, Option, Some, None, Result, Ok, Err, append-nil, drop_of_length-le, ◌&&◌, ◌||◌, bytes_eq, Bool, true, false, refl, if◌then◌else◌, arith}
 use Rattle.std.specs.List.{list_any}
 use Rattle.std.proofs.lemmas.Bool.{true≢false}
 use mathlib.Core.Path.{fun_ext}
@@ -223,3 +223,15 @@ pub written_is : (t : Kept) (parts : List BodyPart) (variable : Option ℕ) (wri
     call_replaced_by t parts variable kept (marked_of close') expanded ≡ call_replaced_by t parts variable written (marked_of close) expanded
 written_is t parts variable written kept expanded close close' keeps same =
     ap (λ c. call_replaced_by t parts variable kept (marked_of c) expanded) same ∙ keeps t variable (marked_of close) expanded
+
+-- An empty replacement list is replaced by nothing.
+
+pub object-empty : (t : Marked) (body : List Token) → length body ≡ 0 → object_replacement t body ≡ Ok []
+unfolding object_replacement replacement pieces_of joins_made
+object-empty t [] none = refl
+object-empty t (b ∷ bs) none = absurd (omega (arith, none))
+
+pub call-empty : (t : Kept) (parts : List BodyPart) (variable : Option ℕ) (written : List (List Marked)) (close : Marked) (expanded : List (List Marked)) → parts ≡ [] →
+    call_replaced_by t parts variable written close expanded ≡ Ok []
+unfolding call_replacement replacement pieces_of joins_made
+call-empty t parts variable written close expanded none = rw none refl

@@ -35,7 +35,7 @@ pub(crate) struct MacroCall<'d> {
 pub(crate) enum ReadName<'d> {
     // itself: it has no definition, or it is a function-like macro's and no `(` follows
     Itself,
-    // the tokens of an object-like macro's replacement, which has a `##`
+    // the tokens of an object-like macro's replacement, which has a `##` or is empty
     Object(Vec<Marked<'d>>),
     // the tokens of another one's replacement list, as they are lent there, and the names that they hide
     Lent(HideSet, Run<'d>),
@@ -87,11 +87,16 @@ fn read_object<'d>(
     ensures stamped { (sets : Stamps) (next : ℕ) → IfOk result (λ name. NameStamped sets next stamp name) }
     ensures err { IfErr result (λ e. Reports e (object_replacement (marked_of t.now) d.now.body)) }
 {
+    let body = d.body();
+    // An empty list has no token to hide the name from.
+    if body.len() == 0 {
+        return Ok(ReadName::Object(Vec::new(alloc)));
+    }
     let hidden = hidden_by_name(alloc, t)?;
-    let Some(body) = with_pasting(d) else {
-        return Ok(ReadName::Lent(hidden, d.body()));
+    let Some(pasted) = with_pasting(d) else {
+        return Ok(ReadName::Lent(hidden, body));
     };
-    let made = joined_tokens(alloc, t, &hidden, stamp, body)?;
+    let made = joined_tokens(alloc, t, &hidden, stamp, pasted)?;
     Ok(ReadName::Object(made))
 }
 

@@ -14,6 +14,9 @@ use macro_defs::Run;
 use pp_tokens::{TokenCow, TokenRef};
 use std::alloc::{AllocError, Global};
 
+// How many tokens wait at a time for most text.
+const FEW: usize = 8;
+
 // The stamp of the macro's name where that is known to hide nothing that the replacement doesn't, else 0, and the stamp of what the
 // replacement hides.
 #[derive(Clone, Copy, Drop)]
@@ -220,6 +223,16 @@ fn lend_each<'t>(
     Ok(())
 }
 
+// Takes room for a few tokens where there is none yet: by itself a list has room for 4, and grows where a replacement has more.
+fn make_room(pending: &mut Vec<Marked>) -> Result<(), AllocError>
+    ensures { OnOk result (pending.new.items ≡ pending.old.items) }
+{
+    if pending.capacity() == 0 {
+        pending.reserve(FEW)?;
+    }
+    Ok(())
+}
+
 // The same of a whole list, with the space of the name `t`.
 pub(crate) fn lend_before<'t>(
     pending: &mut Vec<Marked<'t>>,
@@ -233,6 +246,7 @@ pub(crate) fn lend_before<'t>(
     let Some(first) = body.next() else {
         return Ok(());
     };
+    make_room(pending)?;
     lend_each(pending, t.line(), hidden, stamp, body)?;
     pending.push(lent_first(t, hidden, stamp, first)?)?;
     Ok(())

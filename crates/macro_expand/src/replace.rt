@@ -44,7 +44,7 @@ pub(crate) enum Parts<'d> {
 }
 
 impl<'d> Parts<'d> {
-    ghost use Rattle.std.specs.Prelude.{◌≡◌, ◌<◌, ℕ, false, None, length, get_or, IfOk};
+    ghost use Rattle.std.specs.Prelude.{◌≡◌, ◌<◌, [], ℕ, true, false, None, length, get_or, IfOk};
     ghost use Rattle.std.specs.List.{list_any};
     ghost use Rattle.macro_defs.specs.declared.definition.Shape.TheVariants.{Object};
     ghost use Rattle.macro_defs.specs.Arguments.{parameters_in};
@@ -73,6 +73,16 @@ impl<'d> Parts<'d> {
         match self {
             Parts::Listed(parts) => standing_alone(alloc, parts.as_slice(), count),
             Parts::Tokens(parts) => parts.standing_alone(alloc, count),
+        }
+    }
+
+    // Whether the list is empty.
+    fn are_none(&self) -> bool
+        ensures { result ≡ true → parts_told self.now ≡ [] }
+    {
+        match self {
+            Parts::Listed(parts) => parts.is_empty(),
+            Parts::Tokens(parts) => parts.are_none(),
         }
     }
 
@@ -426,6 +436,10 @@ pub(crate) fn call_tokens<'d>(
     ensures err { IfErr result (λ e. Reports e (call_replaced_by t.now (parts_told parts.now) variable
         (lists_of call.now.written.items) (marked_of call.now.close) (lists_of expanded.now))) }
 {
+    // As in `read_object`.
+    if parts.are_none() {
+        return Ok(Vec::new(alloc));
+    }
     let hidden = hidden_by_call(alloc, t, &call.close)?;
     let arguments = Arguments {
         written: &call.written,

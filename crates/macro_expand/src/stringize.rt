@@ -10,6 +10,9 @@ use base_types::Bytes;
 use pp_tokens::{Kind, Token, TokenCow};
 use std::alloc::{AllocError, Global};
 
+// Room for the text of most arguments.
+const SHORT: usize = 32;
+
 // Whether a byte has a `\` before it in a literal.
 fn needs_escape(b: u8) -> bool
     ensures { result ≡ ((b == ascii.backslash) || (b == ascii.quote)) }
@@ -81,7 +84,7 @@ fn put_tokens(text: &mut Vec<u8>, tokens: &[Marked]) -> Result<(), AllocError>
 fn literal_of(alloc: Global, tokens: &[Marked]) -> Result<Vec<u8>, AllocError>
     ensures { IfOk result (λ text. text.items ≡ ascii.quote ∷ spellings true (map marked_of tokens.now) ++ ascii.quote ∷ []) }
 {
-    let mut text = Vec::new(alloc);
+    let mut text = Vec::with_capacity(alloc, SHORT)?;
     text.push(b'"')?;
     put_tokens(&mut text, tokens)?;
     text.push(b'"')?;

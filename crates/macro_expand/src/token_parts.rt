@@ -1,5 +1,5 @@
 // A function-like macro's replacement list without `#` and `##`: each token is a part of its own (ISO C 6.10.3.1).
-ghost use Rattle.std.specs.Prelude.{◌≡◌, ◌<◌, ◌++◌, ℕ, false, None, map, length, get_or, IfOk, OnOk};
+ghost use Rattle.std.specs.Prelude.{◌≡◌, ◌<◌, ◌++◌, [], ℕ, true, false, None, map, length, get_or, IfOk, OnOk};
 ghost use Rattle.macro_defs.specs.MacroDefinition.{without_line, has_operators};
 ghost use Rattle.macro_defs.specs.declared.definition.Shape.TheVariants.{Object};
 ghost use Rattle.macro_defs.specs.Arguments.{parameters_in};
@@ -36,6 +36,13 @@ impl<'d> TokenParts<'d> {
             definition: d,
             tokens,
         }
+    }
+
+    // Whether the list is empty.
+    pub(crate) fn are_none(&self) -> bool
+        ensures { result ≡ true → token_parts self.now ≡ [] }
+    {
+        self.tokens.is_empty()
     }
 
     // For each argument, whether a token names its parameter, so that it is expanded by itself.

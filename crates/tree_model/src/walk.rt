@@ -28,6 +28,9 @@ use base_types::limits::{LINK_LIMIT, PATH_LIMIT};
 use base_types::{Bytes, List};
 use std::alloc::{AllocError, Global};
 
+// Room for the nodes of most walks.
+const NODES: usize = 8;
+
 /// How a text located a file.
 #[derive(Drop)]
 pub struct Located {
@@ -159,7 +162,7 @@ fn begin(alloc: Global, dir: &CanonPath, text: &[u8]) -> Result<CanonPath, Alloc
 fn first_nodes(alloc: Global, dir: &CanonPath, text: &[u8]) -> Result<List<CanonPath>, AllocError>
     ensures { IfOk result (λ nodes. nodes ≡ walks.first_nodes dir.now text.now) }
 {
-    let mut nodes = List::new(alloc);
+    let mut nodes = List::of(Vec::with_capacity(alloc, NODES)?);
     nodes.push(dir.copy(alloc)?)?;
     if begins_at_root(text) {
         nodes.push(CanonPath::root(alloc)?)?;
@@ -388,7 +391,7 @@ fn walk_front<T: Tree>(
     ensures never_large { IsErrOf result TreeError.Large → ⊥ }
     ensures no_read { T.reads tree.new ≡ T.reads tree.old }
 {
-    let mut nodes = List::new(alloc);
+    let mut nodes = List::of(Vec::with_capacity(alloc, NODES)?);
     let root = CanonPath::root(alloc)?;
     let stop = walk_on(alloc, tree, root, LINK_LIMIT, Some(text), &mut nodes)?;
     let shared = SharedNodes::of(alloc, nodes)?;

@@ -3,7 +3,7 @@ use Rattle.macro_expand.specs.Replacement.{replacement}
 use Rattle.macro_expand.specs.Sets.{names_in}
 use Rattle.macro_expand.specs.Seen.{marked_of, lists_of, call_replaced_by}
 use Rattle.macro_expand.specs.parts.Parts.{parts_told}
-use Rattle.macro_expand.proofs.PieceLemmas.{call-same, ok-same, err-same}
+use Rattle.macro_expand.proofs.PieceLemmas.{call-empty, call-same, ok-same, err-same}
 use Rattle.macro_expand.proofs.StampLaws.{head-within}
 use Rattle.macro_expand.proofs.replace.call_tokens.Goals as goal
 use Rattle.macro_expand.proofs.replace.call_tokens.Goals.{then-call-t, else-call-t}
@@ -44,3 +44,9 @@ replaced-requires-clause-head c some =
       )
       | else-call-t w ↦ absurd (some w.stamping-is)
     ]
+
+pub returns-then-are_none-clause-ok : goal.returns-then-are_none-clause-ok
+returns-then-are_none-clause-ok c =
+    rw c.new.ensures.items
+    (call-empty c.args.t.now (parts_told c.args.parts.now) c.args.variable (lists_of c.args.call.now.written.items) (marked_of c.args.call.now.close)
+    (lists_of c.args.expanded.now) (c.are_none.ensures c.if-are_none.true))
