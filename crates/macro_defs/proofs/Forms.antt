@@ -1,17 +1,19 @@
 -- What the tokens behind a name define.
 use Rattle.std.proofs.Common.{◌≡◌, ℕ, zero, suc, ◌+◌, refl, ◌≤◌, Bool, true, false, List, [], ◌∷◌, ◌++◌, length, ◌-◌, take, drop, map, sym, ap, ◌∙◌, subst, if◌then◌else◌, append_assoc, length-append, arith}
-use Rattle.std.specs.Prelude.{Result, Ok, Err, IfOk, IfErr, ◌||◌, ◌&&◌, not}
+use Rattle.std.specs.Prelude.{Some, Result, Ok, Err, IfOk, IfErr, ◌||◌, ◌&&◌, not}
 use Rattle.std.specs.List.{list_any}
-use Rattle.std.proofs.lemmas.List.{take_rest}
+use Rattle.std.proofs.lemmas.List.{take_rest, drop-drop}
 use Rattle.std.proofs.Math.Seq.{drop-append_seam}
 use Rattle.pp_tokens.specs.declared.Token.{Token}
-use Rattle.pp_tokens.specs.Marks.{is_open, is_close, is_pasting}
+use Rattle.pp_tokens.specs.Marks.{is_open, is_close, is_hash, is_pasting}
 use Rattle.macro_defs.specs.declared.definition.DefineError.{DefineError}
-use Rattle.macro_defs.specs.declared.definition.Shape.TheVariants.{Object}
+use Rattle.macro_defs.specs.declared.definition.Shape.TheVariants.{Object, Function}
 use Rattle.macro_defs.specs.declared.definition.DefineError.TheVariants.{Name, Params}
-use Rattle.macro_defs.specs.MacroDefinition.{MacroDefinition, without_line}
-use Rattle.macro_defs.specs.Defining.{Named, RefusesDefinition, IsParted, names_macro, after_name, enclosed_of, function_of, parameters_of, up_to_parenthesis, defined_by, begins_with_pasting, ends_with_pasting, with_body, definition_from}
+use Rattle.macro_defs.specs.MacroDefinition.{MacroDefinition, without_line, is_operator}
+use Rattle.macro_defs.specs.Defining.{Named, RefusesDefinition, IsParted, names_macro, after_name, enclosed_of, function_of, parameters_of, up_to_parenthesis, defined_by, begins_with_pasting, ends_with_pasting, with_body, definition_from, hashes_parameters}
+use Rattle.macro_defs.specs.parts.Kept.{IsPlain, ReadsParameters}
 use Rattle.macro_defs.proofs.Pieces.{closed, unclosed}
+use Rattle.macro_defs.proofs.Places.{operator_unlined}
 
 -- a definition that is found, whatever the name
 abbrev pub Found : Result MacroDefinition DefineError → (List ℕ → Result Named DefineError) → Type 0
@@ -158,3 +160,72 @@ no_parameters rest behind t begins is told none name =
 
 pub no_tokens : (rest : List Token) → rest ≡ [] → (name : List ℕ) → after_name name rest ≡ with_body name Object true rest
 no_tokens rest none name = rw none refl
+
+-- Function-like macros that share their file.
+
+-- a list without `#` and `##` has no `##`
+unpasted : (ts : List Token) → list_any is_operator ts ≡ false → list_any is_pasting ts ≡ false
+unpasted [] none = refl
+unpasted (t ∷ ts) none =
+    rw (neither_second (is_hash t) (is_pasting t) (neither_first (is_operator t) (list_any is_operator ts) none))
+    (unpasted ts (neither_second (is_operator t) (list_any is_operator ts) none))
+
+-- and a parameter follows each `#`
+hashes_none : (names : List (List ℕ)) (ts : List Token) → list_any is_operator ts ≡ false → hashes_parameters names ts ≡ true
+unfolding hashes_parameters
+hashes_none names [] none = refl
+hashes_none names (t ∷ ts) none =
+    rw (neither_first (is_hash t) (is_pasting t) (neither_first (is_operator t) (list_any is_operator ts) none))
+    (hashes_none names ts (neither_second (is_operator t) (list_any is_operator ts) none))
+
+-- such a list may be shared
+pub plain_function : (names : List (List ℕ)) (variadic : Bool) (ts within : List Token) → list_any is_operator ts ≡ false → within ≡ ts → IsPlain (Function names variadic) within
+plain_function names variadic ts within none same = rw same (sym (operator_unlined ts) ∙ none, pasting_unlined ts (unpasted ts none))
+
+function_body : (name : List ℕ) (names : List (List ℕ)) (variadic : Bool) (ts : List Token) → list_any is_operator ts ≡ false
+    → function_of name (Some (record { names = names; variadic = variadic })) ts ≡ Ok (record { name = name; definition = definition_from (Function names variadic) ts })
+function_body name names variadic ts none = rw (not_first ts (unpasted ts none), not_last ts (unpasted ts none), hashes_none names ts none) refl
+
+-- a name that may name a macro, before parameters and such a list
+pub function_macro : (rest tokens behind within : List Token) (t : Token) (names : List (List ℕ)) (variadic : Bool) (count : ℕ) (d : MacroDefinition) → rest ≡ t ∷ tokens → names_macro t ≡ true
+    → ReadsParameters tokens behind names variadic count → list_any is_operator behind ≡ false
+    → within ≡ behind → d ≡ definition_from (Function names variadic) within → defined_by rest ≡ Ok (record { name = t.text; definition = d })
+function_macro rest tokens behind within t names variadic count d is some reads none same made =
+    right_macro rest tokens t d is some
+    (λ name. reads.0 name ∙ function_body name names variadic behind none ∙ ap (λ ts. Ok (record { name = name; definition = definition_from (Function names variadic) ts })) (sym same)
+    ∙ ap (λ m. Ok (record { name = name; definition = m })) (sym made))
+
+-- a `(`, parameters and a `)`
+pub reads_parameters : (tokens mid behind within : List Token) (first : Token) (names : List (List ℕ)) (variadic : Bool) (count : ℕ) → tokens ≡ first ∷ mid → (is_open first && not first.space) ≡ true
+    → IsParted is_close mid within behind → parameters_of within ≡ Some (record { names = names; variadic = variadic }) → count ≡ length within + 2
+    → ReadsParameters tokens behind names variadic count
+reads_parameters tokens mid behind within first names variadic count is opens parted listed counted =
+    let front = first ∷ within ++ parted.mark ∷ [] in
+    let whole : tokens ≡ front ++ behind = is ∙ ap (λ ts. first ∷ ts) (parted.whole ∙ sym (append_assoc within (parted.mark ∷ []) behind)) in
+    let long : count ≡ length front = omega (arith, counted, length-append within (parted.mark ∷ [])) in (
+      (λ name. ap (after_name name) is ∙ ap (λ (b : Bool). if b then enclosed_of name (up_to_parenthesis mid) else with_body name Object true (first ∷ mid)) opens
+          ∙ ap (enclosed_of name) (closed mid within behind parted) ∙ ap (λ p. function_of name p behind) listed),
+      sym (ap (λ n. drop n tokens) long ∙ ap (drop (length front)) whole ∙ drop-append_seam front behind),
+    )
+
+take_nil : {A : Type 0} (n : ℕ) → take {A = A} n [] ≡ []
+take_nil zero = refl
+take_nil (suc n) = refl
+
+drop_of_take : {A : Type 0} (xs : List A) (n m : ℕ) → drop n (take m xs) ≡ take (m - n) (drop n xs)
+drop_of_take xs zero m = let same : m - 0 ≡ m = omega arith in rw same refl
+drop_of_take [] (suc n) zero = let none : 0 - suc n ≡ 0 = omega arith in rw none refl
+drop_of_take [] (suc n) (suc m) = sym (take_nil (suc m - suc n))
+drop_of_take (x ∷ xs) (suc n) zero = let none : 0 - suc n ≡ 0 = omega arith in rw none refl
+drop_of_take (x ∷ xs) (suc n) (suc m) = let less : suc m - suc n ≡ m - n = omega arith in rw less (drop_of_take xs n m)
+
+-- the tokens behind the first so many of those between two numbers
+pub behind_many : (xs : List Token) (from end start stop count : ℕ) → start ≡ from + count → stop ≡ end → take (stop - start) (drop start xs) ≡ drop count (take (end - from) (drop from xs))
+behind_many xs from end start stop count first last =
+    let less : stop - start ≡ end - from - count = omega (arith, first, last) in
+    ap (λ n. take n (drop start xs)) less ∙ ap (λ n. take (end - from - count) (drop n xs)) first ∙ ap (take (end - from - count)) (sym (drop-drop count from xs))
+    ∙ sym (drop_of_take (drop from xs) count (end - from))
+
+pub drop_behind : {A : Type 0} (x : A) (xs : List A) (n : ℕ) → 1 ≤ n → drop n (x ∷ xs) ≡ drop (n - 1) xs
+drop_behind x xs zero some = absurd (omega (arith, some))
+drop_behind x xs (suc n) some = let less : suc n - 1 ≡ n = omega arith in rw less refl

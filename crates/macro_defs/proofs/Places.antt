@@ -86,11 +86,11 @@ module _ (shape : Shape) (body : List Token) (named : List (Option ℕ)) (d : Ma
   kept_here = ap (λ ns. option_flatten (slice_get ns place)) kept ∙ kept_at (parameters_in shape) body place ∙ ap (λ e. parameter_at e place) view
 
 -- the lines of tokens don't tell whether one is a `#` or a `##`
-operator_unlined : (body : List Token) → list_any is_operator body ≡ list_any is_operator (map without_line body)
+pub operator_unlined : (body : List Token) → list_any is_operator body ≡ list_any is_operator (map without_line body)
 operator_unlined [] = refl
 operator_unlined (t ∷ body) = ap (λ b. is_operator t || b) (operator_unlined body)
 
-operators_unlined : (shape : Shape) (body : List Token) → has_operators shape body ≡ has_operators shape (map without_line body)
+pub operators_unlined : (shape : Shape) (body : List Token) → has_operators shape body ≡ has_operators shape (map without_line body)
 operators_unlined Object body = refl
 operators_unlined (Function params variadic) body = operator_unlined body
 

@@ -71,6 +71,7 @@ impl Definition {
     ghost use Rattle.macro_defs.specs.Runs.{run_tokens};
     ghost use Rattle.macro_defs.specs.declared.definition.Shape.TheVariants.{Object};
     ghost use Rattle.macro_defs.specs.parts.Kept.{IsPlain, SharesPlain};
+    ghost use Rattle.macro_defs.specs.parts.Stored.{numbers_kept};
 
     /// A definition of this form with this replacement list. Any list is taken: of one that `read_define` refuses, expansion leaves
     /// out a `#` that no parameter follows and a `##` that stands first or last (ISO C 6.10.3.2 paragraph 1, 6.10.3.3 paragraph 1).
@@ -114,6 +115,32 @@ impl Definition {
         })
     }
 
+    // The same of a function-like macro with these parameters, of which tokens name these.
+    pub(crate) fn sharing(
+        alloc: Global,
+        params: List<Bytes>,
+        variadic: bool,
+        named: Vec<Option<u32>>,
+        file: &Arc<Lexed, Global>,
+        from: u32,
+        end: u32,
+    ) -> Result<Definition, AllocError>
+        requires plain { IsPlain (Shape.Function params variadic) (take (end - from) (drop from (all_tokens (arc_value file.now)))) }
+        requires named { named.items ≡ numbers_kept params (take (end - from) (drop from (all_tokens (arc_value file.now)))) }
+        ensures { IfOk result (λ d. d ≡ definition_from (Shape.Function params variadic) (take (end - from) (drop from (all_tokens (arc_value file.now))))) }
+    {
+        let body = Body::Shared(Arc::try_clone(file)?, from, end);
+        let function = Function {
+            shape: Shape::Function { params, variadic },
+            named,
+            operators: false,
+        };
+        Ok(Definition {
+            body,
+            function: Some(Box::new(alloc, function)?),
+        })
+    }
+
     /// The names of a function-like macro's parameters, and whether the last is that of the variable argument; None of an object-like
     /// macro.
     #[inline(always)]
@@ -135,7 +162,8 @@ impl Definition {
         Ok(Definition { body, function })
     }
 
-    /// The replacement list. What lines its tokens have is not told. Only that of an object-like macro without `##` is in a file.
+    /// The replacement list. What lines its tokens have is not told. Only one without `##` is in a file, and that of a
+    /// function-like macro only without `#`.
     #[inline(always)]
     pub fn body(&self) -> Run<'_>
         ensures tokens { map without_line (run_tokens result) ≡ self.now.body }

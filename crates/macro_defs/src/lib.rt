@@ -12,6 +12,7 @@ mod reading;
 mod replacement;
 mod run;
 mod sameness;
+mod shared_function;
 mod table;
 
 pub use definition::{DefineError, Definition, Shape};

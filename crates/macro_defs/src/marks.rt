@@ -13,6 +13,14 @@ use pp_tokens::{Token, TokenRef, Tokens};
 pub(crate) fn begins_parameters(token: &Token) -> bool
     ensures { result ≡ (is_open token.now && not token.now.space) }
 {
+    opens_parameters(&token.as_ref())
+}
+
+// The same of a token of a file.
+#[inline(always)]
+pub(crate) fn opens_parameters(token: &TokenRef<'_>) -> bool
+    ensures { result ≡ (is_open (token_seen token.now) && not (token_seen token.now).space) }
+{
     token.is_mark(b"(") && !token.space
 }
 
@@ -42,6 +50,26 @@ pub(crate) fn has_pasting(tokens: Tokens<'_>) -> bool
 {
     for token in tokens {
         if is_pasting(&token) {
+            return true;
+        }
+    }
+    false
+}
+
+// Whether a token is a `#`, or its digraph (ISO C 6.4.6, 6.10.3.2).
+#[inline(always)]
+fn is_hash(token: &TokenRef<'_>) -> bool
+    ensures { result ≡ spec.is_hash (token_seen token.now) }
+{
+    token.is_mark(b"#") || token.is_mark(b"%:")
+}
+
+// Whether there is a `#` or a `##` among tokens of a file.
+pub(crate) fn have_operator(tokens: Tokens<'_>) -> bool
+    ensures { result ≡ list_any is_operator (rest_of tokens.entry) }
+{
+    for token in tokens {
+        if is_hash(&token) || is_pasting(&token) {
             return true;
         }
     }

@@ -1,5 +1,6 @@
 // Which parameter each token of a replacement list names (ISO C 6.10.3.1 paragraph 1).
 ghost use Rattle.std.specs.Prelude.{◌≡◌, ◌<◌, ◌≤◌, ℕ, List, Some, map, length, if◌then◌else◌, position, bytes_eq, IfOk, OnOk, IfSome};
+ghost use Rattle.pp_tokens.specs.Tokens.{token_seen, rest_of};
 ghost use Rattle.macro_defs.specs.Arguments.{argument_named, parameters_in};
 ghost use Rattle.macro_defs.specs.parts.Stored.{number_for_name, number_named, numbers_kept};
 
@@ -7,7 +8,7 @@ use crate::Shape;
 use crate::params::FEW;
 use base_types::Bytes;
 use indexmap::IndexMap;
-use pp_tokens::Token;
+use pp_tokens::{Token, TokenRef, Tokens};
 use std::alloc::{AllocError, Global};
 
 // For each token of a replacement list the number of the parameter that it names; nothing where there are no parameters.
@@ -52,22 +53,53 @@ fn each_compared(
 {
     let mut named = Vec::with_capacity(alloc, body.len())?;
     for token in body {
-        named.push(compared(params, token))?;
+        named.push(compared(params, token.as_ref()))?;
     }
     Ok(named)
 }
 
-fn compared(params: &[Bytes], token: &Token) -> Option<u32>
+fn compared(params: &[Bytes], token: TokenRef<'_>) -> Option<u32>
     requires { length params.now ≤ 8 }
-    ensures { result ≡ argument_named params.now token.now }
+    ensures { result ≡ argument_named params.now (token_seen token.entry) }
 {
     if !token.is_identifier() {
         return None;
     }
-    match first_named(params, token.text.as_slice()) {
+    match first_named(params, token.text) {
         Some(number) => Some(number as u32),
         None => None,
     }
+}
+
+// The same of tokens of a file, for a few parameters.
+pub(crate) fn numbers_ahead(
+    alloc: Global,
+    params: &[Bytes],
+    body: Tokens<'_>,
+) -> Result<Vec<Option<u32>>, AllocError>
+    requires { length params.now ≤ 8 }
+    ensures { IfOk result (λ named. named.items ≡ numbers_kept params.now (rest_of body.entry)) }
+{
+    if params.is_empty() {
+        return Ok(Vec::new(alloc));
+    }
+    each_ahead(alloc, params, body)
+}
+
+fn each_ahead(
+    alloc: Global,
+    params: &[Bytes],
+    body: Tokens<'_>,
+) -> Result<Vec<Option<u32>>, AllocError>
+    requires few { length params.now ≤ 8 }
+    requires some { 0 < length params.now }
+    ensures { IfOk result (λ named. named.items ≡ numbers_kept params.now (rest_of body.entry)) }
+{
+    let mut named = Vec::with_capacity(alloc, body.len())?;
+    for token in body {
+        named.push(compared(params, token))?;
+    }
+    Ok(named)
 }
 
 // The number of the first parameter of this name.

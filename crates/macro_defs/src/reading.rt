@@ -12,6 +12,7 @@ ghost use Rattle.macro_defs.specs.Defining.{defined_by, up_to_parenthesis, Refus
 use crate::marks::{begins_parameters, has_pasting, parted};
 use crate::params::parameters_of;
 use crate::replacement::{hashes_parameters, with_body};
+use crate::shared_function::function_within;
 use crate::{DefineError, Definition, Shape};
 use base_types::Bytes;
 use pp_tokens::{Lexed, Token, TokenRef, Tokens};
@@ -56,8 +57,9 @@ pub fn read_define(alloc: Global, rest: Tokens<'_>) -> Result<(Bytes, Definition
     Ok((Bytes::copy_of(alloc, name.text)?, definition))
 }
 
-/// The same of the tokens of a file from one number up to another, as `Lexed::tokens` counts them. An object-like macro whose replacement
-/// list has no `##` shares the file, and no token is copied for it.
+/// The same of the tokens of a file from one number up to another, as `Lexed::tokens` counts them. Most macros share the file, and no token
+/// of their replacement lists is copied: object-like ones without `##`, and function-like ones without `#` and `##` that have 8 parameters at
+/// most.
 pub fn read_shared(
     alloc: Global,
     file: &Arc<Lexed, Global>,
@@ -67,10 +69,13 @@ pub fn read_shared(
     ensures ok { IfOk result (λ d. defined_by (take (end - from) (drop from (all_tokens (arc_value file.now)))) ≡ Ok (record { name = d.0; definition = d.1 })) }
     ensures err { IfErr result (λ e. RefusesDefinition e (defined_by (take (end - from) (drop from (all_tokens (arc_value file.now)))))) }
 {
-    match plain_within(alloc, file, from, end)? {
-        Some(named) => Ok(named),
-        None => read_define(alloc, file.tokens(from, end)),
+    if let Some(named) = plain_within(alloc, file, from, end)? {
+        return Ok(named);
     }
+    if let Some(named) = function_within(alloc, file, from, end)? {
+        return Ok(named);
+    }
+    read_define(alloc, file.tokens(from, end))
 }
 
 // The name and the definition of an object-like macro without `##`, where the tokens from one number up to another give one.
@@ -83,7 +88,7 @@ fn plain_within(
 ) -> Result<Option<(Bytes, Definition)>, AllocError>
     ensures { IfOk result (λ found. IfSome found (λ d. defined_by (take (end - from) (drop from (all_tokens (arc_value file.now)))) ≡ Ok (record { name = d.0; definition = d.1 }))) }
 {
-    let Some((start, stop)) = numbers_of(from, end) else {
+    let Some((start, stop)) = numbers_behind(from, 1, end) else {
         return Ok(None);
     };
     let mut behind = file.tokens(from, end);
@@ -97,12 +102,12 @@ fn plain_within(
     Ok(Some((Bytes::copy_of(alloc, name.text)?, definition)))
 }
 
-// The numbers of the token behind one and of the end, where they aren't too large.
+// The numbers of the token behind so many and of the end, where they aren't too large.
 #[inline(always)]
-fn numbers_of(from: usize, end: usize) -> Option<(u32, u32)>
-    ensures { IfSome result (λ numbers. (numbers.0 ≡ from + 1) × (numbers.1 ≡ end)) }
+pub(crate) fn numbers_behind(from: usize, count: usize, end: usize) -> Option<(u32, u32)>
+    ensures { IfSome result (λ numbers. (numbers.0 ≡ from + count) × (numbers.1 ≡ end)) }
 {
-    let Ok(start) = u32::try_from(from.checked_add(1)?) else {
+    let Ok(start) = u32::try_from(from.checked_add(count)?) else {
         return None;
     };
     let Ok(stop) = u32::try_from(end) else {

@@ -9,7 +9,6 @@ use Rattle.macro_defs.specs.declared.definition.Shape.{Shape}
 use Rattle.macro_defs.specs.declared.definition.Shape.TheVariants.{Object, Function}
 use Rattle.macro_defs.specs.MacroDefinition.{MacroDefinition, without_line, is_operator, has_operators}
 use Rattle.macro_defs.specs.Arguments.{argument_named, parameters_in, parameter_at}
-use Rattle.macro_defs.proofs.Fronts.{front_at}
 use Rattle.macro_expand.specs.Replacement.{Marked, Arguments, BodyPart, parts_after, one_joins, body_parts, is_join, first_body_part, is_alone, stands_alone}
 use Rattle.macro_expand.specs.parts.Parts.{operand_part, takes_written, joins, parts_from, is_named, MarksNamed}
 use Rattle.macro_expand.specs.parts.Pieces.{tokens_of_part, tokens_of_parts}
@@ -135,19 +134,20 @@ module _ (count : ℕ) (d : MacroDefinition) (tokens : List Token) (place : ℕ)
       ∙ keeps i below
 
 -- The tokens that are made.
-module _ (args : Arguments) (d : MacroDefinition) (tokens : List Token) (place : ℕ) (whole : List Marked) where
-  pub made-turn : (out next : List Marked) (t : Token) → place < length tokens → t ≡ get_or tokens place t →
-      next ≡ out ++ tokens_of_part args (operand_part None (without_line t) (parameter_at d place)) →
-      out ++ tokens_of_parts args (parts_from d place (map without_line (drop place tokens))) ≡ whole →
-      next ++ tokens_of_parts args (parts_from d (place + 1) (map without_line (drop (place + 1) tokens))) ≡ whole
-  made-turn out next t here is made keeps =
-      grows out next (tokens_of_part args (operand_part None (without_line t) (parameter_at d place)))
-      (tokens_of_parts args (parts_from d place (map without_line (drop place tokens))))
-      (tokens_of_parts args (parts_from d (place + 1) (map without_line (drop (place + 1) tokens)))) whole made
-      (ap (λ ts. tokens_of_parts args (parts_from d place (map without_line ts))) (front_at tokens place t here is)) keeps
 
-  pub made-done : (out : List Marked) → length tokens ≤ place →
-      out ++ tokens_of_parts args (parts_from d place (map without_line (drop place tokens))) ≡ whole → out ≡ whole
-  made-done out past keeps =
-      nothing_left out (tokens_of_parts args (parts_from d place (map without_line (drop place tokens)))) whole
-      (ap (λ ts. tokens_of_parts args (parts_from d place (map without_line ts))) (drop_of_length-le tokens past)) keeps
+-- a turn of the loop: one token more
+pub made-turn : (args : Arguments) (d : MacroDefinition) (place : ℕ) (tokens ts : List Token) (t : Token) (out next whole : List Marked) → tokens ≡ t ∷ ts →
+    next ≡ out ++ tokens_of_part args (operand_part None (without_line t) (parameter_at d place)) →
+    out ++ tokens_of_parts args (parts_from d place (map without_line tokens)) ≡ whole →
+    next ++ tokens_of_parts args (parts_from d (place + 1) (map without_line ts)) ≡ whole
+made-turn args d place tokens ts t out next whole is made keeps =
+    grows out next (tokens_of_part args (operand_part None (without_line t) (parameter_at d place)))
+    (tokens_of_parts args (parts_from d place (map without_line tokens)))
+    (tokens_of_parts args (parts_from d (place + 1) (map without_line ts))) whole made
+    (ap (λ us. tokens_of_parts args (parts_from d place (map without_line us))) is) keeps
+
+pub made-done : (args : Arguments) (d : MacroDefinition) (place : ℕ) (tokens : List Token) (out whole : List Marked) → tokens ≡ [] →
+    out ++ tokens_of_parts args (parts_from d place (map without_line tokens)) ≡ whole → out ≡ whole
+made-done args d place tokens out whole none keeps =
+    nothing_left out (tokens_of_parts args (parts_from d place (map without_line tokens))) whole
+    (ap (λ ts. tokens_of_parts args (parts_from d place (map without_line ts))) none) keeps

@@ -1,6 +1,7 @@
 // The pieces that a replacement list gives with a call's arguments put in (ISO C 6.10.3.1 to 6.10.3.3).
 ghost use Rattle.std.specs.Prelude.{◌≡◌, ◌++◌, ◌∷◌, [], ◌&&◌, ◌||◌, map, length, ℕ, None, Some, IfOk, OnOk, if◌then◌else◌};
 ghost use Rattle.std.specs.Option.{option_map, option_copied};
+ghost use Rattle.pp_tokens.specs.Tokens.{token_seen};
 ghost use Rattle.macro_defs.specs.MacroDefinition.{without_line};
 ghost use Rattle.pp_tokens.specs.Marks.{is_comma};
 ghost use Rattle.macro_expand.specs.Replacement as spec;
@@ -13,7 +14,7 @@ ghost use Rattle.macro_expand.specs.parts.Stamps.{Alike, AllAlike, EachAlike};
 use crate::marked::{Marked, Piece};
 use crate::replace::{Part, begins_with_join};
 use crate::stringize::stringized;
-use pp_tokens::{Token, TokenCow};
+use pp_tokens::{Token, TokenCow, TokenRef};
 use std::alloc::{AllocError, Global};
 
 // The arguments of a call: as written, expanded by themselves where a parameter stands alone, and the number of the
@@ -94,7 +95,15 @@ pub(crate) fn plain(t: &Token) -> Marked<'_>
     ensures unmarked { marked_of result ≡ unmarked (without_line t.now) }
     ensures unstamped { result.stamp ≡ 0 }
 {
-    let mut token = TokenCow::lent(t.as_ref());
+    lent_plain(t.as_ref())
+}
+
+// The same of a token that is lent.
+pub(crate) fn lent_plain(t: TokenRef<'_>) -> Marked<'_>
+    ensures unmarked { marked_of result ≡ unmarked (without_line (token_seen t.entry)) }
+    ensures unstamped { result.stamp ≡ 0 }
+{
+    let mut token = TokenCow::lent(t);
     token.set_line(0);
     Marked::plain(token)
 }

@@ -1,6 +1,6 @@
 // The replacement of one macro call (ISO C 6.10.3.1 to 6.10.3.3).
 ghost use Rattle.std.specs.Prelude.{◌≡◌, ◌≤◌, ◌<◌, ℕ, List, true, Some, None, Ok, Err, map, length, get_or, false, ◌++◌, ◌∷◌, [], ◌&&◌, if◌then◌else◌, IfOk, IfErr, OnOk, MatchOption};
-ghost use Rattle.macro_defs.specs.MacroDefinition.{without_line};
+ghost use Rattle.macro_defs.specs.MacroDefinition.{without_line, has_operators};
 ghost use Rattle.macro_defs.specs.declared.definition.Shape.TheVariants.{Object};
 ghost use Rattle.macro_defs.specs.Arguments.{parameters_in};
 ghost use Rattle.pp_tokens.specs.Marks.{is_pasting};
@@ -153,7 +153,7 @@ fn begins_spelling(hash: Option<bool>, t: &Token) -> bool
 
 // The parts of a function-like macro's replacement list, with `##` several times in a row as one.
 fn read_parts<'d>(alloc: Global, d: &'d Definition) -> Result<Vec<Part<'d>>, AllocError>
-    requires { d.now.shape ≡ Object → ⊥ }
+    requires { has_operators d.now.shape d.now.body ≡ true }
     ensures { IfOk result (λ parts. parts_seen parts.items ≡ body_parts (parameters_in d.now.shape) d.now.body) }
 {
     let Run::Listed(body) = d.body() else {

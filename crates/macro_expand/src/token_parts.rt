@@ -1,5 +1,6 @@
 // A function-like macro's replacement list without `#` and `##`: each token is a part of its own (ISO C 6.10.3.1).
 ghost use Rattle.std.specs.Prelude.{◌≡◌, ◌<◌, ◌++◌, [], ℕ, true, false, None, map, length, get_or, IfOk, OnOk};
+ghost use Rattle.pp_tokens.specs.Tokens.{token_seen};
 ghost use Rattle.macro_defs.specs.MacroDefinition.{without_line, has_operators};
 ghost use Rattle.macro_defs.specs.declared.definition.Shape.TheVariants.{Object};
 ghost use Rattle.macro_defs.specs.Arguments.{parameters_in};
@@ -11,16 +12,16 @@ ghost use Rattle.macro_expand.specs.declared.marked.Marked.{Marked as Kept};
 ghost use Rattle.macro_expand.specs.Seen.{marked_of};
 
 use crate::marked::Marked;
-use crate::pieces::{Arguments, argument_at, plain, put_copies, put_marked};
+use crate::pieces::{Arguments, argument_at, lent_plain, put_copies, put_marked};
 use macro_defs::{Definition, Run};
-use pp_tokens::Token;
+use pp_tokens::TokenRef;
 use std::alloc::{AllocError, Global};
 
 // The tokens of such a list, and the definition, which tells the parameter that each names.
 #[derive(Clone, Copy, Drop)]
 pub(crate) struct TokenParts<'d> {
     definition: &'d Definition,
-    tokens: &'d [Token],
+    tokens: Run<'d>,
 }
 
 impl<'d> TokenParts<'d> {
@@ -29,12 +30,9 @@ impl<'d> TokenParts<'d> {
         requires plain { has_operators d.now.shape d.now.body ≡ false }
         ensures { token_parts result ≡ body_parts (parameters_in d.now.shape) d.now.body }
     {
-        let Run::Listed(tokens) = d.body() else {
-            unreachable!()
-        };
         TokenParts {
             definition: d,
-            tokens,
+            tokens: d.body(),
         }
     }
 
@@ -42,7 +40,7 @@ impl<'d> TokenParts<'d> {
     pub(crate) fn are_none(&self) -> bool
         ensures { result ≡ true → token_parts self.now ≡ [] }
     {
-        self.tokens.is_empty()
+        self.tokens.len() == 0
     }
 
     // For each argument, whether a token names its parameter, so that it is expanded by itself.
@@ -76,8 +74,11 @@ impl<'d> TokenParts<'d> {
             .len()
             .saturating_add(token_count(arguments.expanded));
         let mut out = Vec::with_capacity(alloc, room)?;
-        for (place, t) in self.tokens.iter().enumerate() {
+        let mut tokens = self.tokens;
+        let mut place = 0usize;
+        while let Some(t) = tokens.next() {
             put_token(&mut out, arguments, t, self.definition.parameter_at(place))?;
+            place += 1;
         }
         Ok(out)
     }
@@ -99,16 +100,16 @@ fn mark_named(alone: &mut Vec<bool>, parameter: Option<usize>)
 fn put_token<'t>(
     out: &mut Vec<Marked<'t>>,
     arguments: &Arguments<'_, 't>,
-    t: &'t Token,
+    t: TokenRef<'t>,
     parameter: Option<usize>,
 ) -> Result<(), AllocError>
     ensures put { OnOk result (map marked_of out.new.items
-        ≡ map marked_of out.old.items ++ tokens_of_part (arguments_seen arguments.now) (operand_part None (without_line t.now) parameter)) }
+        ≡ map marked_of out.old.items ++ tokens_of_part (arguments_seen arguments.now) (operand_part None (without_line (token_seen t.entry)) parameter)) }
     ensures alike { (t : Kept) → AllAlike t out.old.items → EachAlike t arguments.now.expanded.now → OnOk result (AllAlike t out.new.items) }
 {
     match parameter {
         Some(i) => put_copies(out, t.space, argument_at(arguments.expanded, i)),
-        None => put_marked(out, plain(t)),
+        None => put_marked(out, lent_plain(t)),
     }
 }
 

@@ -7,7 +7,8 @@ use Rattle.pp_tokens.specs.declared.token.Token.{Token}
 use Rattle.pp_tokens.specs.Lines.{all_tokens}
 use Rattle.pp_tokens.specs.Marks.{is_pasting}
 use Rattle.pp_tokens.specs.Tokens.{rest_of}
-use Rattle.macro_defs.specs.MacroDefinition.{without_line}
+use Rattle.macro_defs.specs.MacroDefinition.{without_line, has_operators}
+use Rattle.macro_defs.specs.Defining.{after_name, function_of}
 use Rattle.macro_defs.specs.declared.definition.Function.{Function}
 use Rattle.macro_defs.specs.declared.definition.Shape.{Shape}
 use Rattle.macro_defs.specs.declared.definition.Shape.TheVariants.{Object}
@@ -37,9 +38,9 @@ abbrev pub operators_of : {A : Type 0} → Option (Box Function A) → Bool
 operators_of None = false
 operators_of (Some function) = (box_value function).operators
 
--- tokens of an object-like macro that have no `##`
+-- a replacement list that has no `##`, and that of a function-like macro no `#`
 abbrev pub IsPlain : Shape → List Token → Type 0
-IsPlain shape tokens = (shape ≡ Object) × (list_any is_pasting (map without_line tokens) ≡ false)
+IsPlain shape tokens = (has_operators shape (map without_line tokens) ≡ false) × (list_any is_pasting (map without_line tokens) ≡ false)
 
 -- only such a replacement list is in a file
 abbrev pub MayShare : Shape → Body → Type 0
@@ -51,3 +52,8 @@ MayShare shape (body.Shared file from end) = IsPlain shape (take (end - from) (d
 abbrev pub SharesPlain : Shape → Run → Type 0
 SharesPlain shape (run.Listed tokens) = Unit {0}
 SharesPlain shape (run.Lexed tokens) = IsPlain shape (rest_of tokens)
+
+-- Parameters stand first behind a name: what the name defines goes by them and by the tokens behind, and so many tokens stand before these.
+abbrev pub ReadsParameters : List Token → List Token → List (List ℕ) → Bool → ℕ → Type 0
+ReadsParameters tokens behind names variadic count =
+    ((name : List ℕ) → after_name name tokens ≡ function_of name (Some (record { names = names; variadic = variadic })) behind) × (behind ≡ drop count tokens)

@@ -3,6 +3,7 @@ use Rattle.std.specs.Prelude.{◌≡◌, ◌<◌, ◌+◌, ◌==◌, ℕ, Bool, 
 use Rattle.pp_tokens.specs.declared.Token.{Token}
 use Rattle.pp_tokens.specs.Marks.{Pasting, mark_of, is_hash}
 use Rattle.macro_defs.specs.MacroDefinition.{MacroDefinition, without_line}
+use Rattle.macro_defs.specs.Runs.{run_tokens}
 use Rattle.macro_defs.specs.Arguments.{parameter_at}
 use Rattle.macro_expand.specs.declared.replace.Parts.{Parts as KeptParts}
 use Rattle.macro_expand.specs.declared.replace.Parts.TheVariants.{Listed, Tokens}
@@ -55,7 +56,7 @@ parts_from d place (t ∷ ts) = operand_part None t (parameter_at d place) ∷ p
 
 -- the parts of such a list
 abbrev pub token_parts : TokenParts → List BodyPart
-token_parts parts = parts_from parts.definition.now 0 (map without_line parts.tokens.now)
+token_parts parts = parts_from parts.definition.now 0 (map without_line (run_tokens parts.tokens))
 
 -- the parts of a replacement list that code keeps
 abbrev pub parts_told : KeptParts → List BodyPart
