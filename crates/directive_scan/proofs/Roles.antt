@@ -64,7 +64,7 @@ shown_at file (s ∷ spots) (suc i) d below = shown_at file spots i d (omega ari
 
 -- a directive among the spots, by its name
 pub directive_here : (file : LexedFile) (spots : List Spot) (i : ℕ) (d : Spot) (line at : ℕ) (n : DirectiveName) (p : Piece) → EachKnowsName file spots → i < length spots
-    → get_or spots i d ≡ spot.Line line at n → Line at (directive_told n (drop 2 (tokens_at_line file line))) ≡ get_or (map (piece_at file) spots) i p
+    → get_or spots i d ≡ spot.Line n line at → Line at (directive_told n (drop 2 (tokens_at_line file line))) ≡ get_or (map (piece_at file) spots) i p
 unfolding EachKnowsName
 directive_here file [] i d line at n p each below is = absurd (omega arith)
 directive_here file (s ∷ spots) zero d line at n p each below is =
@@ -74,7 +74,7 @@ directive_here file (s ∷ spots) (suc i) d line at n p each below is = directiv
 
 -- what is told of a directive among the spots is its role among the pieces
 pub role_here : (file : LexedFile) (spots : List Spot) (i : ℕ) (d : Spot) (line at : ℕ) (n : DirectiveName) (r : Nesting) (p : Piece) → EachKnowsName file spots → i < length spots
-    → get_or spots i d ≡ spot.Line line at n → ((ts : List Token) → role_told r ≡ directive_role (directive_told n ts)) → role_told r ≡ role_of (get_or (map (piece_at file) spots) i p)
+    → get_or spots i d ≡ spot.Line n line at → ((ts : List Token) → role_told r ≡ directive_role (directive_told n ts)) → role_told r ≡ role_of (get_or (map (piece_at file) spots) i p)
 role_here file spots i d line at n r p each below is told =
     told (drop 2 (tokens_at_line file line)) ∙ ap role_of (directive_here file spots i d line at n p each below is)
 

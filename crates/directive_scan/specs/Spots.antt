@@ -46,12 +46,12 @@ tokens_between file from end = take (end - from) (drop from (all_tokens file))
 
 abbrev pub piece_at : LexedFile → Spot → Piece
 piece_at file (spot.Text from end) = piece.Run (tokens_between file from end)
-piece_at file (spot.Line line at name) = piece.Line at (directive_on file line)
+piece_at file (spot.Line name line at) = piece.Line at (directive_on file line)
 
 -- a directive's name is known
 abbrev pub KnowsName : LexedFile → Spot → Type 0
 KnowsName file (spot.Text from end) = Unit {0}
-KnowsName file (spot.Line line at name) = directive_on file line ≡ directive_told name (drop 2 (tokens_at_line file line))
+KnowsName file (spot.Line name line at) = directive_on file line ≡ directive_told name (drop 2 (tokens_at_line file line))
 
 unfoldable pub EachKnowsName : LexedFile → List Spot → Type 0
 EachKnowsName file [] = Unit {0}

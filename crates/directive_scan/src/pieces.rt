@@ -149,12 +149,14 @@ impl Pieces {
         ensures few { number + 1 ≤ 18446744073709551615 }
     {
         match self.parts.spots[number] {
-            Spot::Text { from, end } => PieceRef::Run(self.parts.lexed.tokens(from, end)),
-            Spot::Line { line, at, name } => PieceRef::Line {
+            Spot::Text { from, end } => {
+                PieceRef::Run(self.parts.lexed.tokens(from as usize, end as usize))
+            }
+            Spot::Line { name, line, at } => PieceRef::Line {
                 at,
                 what: DirectiveRef {
                     lexed: &self.parts.lexed,
-                    line,
+                    line: line as usize,
                     name,
                 },
             },

@@ -40,11 +40,11 @@ fn piece_of(alloc: Global, lexed: &Lexed, spot: Spot) -> Result<Piece, AllocErro
 {
     match spot {
         Spot::Text { from, end } => Ok(Piece::Run {
-            tokens: lexed.tokens(from, end).to_list(alloc)?,
+            tokens: lexed.tokens(from as usize, end as usize).to_list(alloc)?,
         }),
         Spot::Line { line, at, .. } => Ok(Piece::Line {
             at,
-            what: directive_at(alloc, lexed, line)?,
+            what: directive_at(alloc, lexed, line as usize)?,
         }),
     }
 }

@@ -1,6 +1,7 @@
 // Where the pieces of a lexed file lie in it.
 ghost use Rattle.std.specs.Prelude.{◌≡◌, ◌<◌, ◌≤◌, ◌+◌, ◌∷◌, [], ℕ, Some, None, length, map, drop, IfOk, OnOk, List};
 ghost use Rattle.directive_scan.specs.declared.directive.Piece.{Piece};
+ghost use Rattle.directive_scan.specs.declared.spots.Spot.TheVariants as spot;
 ghost use Rattle.directive_scan.specs.Directives.{line_before, onto_run, pieces};
 ghost use Rattle.directive_scan.specs.Gathered.{tokens_at_line, hash_of};
 ghost use Rattle.directive_scan.specs.Spots.{piece_at, EachKnowsName, so_far, BeginsBefore, directive_on};
@@ -10,18 +11,40 @@ use pp_tokens::Lexed;
 use std::alloc::{AllocError, Global};
 
 // Where a piece lies: the tokens from one number up to another; or a directive's logical line, with the physical line of
-// its `#` and the directive's name.
+// its `#` and the directive's name. The fields stand in an order in which it takes 12 bytes.
 #[derive(Clone, Copy, Drop)]
 pub enum Spot {
     Text {
-        from: usize,
-        end: usize,
+        from: u32,
+        end: u32,
     },
     Line {
-        line: usize,
-        at: u32,
         name: DirectiveName,
+        line: u32,
+        at: u32,
     },
+}
+
+// The spot of a run. A body that may be lexed has fewer than 2^32 tokens.
+#[inline(always)]
+fn text_spot(from: usize, end: usize) -> Result<Spot, AllocError>
+    ensures { IfOk result (λ s. s ≡ spot.Text from end) }
+{
+    let (Ok(from), Ok(end)) = (u32::try_from(from), u32::try_from(end)) else {
+        return Err(AllocError);
+    };
+    Ok(Spot::Text { from, end })
+}
+
+// The spot of a directive. A body that may be lexed has fewer than 2^32 lines.
+#[inline(always)]
+fn line_spot(name: DirectiveName, line: usize, at: u32) -> Result<Spot, AllocError>
+    ensures { IfOk result (λ s. s ≡ spot.Line name line at) }
+{
+    let Ok(line) = u32::try_from(line) else {
+        return Err(AllocError);
+    };
+    Ok(Spot::Line { name, line, at })
 }
 
 // The spots of the lines so far: those that are at an end, and the number of the first token of the run of the last
@@ -78,11 +101,8 @@ fn with_directive(
     ensures begins { IfOk result (λ g. g.run ≡ None) }
 {
     let mut ended = all_ended(file, line, gathered)?;
-    ended.push(Spot::Line {
-        line,
-        at,
-        name: name_at(file, line),
-    })?;
+    let spot = line_spot(name_at(file, line), line, at)?;
+    ended.push(spot)?;
     Ok(Gathered { ended, run: None })
 }
 
@@ -102,6 +122,7 @@ fn with_text(file: &Lexed, line: usize, gathered: Gathered) -> Gathered
 }
 
 // The spots, with the run at an end before a line.
+#[inline(always)]
 fn all_ended(file: &Lexed, line: usize, gathered: Gathered) -> Result<Vec<Spot>, AllocError>
     requires { line ≤ length file.now.lines }
     ensures shown { IfOk result (λ s. map (piece_at file.now) s.items ≡ so_far file.now gathered.ended.items gathered.run line []) }
@@ -109,8 +130,8 @@ fn all_ended(file: &Lexed, line: usize, gathered: Gathered) -> Result<Vec<Spot>,
 {
     let Gathered { mut ended, run } = gathered;
     if let Some(from) = run {
-        let end = file.tokens_before(line);
-        ended.push(Spot::Text { from, end })?;
+        let spot = text_spot(from, file.tokens_before(line))?;
+        ended.push(spot)?;
     }
     Ok(ended)
 }

@@ -6,12 +6,12 @@ use Rattle.directive_scan.proofs.spots.with_directive.Goals as goal
 
 pub returns-clause-names : goal.returns-clause-names
 returns-clause-names c each =
-    rw c.in_ok-push.ensures.items
-    (role_more c.args.file.now c.in_ok-ended.ended.items (Line c.args.line c.args.at c.name_at.result) (c.in_ok-ended.ensures.names each) c.name_at.ensures)
+    rw (c.in_ok-push.ensures.items, c.in_ok-spot.ensures)
+    (role_more c.args.file.now c.in_ok-ended.ended.items (Line c.name_at.result c.args.line c.args.at) (c.in_ok-ended.ensures.names each) c.name_at.ensures)
 
 pub returns-clause-shown : goal.returns-clause-shown
 returns-clause-shown c others =
     let gathered = c.args.gathered in
-    rw c.in_ok-push.ensures.items
-    (directive_more c.args.file.now gathered.ended.items c.in_ok-ended.ended.items gathered.run c.args.line (Line c.args.line c.args.at c.name_at.result) c.args.at
+    rw (c.in_ok-push.ensures.items, c.in_ok-spot.ensures)
+    (directive_more c.args.file.now gathered.ended.items c.in_ok-ended.ended.items gathered.run c.args.line (Line c.name_at.result c.args.line c.args.at) c.args.at
     (directive_on c.args.file.now c.args.line) others c.in_ok-ended.ensures.shown refl)
