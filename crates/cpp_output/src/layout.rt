@@ -31,6 +31,9 @@ impl From<AllocError> for LayError {
     }
 }
 
+// The room that an output begins with, enough for most: one that grows is copied to other pages. Room that isn't taken costs none.
+const ROOM: usize = 256 * 1024;
+
 /// A preprocessed output in the making. Its text so far ends in the output line that stands for one physical line
 /// of the present file.
 #[derive(Drop)]
@@ -61,6 +64,7 @@ impl Layout {
         ensures full { IsErrOf result LayError.Full → text_limit < length (begun name.now).text }
     {
         let mut text = Text::new(alloc);
+        text.make_room(ROOM);
         text.append_marker(1, name, b"")?;
         Ok(Layout {
             text,

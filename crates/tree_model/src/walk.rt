@@ -29,7 +29,7 @@ use base_types::{Bytes, List};
 use std::alloc::{AllocError, Global};
 
 // Room for the nodes of most walks.
-const NODES: usize = 8;
+const NODES: usize = 16;
 
 /// How a text located a file.
 #[derive(Drop)]
