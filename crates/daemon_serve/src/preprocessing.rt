@@ -2,11 +2,10 @@
 ghost use Rattle.daemon_answers.specs.Answers.{Answers};
 
 use crate::replier::Replier;
-use crate::replying::preprocessed;
+use crate::replying::{let_go, preprocessed};
 use base_types::{Bytes, List};
 use job_words::Job;
 use std::alloc::{AllocError, Global};
-use std::mem::forget;
 use tree_model::{CanonPath, Entry};
 
 // Answers a request by preprocessing its job over the tree of its entries alone; `last` says whether the process ends behind it.
@@ -27,12 +26,5 @@ impl Replier for Preprocessing {
         let reply = preprocessed(alloc, &job, entries, self.last);
         let_go(job, self.last);
         reply.map_err(|_| AllocError)
-    }
-}
-
-// Gives back what a job takes, or leaves it where the process ends behind it.
-fn let_go(job: Job, last: bool) {
-    if last {
-        forget(job);
     }
 }

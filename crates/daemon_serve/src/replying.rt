@@ -19,6 +19,7 @@ use job_frames::{FrameError, write_reply};
 use job_words::Job;
 use mirror_tree::Mirror;
 use std::alloc::Global;
+use std::mem::forget;
 use tree_model::{CanonPath, Entry, Tree};
 
 // Puts the reply to a request.
@@ -53,9 +54,15 @@ pub(crate) fn preprocessed(
 {
     let mut tree = Mirror::of(alloc, entries);
     let outcome = outcome_over(alloc, &mut tree, job, last)?;
-    // The reply takes the memory of the files.
-    drop(tree);
-    Ok(write_reply(alloc, &answer_of(outcome))?)
+    let_go(tree, last);
+    Ok(write_reply(alloc, answer_of(outcome))?)
+}
+
+// Gives back what a value takes, or leaves it where the process ends behind it.
+pub(crate) fn let_go<T: Drop>(value: T, last: bool) {
+    if last {
+        forget(value);
+    }
 }
 
 // What preprocessing gives over a request's tree.

@@ -32,3 +32,9 @@ pub four : (o0 o1 o2 o3 o4 a b c d : List ℕ) → o1 ≡ o0 ++ a → o2 ≡ o1 
 four o0 o1 o2 o3 o4 a b c d e1 e2 e3 e4 =
     e4 ∙ ap (λ (x : List ℕ). x ++ d) (e3 ∙ ap (λ (x : List ℕ). x ++ c) (e2 ∙ ap (λ (x : List ℕ). x ++ b) e1))
     ∙ append_assoc ((o0 ++ a) ++ b) c d ∙ append_assoc (o0 ++ a) b (c ++ d) ∙ append_assoc o0 a (b ++ (c ++ d))
+
+-- four parts, written one after another, and what stands behind them
+pub four_before : (o0 o1 o2 o3 o4 a b c d rest : List ℕ) → o0 ≡ [] → o1 ≡ o0 ++ a → o2 ≡ o1 ++ b → o3 ≡ o2 ++ c → o4 ≡ o3 ++ d → o4 ++ rest ≡ a ++ (b ++ (c ++ (d ++ rest)))
+four_before o0 o1 o2 o3 o4 a b c d rest e0 e1 e2 e3 e4 =
+    ap (λ (x : List ℕ). x ++ rest) (four o0 o1 o2 o3 o4 a b c d e1 e2 e3 e4 ∙ ap (λ (x : List ℕ). x ++ (a ++ (b ++ (c ++ d)))) e0)
+    ∙ append_assoc a (b ++ (c ++ d)) rest ∙ ap (λ (x : List ℕ). a ++ x) (append_assoc b (c ++ d) rest ∙ ap (λ (x : List ℕ). b ++ x) (append_assoc c d rest))

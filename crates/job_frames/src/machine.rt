@@ -78,12 +78,15 @@ fn token_move<F: Frame>(m: &mut Machine<F>, letters: [u8; 4]) -> Move
 }
 
 // Takes what came of a body. A short one is copied, so that the bytes' room stays for the next token: of most bodies, a word or a path.
+// Of a long one the room that it didn't take is given back, so that what comes next lies close behind it, in fewer pages.
 fn take_pending(alloc: Global, pending: &mut Vec<u8>) -> Result<Vec<u8>, AllocError>
     ensures body { IfOk result (λ body. body.items ≡ pending.old.items) }
     ensures none_left { OnOk result (pending.new.items ≡ []) }
 {
     if pending.len() > SHORT_BODY {
-        return Ok(mem::replace(pending, Vec::new(alloc)));
+        pending.shrink_to_fit();
+        let empty = Vec::with_capacity(alloc, SHORT_BODY)?;
+        return Ok(mem::replace(pending, empty));
     }
     let body = pending.as_slice().to_vec(alloc)?;
     pending.clear();

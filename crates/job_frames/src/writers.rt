@@ -1,5 +1,5 @@
 // Writing requests, images and replies.
-ghost use Rattle.std.specs.Prelude.{◌≡◌, ◌≤◌, ◌<◌, ◌++◌, length, IfOk, OnOk, All};
+ghost use Rattle.std.specs.Prelude.{◌≡◌, ◌≤◌, ◌<◌, ◌++◌, ℕ, List, length, IfOk, OnOk, All};
 ghost use Rattle.base_types.specs.Limits.{diagnostic_limit, entry_limit, job_words_limit, text_limit, word_limit};
 ghost use Rattle.job_frames.specs.Spelling.{digit, digits, token, field, IsAnswer, reply_bytes, entry_bytes, node_bytes, image_bytes, request_bytes, IsSpellable, HasSpelling, words_bytes};
 ghost use Rattle.job_frames.specs.declared.answer.Answer.TheVariants as answer;
@@ -162,16 +162,27 @@ fn push_words(out: &mut Vec<u8>, words: &[Bytes]) -> Result<(), AllocError>
     Ok(())
 }
 
-// Appends the reply that says a text.
-fn push_text(out: &mut Vec<u8>, text: &[u8]) -> Result<(), AllocError>
-    requires { length text.now ≤ text_limit }
-    ensures { OnOk result (out.new.items ≡ out.old.items ++ reply_bytes (answer.Text text.now)) }
+// What stands in front of a text of this length in the reply that says it.
+fn text_front(alloc: Global, size: u32) -> Result<Vec<u8>, AllocError>
+    ensures { IfOk result (λ front. (text : List ℕ) → length text ≡ size → front.items ++ text ≡ reply_bytes (answer.Text text)) }
 {
-    push_token(out, b"DONE", 0x103)?;
-    push_token(out, b"STAT", 0)?;
-    push_token(out, b"SERR", 0)?;
-    push_field(out, b"DOTI", text)?;
-    Ok(())
+    let mut front = Vec::new(alloc);
+    push_token(&mut front, b"DONE", 0x103)?;
+    push_token(&mut front, b"STAT", 0)?;
+    push_token(&mut front, b"SERR", 0)?;
+    push_token(&mut front, b"DOTI", size)?;
+    Ok(front)
+}
+
+// The reply that says a text. Its memory becomes the reply's, with a front put before it.
+fn text_reply(alloc: Global, text: Bytes) -> Result<Bytes, AllocError>
+    requires { length text ≤ text_limit }
+    ensures { IfOk result (λ bytes. bytes ≡ reply_bytes (answer.Text text)) }
+{
+    let front = text_front(alloc, text.len() as u32)?;
+    let mut bytes = text.into_vec()?;
+    let _ = bytes.splice(0..0, front)?;
+    Ok(Bytes::of(bytes))
 }
 
 // Appends the reply that says a diagnostic.
@@ -186,25 +197,17 @@ fn push_diagnostic(out: &mut Vec<u8>, words: &[u8]) -> Result<(), AllocError>
     Ok(())
 }
 
-// Appends a reply.
+/// The reply that says an answer. The memory of a text becomes that of the reply.
 #[tactic(auto, unfolding(crate::specs::Spelling::reply_bytes))]
-fn push_reply(out: &mut Vec<u8>, answer: &Answer) -> Result<(), AllocError>
-    requires { IsAnswer answer.now }
-    ensures { OnOk result (out.new.items ≡ out.old.items ++ reply_bytes answer.now) }
-{
-    match answer {
-        Answer::Text(text) => push_text(out, text.as_slice()),
-        Answer::Diag(words) => push_diagnostic(out, words.as_slice()),
-        Answer::Refused(n) => push_token(out, b"RFSE", *n as u32),
-    }
-}
-
-/// The reply that says an answer.
-pub fn write_reply(alloc: Global, answer: &Answer) -> Result<Bytes, AllocError>
-    requires { IsAnswer answer.now }
-    ensures { IfOk result (λ bytes. bytes ≡ reply_bytes answer.now) }
+pub fn write_reply(alloc: Global, answer: Answer) -> Result<Bytes, AllocError>
+    requires { IsAnswer answer }
+    ensures { IfOk result (λ bytes. bytes ≡ reply_bytes answer) }
 {
     let mut out = Vec::new(alloc);
-    push_reply(&mut out, answer)?;
+    match answer {
+        Answer::Text(text) => return text_reply(alloc, text),
+        Answer::Diag(words) => push_diagnostic(&mut out, words.as_slice())?,
+        Answer::Refused(n) => push_token(&mut out, b"RFSE", n as u32)?,
+    }
     Ok(Bytes::of(out))
 }

@@ -19,7 +19,7 @@ pub fn answer_reply(alloc: Global, out: &mut String, reply: &str) -> Result<(), 
         None => say_word(out, "nothing"),
         Some(answer) => {
             say_answer(out, &answer)?;
-            say_written(alloc, out, &answer)
+            say_written(alloc, out, answer)
         }
     }
 }
@@ -32,8 +32,8 @@ fn say_answer(out: &mut String, answer: &Answer) -> Result<(), Wrong> {
     }
 }
 
-fn say_written(alloc: Global, out: &mut String, answer: &Answer) -> Result<(), Wrong> {
-    if !is_within_limits(answer) {
+fn say_written(alloc: Global, out: &mut String, answer: Answer) -> Result<(), Wrong> {
+    if !is_within_limits(&answer) {
         return say_word(out, "an answer without a spelling");
     }
     say(out, "written", write_reply(alloc, answer)?.as_slice())
