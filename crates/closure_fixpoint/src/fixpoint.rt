@@ -25,7 +25,7 @@ use base_types::{Bytes, List};
 use directive_scan::HeaderName;
 use job_words::Job;
 use search_path::{Ask, Visit};
-use sheet_build::Sheet;
+use sheet_build::{Sheet, Unweighed};
 use std::alloc::{AllocError, Global};
 use std::marker::Model;
 use std::mem::replace;
@@ -71,7 +71,7 @@ pub struct Fixpoint {
     job: Job,
     budget: u32,
     searches: Searches,
-    sheets: Vec<(Visit, Sheet)>,
+    sheets: Vec<(Visit, Unweighed)>,
     large: Option<Visit>,
     found: Visits,
     naming: Naming,
@@ -318,8 +318,15 @@ impl Fixpoint {
         }
     }
 
-    /// The sheet of the visit that was asked for.
+    /// The sheet of the visit that was asked for, as a memo keeps it.
     pub fn put_sheet(&mut self, got: Sheet)
+        ensures told { (visit : Visit) → self.old.pending ≡ OfSheet visit → IsFalse self.new.broken → PutsSheet self.old visit got self.new }
+    {
+        self.put_unweighed(got.unweighed());
+    }
+
+    /// The sheet of the visit that was asked for.
+    pub fn put_unweighed(&mut self, got: Unweighed)
         ensures told { (visit : Visit) → self.old.pending ≡ OfSheet visit → IsFalse self.new.broken → PutsSheet self.old visit got self.new }
     {
         more_definitions::<HeaderName>();
@@ -369,7 +376,7 @@ fn copy_of(alloc: Global, ask: &Ask) -> Result<Ask, AllocError>
 fn closure_of(
     alloc: Global,
     searches: &Searches,
-    sheets: &[(Visit, Sheet)],
+    sheets: &[(Visit, Unweighed)],
     found: &Visits,
 ) -> Result<Closure, AllocError>
     ensures { IfOk result (λ closure. IsWhole (heard_of searches.now sheets.now) found.now closure) }

@@ -14,7 +14,7 @@ use directive_scan::HeaderName;
 use job_frames::write_request;
 use job_words::Job;
 use search_path::{Ask, Visit, search, searches_locate};
-use sheet_build::sheet;
+use sheet_build::unweighed_sheet;
 use std::alloc::Global;
 use symbolic_expand::more_definitions;
 use tree_model::{Tree, TreeError, walked_law};
@@ -183,9 +183,9 @@ fn answer_sheet<T: Tree>(
     ensures cause { HasCause TreeError.Fault (T.faults tree.old) (T.faults tree.new) result }
     ensures never_large { IsErrOf result TreeError.Large → ⊥ }
 {
-    match sheet(alloc, tree, job.setup(), visit) {
+    match unweighed_sheet(alloc, tree, job.setup(), visit) {
         Ok(got) => {
-            analysis.put_sheet(got);
+            analysis.put_unweighed(got);
             Ok(())
         }
         Err(TreeError::Large) => {

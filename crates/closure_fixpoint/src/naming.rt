@@ -16,7 +16,7 @@ use directive_scan::HeaderName;
 use job_words::{Job, MacroWord};
 use macro_defs::{Definition, MacroTable};
 use search_path::{Form, Visit};
-use sheet_build::{Computed, Sheet};
+use sheet_build::{Computed, Unweighed};
 use std::alloc::{AllocError, Global};
 use std::cmp::Ordering;
 use symbolic_expand::{DefSets, Names, SymError, names, support_decides};
@@ -159,7 +159,7 @@ fn catch_up(
     alloc: Global,
     naming: &mut Naming,
     job: &Job,
-    sheets: &[(Visit, Sheet)],
+    sheets: &[(Visit, Unweighed)],
 ) -> Result<(), AllocError>
     requires { Follows naming.old job.now sheets.now }
     ensures { OnOk result (IsUpToDate naming.new job.now sheets.now) }
@@ -179,7 +179,7 @@ fn expand(
     sets: &DefSets,
     budget: u32,
     visit: &Visit,
-    sheet: &Sheet,
+    sheet: &Unweighed,
     target: &Computed,
 ) -> Result<Result<Names, Refusal>, AllocError>
     ensures { IfOk result (λ names. ExpandsTo budget (sets_of sets.now) (known_name sheet.now visit.now) target.now.tokens names) }
@@ -298,7 +298,7 @@ fn anew(
     kept: &mut Vec<Kept>,
     budget: u32,
     visit: &Visit,
-    sheet: &Sheet,
+    sheet: &Unweighed,
     target: &Computed,
     number: usize,
 ) -> Result<Result<Vec<HeaderName>, Refusal>, AllocError>
@@ -330,9 +330,9 @@ pub fn names_of(
     naming: &mut Naming,
     job: &Job,
     budget: u32,
-    sheets: &[(Visit, Sheet)],
+    sheets: &[(Visit, Unweighed)],
     visit: &Visit,
-    sheet: &Sheet,
+    sheet: &Unweighed,
     target: &Computed,
     number: usize,
 ) -> Result<Result<Vec<HeaderName>, Refusal>, AllocError>

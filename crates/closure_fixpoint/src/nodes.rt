@@ -14,7 +14,7 @@ ghost use Rattle.closure_fixpoint.specs.Gathering.{upward, found_walked, searche
 use crate::searches::Searches;
 use crate::walked::Walked;
 use search_path::Visit;
-use sheet_build::Sheet;
+use sheet_build::Unweighed;
 use std::alloc::{AllocError, Global};
 use std::cmp::Ordering;
 use tree_model::{CanonPath, Located, Nodes, spellings_are_apart};
@@ -24,7 +24,7 @@ use tree_model::{CanonPath, Located, Nodes, spellings_are_apart};
 pub fn nodes_told(
     alloc: Global,
     searches: &Searches,
-    sheets: &[(Visit, Sheet)],
+    sheets: &[(Visit, Unweighed)],
 ) -> Result<Vec<CanonPath>, AllocError>
     ensures are { IfOk result (λ nodes. AreNodesOf (located_told (heard_of searches.now sheets.now)) nodes.items) }
     ensures rising { IfOk result (λ nodes. IsTrue (are_rising nodes.items)) }
@@ -134,7 +134,7 @@ fn add_found(
 #[tactic(auto, unfolding(crate::specs::parts::Walked::with_paths))]
 fn add_sheets(
     alloc: Global,
-    sheets: &[(Visit, Sheet)],
+    sheets: &[(Visit, Unweighed)],
     walked: &mut Walked,
 ) -> Result<(), AllocError>
     ensures { OnOk result (walked.new ≡ with_paths walked.old (sheets_walked sheets.now)) }

@@ -18,7 +18,7 @@ use base_types::limits::VISIT_LIMIT;
 use directive_scan::HeaderName;
 use job_words::Job;
 use search_path::{Ask, Form, Visit};
-use sheet_build::Sheet;
+use sheet_build::Unweighed;
 use std::alloc::{AllocError, Global};
 use symbolic_expand::more_definitions;
 
@@ -63,7 +63,7 @@ pub fn make_plan(
     job: &Job,
     budget: u32,
     searches: &Searches,
-    sheets: &[(Visit, Sheet)],
+    sheets: &[(Visit, Unweighed)],
     found: &Visits,
 ) -> Result<Plan, AllocError>
     requires ready { IsReady job.now (heard_of searches.now sheets.now) found.now }

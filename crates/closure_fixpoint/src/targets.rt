@@ -15,7 +15,7 @@ use crate::wanting::{Want, of_headers, of_headers_from};
 use directive_scan::HeaderName;
 use job_words::Job;
 use search_path::Visit;
-use sheet_build::{Computed, Sheet};
+use sheet_build::{Computed, Unweighed};
 use std::alloc::{AllocError, Global};
 
 // Sets the headers of a target aside, so that the next question doesn't begin with the first of them.
@@ -47,7 +47,7 @@ pub fn of_rest(
     alloc: Global,
     naming: &mut Naming,
     searches: &Searches,
-    sheets: &[(Visit, Sheet)],
+    sheets: &[(Visit, Unweighed)],
     found: &Visits,
 ) -> Result<Option<Want>, AllocError>
     ensures want { (job : JobData) → Follows naming.old job sheets.now → IfOk result (λ want. IfSome want (IsNextWant job (heard_of searches.now sheets.now) found.now)) }
@@ -86,10 +86,10 @@ fn of_target(
     job: &Job,
     budget: u32,
     searches: &Searches,
-    sheets: &[(Visit, Sheet)],
+    sheets: &[(Visit, Unweighed)],
     found: &Visits,
     visit: &Visit,
-    sheet: &Sheet,
+    sheet: &Unweighed,
     target: &Computed,
     number: usize,
 ) -> Result<Result<Option<Want>, Refusal>, AllocError>
@@ -132,10 +132,10 @@ fn of_targets(
     job: &Job,
     budget: u32,
     searches: &Searches,
-    sheets: &[(Visit, Sheet)],
+    sheets: &[(Visit, Unweighed)],
     found: &Visits,
     visit: &Visit,
-    sheet: &Sheet,
+    sheet: &Unweighed,
     targets: &[Computed],
     first: usize,
 ) -> Result<Result<Option<Want>, Refusal>, AllocError>
@@ -178,7 +178,7 @@ pub fn of_sheets(
     job: &Job,
     budget: u32,
     searches: &Searches,
-    sheets: &[(Visit, Sheet)],
+    sheets: &[(Visit, Unweighed)],
     found: &Visits,
 ) -> Result<Result<Option<Want>, Refusal>, AllocError>
     requires { Follows naming.old job.now sheets.now }

@@ -7,7 +7,7 @@ ghost use Rattle.closure_fixpoint.specs.Asked.{HasNoAnswer};
 use crate::searches::Searches;
 use crate::visits::Visits;
 use search_path::{Ask, Visit};
-use sheet_build::Sheet;
+use sheet_build::Unweighed;
 use std::alloc::{AllocError, Global};
 use tree_model::Located;
 
@@ -31,10 +31,10 @@ pub fn add_visits(
 // Tells the sheet of a visit, and adds the visits of its plain includes.
 pub fn tell_sheet(
     alloc: Global,
-    sheets: &mut Vec<(Visit, Sheet)>,
+    sheets: &mut Vec<(Visit, Unweighed)>,
     found: &mut Visits,
     visit: Visit,
-    sheet: Sheet,
+    sheet: Unweighed,
 ) -> Result<(), AllocError>
     ensures sheets { OnOk result (sheets.new.items ≡ sheets.old.items ++ (visit, sheet) ∷ []) }
     ensures found { OnOk result (found.new ≡ with_visits found.old (map (λ file. file.0) sheet.plain)) }

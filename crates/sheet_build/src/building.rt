@@ -1,17 +1,19 @@
 // How sheets are built.
 ghost use Rattle.std.specs.Prelude.{◌≡◌, ◌≤◌, ◌+◌, length, nat_le, true, IfOk, IfSome, IsErrOf};
 ghost use Rattle.std.specs.Option.{ForSome};
+ghost use Rattle.std.specs.List.{filter_map};
 ghost use Rattle.base_types.specs.Causes.{HasCause};
 ghost use Rattle.pp_tokens.specs.Lines.{lexed};
 ghost use Rattle.directive_scan.specs.Directives as scanning;
 ghost use Rattle.tree_model.specs.Bodies.{body_within};
 ghost use Rattle.base_types.specs.Limits.{body_limit};
 ghost use Rattle.search_path.specs.Search.{search};
-ghost use Rattle.sheet_build.specs.Sheet.{sheet_of, sheet_from, body_of_place, IsLargeAt};
-ghost use Rattle.sheet_build.specs.parts.Stored.{sheet_of_parts, asked_from};
+ghost use Rattle.sheet_build.specs.Sheet.{sheet_of, sheet_from, body_of_place, definition_in, IsLargeAt};
+ghost use Rattle.sheet_build.specs.parts.Stored.{sheet_with, sheet_of_parts, asked_from};
 
 use crate::directives::add_piece;
-use crate::sheets::{Parts, Sheet};
+use crate::sheets::Sheet;
+use crate::unweighed::{Parts, Unweighed};
 use base_types::Bytes;
 use directive_scan::{Pieces, directives_stand_alone};
 use pp_tokens::lex_directives;
@@ -34,10 +36,54 @@ pub fn sheet<T: Tree>(
     ensures cause { HasCause TreeError.Fault (T.faults tree.old) (T.faults tree.new) result }
     ensures one_read { T.reads tree.new ≤ T.reads tree.old + 1 }
 {
+    let file = scan_file(alloc, tree, setup, visit)?;
+    Ok(Sheet::new(alloc, file.pieces, file.parts, file.bytes)?)
+}
+
+/// The sheet of a visit, as `sheet` gives it, without what it weighs.
+pub fn unweighed_sheet<T: Tree>(
+    alloc: Global,
+    tree: &mut T,
+    setup: &Setup,
+    visit: &Visit,
+) -> Result<Unweighed, TreeError>
+    ensures same { T.told tree.new ≡ T.told tree.old }
+    ensures sheet { ForSome (T.told tree.old) (λ told. IfOk result (λ sheet. sheet ≡ sheet_of told setup.now visit.now)) }
+    ensures large { ForSome (T.told tree.old) (λ told. IsErrOf result TreeError.Large → IsLargeAt told visit.now) }
+    ensures small { ForSome (T.told tree.old) (λ told. IfOk result (λ _sheet. nat_le (length (body_of_place told visit.now.place)) body_limit ≡ true)) }
+    ensures cause { HasCause TreeError.Fault (T.faults tree.old) (T.faults tree.new) result }
+    ensures one_read { T.reads tree.new ≤ T.reads tree.old + 1 }
+{
+    let file = scan_file(alloc, tree, setup, visit)?;
+    Ok(Unweighed::new(alloc, file.pieces, file.parts)?)
+}
+
+// A file as a sheet is made of it: its pieces, what its sheet has but for its definitions, and how many bytes it has.
+#[derive(Drop)]
+struct Scanned {
+    pieces: Pieces,
+    parts: Parts,
+    bytes: usize,
+}
+
+// Reads the file of a visit.
+fn scan_file<T: Tree>(
+    alloc: Global,
+    tree: &mut T,
+    setup: &Setup,
+    visit: &Visit,
+) -> Result<Scanned, TreeError>
+    ensures same { T.told tree.new ≡ T.told tree.old }
+    ensures file { ForSome (T.told tree.old) (λ told. IfOk result (λ file. sheet_with (filter_map definition_in file.pieces) file.parts ≡ sheet_of told setup.now visit.now)) }
+    ensures large { ForSome (T.told tree.old) (λ told. IsErrOf result TreeError.Large → IsLargeAt told visit.now) }
+    ensures small { ForSome (T.told tree.old) (λ told. IfOk result (λ _sheet. nat_le (length (body_of_place told visit.now.place)) body_limit ≡ true)) }
+    ensures cause { HasCause TreeError.Fault (T.faults tree.old) (T.faults tree.new) result }
+    ensures one_read { T.reads tree.new ≤ T.reads tree.old + 1 }
+{
     let Some(body) = body_at(alloc, tree, &visit.place)? else {
         return Err(TreeError::Large);
     };
-    sheet_of_body(alloc, tree, setup, visit, body)
+    scan_body(alloc, tree, setup, visit, body)
 }
 
 // The bytes of the file that a place leads to, none where there is none; None where they are too many.
@@ -60,17 +106,17 @@ fn body_at<T: Tree>(
     }
 }
 
-// The sheet of a file with these bytes.
-fn sheet_of_body<T: Tree>(
+// A file with these bytes.
+fn scan_body<T: Tree>(
     alloc: Global,
     tree: &mut T,
     setup: &Setup,
     visit: &Visit,
     body: Bytes,
-) -> Result<Sheet, TreeError>
+) -> Result<Scanned, TreeError>
     requires { length body ≤ body_limit }
     ensures same { T.told tree.new ≡ T.told tree.old }
-    ensures sheet { ForSome (T.told tree.old) (λ told. IfOk result (λ sheet. sheet ≡ sheet_from (search told setup.now) visit.now (scanning.pieces (lexed setup.now.trigraphs body).lines))) }
+    ensures file { ForSome (T.told tree.old) (λ told. IfOk result (λ file. sheet_with (filter_map definition_in file.pieces) file.parts ≡ sheet_from (search told setup.now) visit.now (scanning.pieces (lexed setup.now.trigraphs body).lines))) }
     ensures cause { HasCause TreeError.Fault (T.faults tree.old) (T.faults tree.new) result }
     ensures never_large { IsErrOf result TreeError.Large → ⊥ }
     ensures no_read { T.reads tree.new ≡ T.reads tree.old }
@@ -80,7 +126,11 @@ fn sheet_of_body<T: Tree>(
     let lexed = lex_directives(alloc, body.into_vec()?, setup.trigraphs())?;
     let pieces = Pieces::of(alloc, lexed)?;
     let parts = parts_of_pieces(alloc, tree, setup, visit, &pieces)?;
-    Ok(Sheet::new(alloc, pieces, parts, bytes)?)
+    Ok(Scanned {
+        pieces,
+        parts,
+        bytes,
+    })
 }
 
 // What the sheet of a file with these pieces has but for its definitions.

@@ -6,8 +6,8 @@ ghost use Rattle.directive_scan.specs.Spots.{piece_seen, directive_seen};
 ghost use Rattle.directive_scan.specs.declared.Piece.TheVariants.{Line};
 ghost use Rattle.sheet_build.specs.parts.Stored.{Adds, AddsNothing};
 
-use crate::sheets::Parts;
 use crate::targets::{add_include, add_probes};
+use crate::unweighed::Parts;
 use directive_scan::{Directive, DirectiveName, DirectiveRef, PieceRef, parts_without_probe};
 use search_path::{Setup, Visit};
 use std::alloc::Global;

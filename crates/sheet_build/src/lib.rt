@@ -10,10 +10,12 @@ mod laws;
 mod memo;
 mod sheets;
 mod targets;
+mod unweighed;
 
-pub use building::sheet;
+pub use building::{sheet, unweighed_sheet};
 pub use computed::Computed;
 pub use keys::SheetKey;
 pub use laws::places_locate;
 pub use memo::SheetMemo;
 pub use sheets::Sheet;
+pub use unweighed::Unweighed;

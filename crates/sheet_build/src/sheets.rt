@@ -1,4 +1,4 @@
-// Sheets.
+// Sheets as a memo keeps them.
 ghost use Rattle.std.specs.Prelude.{◌≡◌, ◌-◌, ◌^◌, List, length, min, sum_by, IfOk};
 ghost use Rattle.std.specs.List.{filter_map};
 ghost use Rattle.macro_defs.specs.Defining.{Named};
@@ -7,82 +7,38 @@ ghost use Rattle.sheet_build.specs.Weights.{tokens_defined, sheet_weight};
 ghost use Rattle.sheet_build.specs.parts.Stored.{defs_seen, sheet_with};
 
 use crate::computed::Computed;
-use crate::definitions::{copies, count_tokens, definitions_in};
-use base_types::{Bytes, List};
+use crate::definitions::{count_tokens, definitions_in};
+use crate::unweighed::{Defs, Parts, Unweighed};
 use directive_scan::Pieces;
-use macro_defs::Definition;
 use search_path::Visit;
 use std::alloc::{AllocError, Global};
 use std::marker::Model;
-use std::sync::Arc;
 use tree_model::Located;
 
-/// What a file may define and ask for, whatever its conditionals say. Copies share what they hold.
+/// A sheet as a memo keeps it: what it weighs is known. Copies share what they hold.
 #[derive(Drop)]
 pub struct Sheet {
-    contents: Arc<Contents, Global>,
-}
-
-// What a sheet and its copies hold. `tokens` is how many tokens its definitions have, up to 2^64 - 1.
-#[derive(Drop)]
-struct Contents {
-    defs: Defs,
+    sheet: Unweighed,
+    // How many tokens its definitions have, up to 2^64 - 1.
     tokens: u64,
-    parts: Parts,
-}
-
-// The definitions of a file: as they are, or the file, from which they are read where they are asked for.
-#[derive(Drop)]
-pub enum Defs {
-    Read(List<(Bytes, Definition)>),
-    Unread(Pieces),
-}
-
-// What a sheet has but for its definitions.
-#[derive(Drop)]
-pub struct Parts {
-    pub plain: List<(Visit, Located)>,
-    pub probes: List<Located>,
-    pub computed: List<Computed>,
-    pub has_line: bool,
-}
-
-impl Parts {
-    ghost use Rattle.std.specs.Prelude.{◌≡◌};
-    ghost use Rattle.sheet_build.specs.parts.Stored.{sheet_of_parts};
-    ghost use Rattle.sheet_build.specs.Sheet.{empty_sheet};
-
-    // Those of a file without directives.
-    pub fn new(alloc: Global) -> Parts
-        ensures { sheet_of_parts result ≡ empty_sheet }
-    {
-        Parts {
-            plain: List::new(alloc),
-            probes: List::new(alloc),
-            computed: List::new(alloc),
-            has_line: false,
-        }
-    }
 }
 
 impl Model for Sheet {
-    ghost use Rattle.std.specs.Arc.{arc_value};
     ghost use Rattle.sheet_build.specs.Sheet.{SheetData};
     ghost use Rattle.std.specs.Prelude.{◌≡◌, ◌-◌, ◌^◌, min};
     ghost use Rattle.sheet_build.specs.Weights.{tokens_defined};
-    ghost use Rattle.sheet_build.specs.parts.Stored.{defs_seen, sheet_with};
 
     ghost Value = { SheetData };
 
-    ghost view = { λ s. sheet_with (defs_seen (arc_value s.contents).defs) (arc_value s.contents).parts };
+    ghost view = { λ s. s.sheet };
 
-    ghost invariant = { λ s. (arc_value s.contents).tokens ≡ min (2 ^ 64 - 1) (tokens_defined (defs_seen (arc_value s.contents).defs)) };
+    ghost invariant = { λ s. s.tokens ≡ min (2 ^ 64 - 1) (tokens_defined s.sheet.defs) };
 }
 
 impl Sheet {
-    ghost use Rattle.std.specs.Prelude.{◌≡◌, map, IfOk};
+    ghost use Rattle.std.specs.Prelude.{◌≡◌, IfOk};
     ghost use Rattle.std.specs.List.{filter_map};
-    ghost use Rattle.sheet_build.specs.Sheet.{named_pair, definition_in};
+    ghost use Rattle.sheet_build.specs.Sheet.{definition_in};
     ghost use Rattle.sheet_build.specs.Weights.{sheet_weight};
     ghost use Rattle.sheet_build.specs.parts.Stored.{sheet_with};
 
@@ -98,13 +54,9 @@ impl Sheet {
         let tokens = count_tokens(alloc, &pieces)?;
         let weight = weight_of(tokens, &parts);
         let defs = kept_defs(alloc, pieces, bytes, weight)?;
-        let contents = Contents {
-            defs,
-            tokens,
-            parts,
-        };
         Ok(Sheet {
-            contents: Arc::new(alloc, contents)?,
+            sheet: Unweighed::with(alloc, defs, parts)?,
+            tokens,
         })
     }
 
@@ -113,7 +65,8 @@ impl Sheet {
         ensures { IfOk result (λ copy. copy ≡ self.now) }
     {
         Ok(Sheet {
-            contents: Arc::try_clone(&self.contents)?,
+            sheet: self.sheet.copy()?,
+            tokens: self.tokens,
         })
     }
 
@@ -122,45 +75,14 @@ impl Sheet {
     pub fn weight(&self) -> u64
         ensures { result ≡ sheet_weight self.now }
     {
-        weight_of(self.contents.tokens, &self.contents.parts)
+        weight_of(self.tokens, self.sheet.parts())
     }
 
-    /// The definitions of its `#define` lines that are well formed, in order (ISO C 6.10.3). The only error is want of memory.
-    pub fn defs(&self, alloc: Global) -> Result<List<(Bytes, Definition)>, AllocError>
-        ensures { IfOk result (λ defs. map named_pair defs ≡ self.now.defs) }
+    /// The same sheet, for an analysis.
+    pub fn unweighed(self) -> Unweighed
+        ensures { result ≡ self }
     {
-        match &self.contents.defs {
-            Defs::Read(defs) => copies(alloc, defs.as_slice()),
-            Defs::Unread(pieces) => definitions_in(alloc, pieces),
-        }
-    }
-
-    /// The files found by its includes whose names are written, in order.
-    pub fn plain(&self) -> &[(Visit, Located)]
-        ensures { result.now ≡ self.now.plain }
-    {
-        self.contents.parts.plain.as_slice()
-    }
-
-    /// The files found by operands of `__has_include` whose names are written, in order.
-    pub fn probes(&self) -> &[Located]
-        ensures { result.now ≡ self.now.probes }
-    {
-        self.contents.parts.probes.as_slice()
-    }
-
-    /// Its computed targets, in order.
-    pub fn computed(&self) -> &[Computed]
-        ensures { result.now ≡ self.now.computed }
-    {
-        self.contents.parts.computed.as_slice()
-    }
-
-    /// Whether a `#line` stands in the file, so that its presumed name may change (ISO C 6.10.4).
-    pub fn has_line(&self) -> bool
-        ensures { result ≡ self.now.has_line }
-    {
-        self.contents.parts.has_line
+        self.sheet
     }
 }
 

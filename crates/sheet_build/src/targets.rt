@@ -6,10 +6,10 @@ ghost use Rattle.directive_scan.specs.Operands.{operands_of};
 ghost use Rattle.search_path.specs.Search as searches;
 ghost use Rattle.sheet_build.specs.Sheet.{asked_so, asked_for, probes_for, quote_form};
 ghost use Rattle.sheet_build.specs.parts.Stored.{sheet_of_parts, with_includes, with_probes};
-ghost use Rattle.sheet_build.specs.declared.sheets.Parts.{Parts};
+ghost use Rattle.sheet_build.specs.declared.unweighed.Parts.{Parts};
 
 use crate::computed::Computed;
-use crate::sheets::Parts;
+use crate::unweighed::Parts;
 use base_types::List;
 use directive_scan::{HeaderName, Target, has_operands, has_probe, parts_without_probe};
 use pp_tokens::Token;

@@ -7,7 +7,7 @@ use case_texts::{Stands, add_node};
 use closure_memo::{Kept, MemoState};
 use pp_tokens::Token;
 use search_path::{Found, Setup, Visit};
-use sheet_build::{Computed, Sheet, SheetKey, SheetMemo, sheet};
+use sheet_build::{Computed, Sheet, SheetKey, SheetMemo, Unweighed, sheet};
 use std::alloc::{AllocError, Global};
 use std::process::Abort;
 use tree_model::{CanonPath, Entry, MemTree, Tree, Unnamed};
@@ -116,7 +116,7 @@ fn shown_at(rt: &impl Abort, alloc: Global, place: &str) -> String {
     let copy = sheet_at(rt, alloc, &key)
         .copy()
         .expect(rt, "too many copies");
-    shown(alloc, &copy).expect(rt, "no memory")
+    shown(alloc, &copy.unweighed()).expect(rt, "no memory")
 }
 
 // A sheet over any tree.
@@ -185,7 +185,7 @@ fn add_place(
 }
 
 // A sheet, a line for each thing that it has.
-fn shown(alloc: Global, sheet: &Sheet) -> Result<String, AllocError> {
+fn shown(alloc: Global, sheet: &Unweighed) -> Result<String, AllocError> {
     let mut out = String::new(alloc);
     let defs = sheet.defs(alloc)?;
     for (name, _) in defs.as_slice() {
@@ -203,7 +203,7 @@ fn shown(alloc: Global, sheet: &Sheet) -> Result<String, AllocError> {
     Ok(out)
 }
 
-fn add_files(out: &mut String, sheet: &Sheet) -> Result<(), AllocError> {
+fn add_files(out: &mut String, sheet: &Unweighed) -> Result<(), AllocError> {
     for (visit, _) in sheet.plain() {
         add_line(out, "file ", visit.place.bytes())?;
     }

@@ -11,9 +11,9 @@ use Rattle.search_path.specs.declared.asking.Ask.{Ask}
 use Rattle.search_path.specs.declared.asking.Visit.{Visit}
 use Rattle.tree_model.specs.Trees.{FileTree}
 use Rattle.sheet_build.specs.Sheet.{SheetData, AskedTarget, plain_hit, computed_of, includes_in, probes_in, definition_in, is_line, named_pair}
-use Rattle.sheet_build.specs.declared.sheets.Parts.{Parts}
-use Rattle.sheet_build.specs.declared.sheets.Defs.{Defs}
-use Rattle.sheet_build.specs.declared.sheets.Defs.TheVariants.{Read, Unread}
+use Rattle.sheet_build.specs.declared.unweighed.Parts.{Parts}
+use Rattle.sheet_build.specs.declared.unweighed.Defs.{Defs}
+use Rattle.sheet_build.specs.declared.unweighed.Defs.TheVariants.{Read, Unread}
 
 -- the definitions that are kept so
 abbrev pub defs_seen : Defs → List Named

@@ -6,7 +6,7 @@ use Rattle.closure_fixpoint.proofs.job_analysis.answer_sheet.Goals as goal
 
 pub returns-in-Ok-clause-told : goal.returns-in-Ok-clause-told
 returns-in-Ok-clause-told g c told is budget pending of_tree calm =
-    put_built told c.args.job.now budget c.args.analysis.now c.put_sheet.new.self c.args.visit.now c.in-Ok.got of_tree (c.put_sheet.ensures.told c.args.visit.now pending calm)
+    put_built told c.args.job.now budget c.args.analysis.now c.put_unweighed.new.self c.args.visit.now c.in-Ok.got of_tree (c.put_unweighed.ensures.told c.args.visit.now pending calm)
     (c.in-Ok.ensures.sheet told is ∙ ap (λ (setup : SetupData). sheet_of told setup c.args.visit.now) c.setup.ensures)
 
 pub returns-in-Err-Large-clause-told : goal.returns-in-Err-Large-clause-told

@@ -7,10 +7,10 @@ use Rattle.search_path.specs.Search.{search}
 use Rattle.sheet_build.specs.Sheet.{definition_in, sheet_from}
 use Rattle.sheet_build.proofs.Adding.{with_defs}
 use Rattle.sheet_build.proofs.DirectivesAlone.{sheet_of_directives}
-use Rattle.sheet_build.proofs.building.sheet_of_body.Goals as goal
+use Rattle.sheet_build.proofs.building.scan_body.Goals as goal
 
-pub returns-clause-sheet : goal.returns-clause-sheet
-returns-clause-sheet g c = λ told is.
+pub returns-clause-file : goal.returns-clause-file
+returns-clause-file g c = λ told is.
     let find = search told c.args.setup.now in
     let visit = c.args.visit.now in
     let trigraphs = c.args.setup.now.trigraphs in
@@ -21,6 +21,5 @@ returns-clause-sheet g c = λ told is.
     let same : sheet_from find visit c.in_ok-pieces.pieces ≡ sheet_from find visit (pieces lines) =
     sheet_of_directives find visit c.in_ok-pieces.pieces c.in_ok-lexed.lexed c.trigraphs.result trigraphs body
     c.in_ok-pieces.ensures read c.trigraphs.ensures (c.directives_stand_alone.ensures lines) in
-    c.in_ok-new.ensures
-    ∙ ap (with_defs (filter_map definition_in c.in_ok-pieces.pieces)) (c.in_ok-parts.ensures.parts told is)
+    ap (with_defs (filter_map definition_in c.in_ok-pieces.pieces)) (c.in_ok-parts.ensures.parts told is)
     ∙ same
