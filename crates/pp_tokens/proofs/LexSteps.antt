@@ -15,7 +15,7 @@ use Rattle.pp_tokens.specs.parts.Packed.{PlaceTold, place_told}
 use Rattle.pp_tokens.specs.parts.Seen.{seen_lines, seen_file, last_end, Ascends, EachWithin}
 use Rattle.pp_tokens.specs.Grammar.{is_white}
 use Rattle.pp_tokens.specs.parts.Text.{after_word, is_due}
-use Rattle.pp_tokens.specs.parts.Gathered.{newlines, lines_left, present_tokens, file_with, lines_with, present_with, before_with, IsGathered, IsPart, GathersNothing, EndsLine, EndsLastLine, AddsToken, AddsGap, Gathers}
+use Rattle.pp_tokens.specs.parts.Gathered.{newlines, lines_left, present_tokens, file_with, lines_with, present_with, before_with, begun_with, IsGathered, IsPart, GathersNothing, EndsLine, EndsLastLine, AddsToken, AddsGap, Gathers}
 use Rattle.pp_tokens.proofs.Reading.{cut_off, next_element, drop_one_more, first_stands, some_length}
 use Rattle.pp_tokens.proofs.LinedRests.{lined_bytes, lined_past, cut_bytes, cut_line}
 use Rattle.pp_tokens.proofs.TextLemmas.{white_first, newline_first, due_or_not, opens_none}
@@ -90,6 +90,7 @@ line_gathered text spelling line old new g e =
       gathered = record { ascends = rw (e.places, e.ends) (ascends_line 0 ends (length places) g.ascends); within = rw e.places g.within };
       few = rw e.places (omega arith);
       before = e.before;
+      begun = e.begun;
       lines = rw (e.places, e.ends) (line_more text places 0 ends g.ascends);
       present = rw (e.places, e.ends) (rw (last_of_more 0 ends (length places), all_dropped places) refl);
       file = λ cells es same is.
@@ -116,6 +117,7 @@ token_gathered text place old new g fits spaced e =
       };
       few = rw e.places (omega (arith, length-append places (place ∷ [])));
       before = e.before;
+      begun = e.begun;
       lines = rw (e.places, e.ends) (same_lines text places place 0 ends g.ascends);
       present = rw (e.places, e.ends) (token_more text places place (last_end 0 ends) last.1)
           ∙ ap (λ (t : Bool). present_tokens text old ++ (record { kind = (place_told place).kind; text = take (place_told place).length (drop (place_told place).start text); line = (place_told place).line; space = t } ∷ [])) spaced;
@@ -172,6 +174,13 @@ gap_before white unended line before spelling gap = refl
 gap_before comment unended line before spelling gap = refl
 gap_before open_comment unended line before spelling gap = refl
 
+gap_begun : (part : Part) (unended : Option ℕ) (line : ℕ) → IsGap part unended line → true ≡ begun_with part
+gap_begun newline unended line gap = absurd gap
+gap_begun (token k) unended line gap = absurd gap
+gap_begun white unended line gap = refl
+gap_begun comment unended line gap = refl
+gap_begun open_comment unended line gap = refl
+
 gap_lines : (part : Part) (unended : Option ℕ) (line : ℕ) (ls : List (List Token)) (ts : List Token) → IsGap part unended line → ls ≡ lines_with part ls ts
 gap_lines newline unended line ls ts gap = absurd gap
 gap_lines (token k) unended line ls ts gap = absurd gap
@@ -192,6 +201,7 @@ gap_gathered text spelling part unended line old new gap g e = record {
   gathered = record { ascends = rw (e.places, e.ends) g.ascends; within = rw e.places g.within };
   few = rw e.places (omega arith);
   before = e.before ∙ gap_before part unended line old.before spelling gap;
+  begun = e.begun ∙ gap_begun part unended line gap;
   lines = rw (e.places, e.ends) (gap_lines part unended line (seen_lines text old.places.items 0 old.ends.items) (present_tokens text old) gap);
   present = rw (e.places, e.ends) (gap_present part unended line (present_tokens text old) spelling old.space gap);
   file = λ cells es same is. gap_file text part unended line old new gap e cells es is;

@@ -1,4 +1,4 @@
--- What is left of a file from a line of text on, part by part, and byte by byte where the bytes are ordinary.
+-- What is left of a file from a line on of which no token more is kept, part by part, and byte by byte where the bytes are ordinary.
 use Rattle.std.specs.Prelude.{◌≡◌, ◌≢◌, ℕ, zero, suc, ◌+◌, ◌-◌, ◌≤◌, ◌<◌, true, false, List, [], ◌∷◌, ◌++◌, length, take, drop, take_while, None, Some, codes, refl}
 use Rattle.std.specs.List.{list_all}
 use Rattle.std.proofs.Common.{sym, ◌∙◌, ap, inl, inr, arith, subst, append_assoc, drop-drop, length-drop}
@@ -6,12 +6,15 @@ use Rattle.std.proofs.Math.Nat.{add-zero}
 use Rattle.std.proofs.Math.Seq.{take-append_seam, drop-append_seam}
 use Rattle.std.proofs.lemmas.List.{length-append, length-map, drop-map}
 use Rattle.std.proofs.lemmas.Bool.{and_parts}
+use Rattle.pp_tokens.specs.declared.due.Before.TheVariants.{Nothing, Other}
 use Rattle.pp_tokens.specs.Phases.{Cell, bytes}
 use Rattle.pp_tokens.specs.Lined.{lined, spliced_up_to}
-use Rattle.pp_tokens.specs.Lines.{Part, newline, white, comment, open_comment, token, LexedFile, header_due, words_after, spells_hash, line_of, unended_line, first_part, elements, Stands}
+use Rattle.pp_tokens.specs.Lines.{Part, newline, white, comment, open_comment, token, LexedFile, header_due, words_after, line_of, unended_line, first_part, elements, Stands}
+use Rattle.pp_tokens.specs.parts.Text.{after_word, is_due}
 use Rattle.pp_tokens.specs.parts.Gathered.{newlines, lines_left, is_long}
-use Rattle.pp_tokens.specs.parts.TextLines.{is_ordinary, text_lines, text_file, text_left, file_behind}
+use Rattle.pp_tokens.specs.parts.TextLines.{is_ordinary, lines_behind, text_file, text_left, file_behind}
 use Rattle.pp_tokens.proofs.Reading.{Front, next_element, drop_one_more, first_stands, some_length}
+use Rattle.pp_tokens.proofs.DueWords.{after_words, due_is, one_word_more}
 use Rattle.pp_tokens.proofs.LinedRests.{lined_bytes, lined_past, cut_line}
 use Rattle.pp_tokens.proofs.OneLine.{all_pass, none_counted}
 use Rattle.pp_tokens.proofs.Closing.{run_front}
@@ -19,24 +22,23 @@ use Rattle.pp_tokens.proofs.SliceLemmas.{comment_at}
 use Rattle.pp_tokens.proofs.OrdinaryParts.{GoesOn, part_goes_on}
 use Rattle.pp_tokens.proofs.LexSteps.{first_within}
 
--- THE WORDS ON A LINE OF TEXT
+-- THE WORDS ON THE LINE
 
--- the words are those of a line of text: there is one, and the first is no `#`
-abbrev pub IsText : List (List ℕ) → Type 0
-IsText [] = ⊥
-IsText (w ∷ ws) = spells_hash w ≡ false
+-- with these words a line asks for no file, whatever else stands on it
+abbrev pub AskNothing : List (List ℕ) → Type 0
+AskNothing ws = after_words Nothing ws ≡ Other
 
 -- no header name is due there
-text_due : (ws : List (List ℕ)) → IsText ws → header_due ws ≡ false
-unfolding header_due
-text_due [] text = absurd text
-text_due (a ∷ []) text = refl
-text_due (a ∷ b ∷ []) text = rw text refl
-text_due (a ∷ b ∷ c ∷ ws) text = rw text refl
+none_due : (ws : List (List ℕ)) → AskNothing ws → header_due ws ≡ false
+none_due ws none = due_is ws ∙ ap is_due none
 
-one_more : (ws : List (List ℕ)) (w : List ℕ) → IsText ws → IsText (ws ++ (w ∷ []))
-one_more [] w text = absurd text
-one_more (v ∷ ws) w text = text
+one_more : (ws : List (List ℕ)) (w : List ℕ) → AskNothing ws → AskNothing (ws ++ (w ∷ []))
+unfolding after_words after_word
+one_more ws w none = one_word_more Nothing ws w ∙ ap (λ before. after_word before w) none
+
+x_asks_nothing : AskNothing (codes "x" ∷ [])
+unfolding after_words after_word
+x_asks_nothing = refl
 
 -- THE NEXT PART
 
@@ -50,44 +52,44 @@ left_behind (token k) line cells = text_left cells
 
 -- whichever words stand on the line, the same is left
 abbrev Same : List Cell → Type 0
-Same cells = (ws : List (List ℕ)) → IsText ws → text_file (elements zero ws cells) ≡ text_left cells
+Same cells = (ws : List (List ℕ)) → AskNothing ws → text_file (elements zero ws cells) ≡ text_left cells
 
-behind_part : (p : Part) (ws : List (List ℕ)) (cells rest : List Cell) → IsText ws → Same rest
+behind_part : (p : Part) (ws : List (List ℕ)) (cells rest : List Cell) → AskNothing ws → Same rest
     → text_file (record { part = p; cells = cells } ∷ elements zero (words_after ws (record { part = p; cells = cells })) rest) ≡ left_behind p (line_of cells) rest
-unfolding words_after text_lines unended_line
-behind_part newline ws cells rest text same = refl
-behind_part white ws cells rest text same = same ws text
-behind_part comment ws cells rest text same = same ws text
-behind_part open_comment ws cells rest text same = ap (λ (f : LexedFile). record { lines = f.lines; unended = Some (line_of cells) }) (same ws text)
-behind_part (token k) ws cells rest text same = same (ws ++ (bytes cells ∷ [])) (one_more ws (bytes cells) text)
+unfolding words_after lines_behind unended_line
+behind_part newline ws cells rest none same = refl
+behind_part white ws cells rest none same = same ws none
+behind_part comment ws cells rest none same = same ws none
+behind_part open_comment ws cells rest none same = ap (λ (f : LexedFile). record { lines = f.lines; unended = Some (line_of cells) }) (same ws none)
+behind_part (token k) ws cells rest none same = same (ws ++ (bytes cells ∷ [])) (one_more ws (bytes cells) none)
 
-next_part : (ws : List (List ℕ)) (c : Cell) (cs : List Cell) (p : Part) (n : ℕ) → IsText ws → first_part false (bytes (c ∷ cs)) ≡ (p, n) → Same (drop (n - 1) cs)
+next_part : (ws : List (List ℕ)) (c : Cell) (cs : List Cell) (p : Part) (n : ℕ) → AskNothing ws → first_part false (bytes (c ∷ cs)) ≡ (p, n) → Same (drop (n - 1) cs)
     → text_file (elements zero ws (c ∷ cs)) ≡ left_behind p (line_of (take n (c ∷ cs))) (drop (n - 1) cs)
-next_part ws c cs p n text found same =
-    let due : first_part (header_due ws) (bytes (c ∷ cs)) ≡ (p, n) = rw (text_due ws text) found in
-    ap text_file (next_element ws c cs (p, n) due) ∙ behind_part p ws (take n (c ∷ cs)) (drop (n - 1) cs) text same
+next_part ws c cs p n none found same =
+    let due : first_part (header_due ws) (bytes (c ∷ cs)) ≡ (p, n) = rw (none_due ws none) found in
+    ap text_file (next_element ws c cs (p, n) due) ∙ behind_part p ws (take n (c ∷ cs)) (drop (n - 1) cs) none same
 
 first_some : (c : Cell) (cs : List Cell) (p : Part) (n : ℕ) → first_part false (bytes (c ∷ cs)) ≡ (p, n) → 0 < n
 first_some c cs p n found = (first_within false (bytes (c ∷ cs)) p n (omega arith) (sym found)).0
 
 same_up_to : (m : ℕ) (cells : List Cell) → length cells ≤ m → Same cells
 unfolding elements
-same_up_to m [] h ws text = refl
-same_up_to zero (c ∷ cs) h ws text = absurd (omega arith)
-same_up_to (suc m) (c ∷ cs) h ws text =
+same_up_to m [] h ws none = refl
+same_up_to zero (c ∷ cs) h ws none = absurd (omega arith)
+same_up_to (suc m) (c ∷ cs) h ws none =
     let f = first_part false (bytes (c ∷ cs)) in
     let behind : Same (drop (f.1 - 1) cs) = same_up_to m (drop (f.1 - 1) cs) (omega (arith, length-drop (f.1 - 1) cs)) in
-    next_part ws c cs f.0 f.1 text refl behind ∙ sym (next_part (codes "x" ∷ []) c cs f.0 f.1 refl refl behind)
+    next_part ws c cs f.0 f.1 none refl behind ∙ sym (next_part (codes "x" ∷ []) c cs f.0 f.1 x_asks_nothing refl behind)
 
--- it doesn't matter which words stand on a line of text
-pub same_left : (cells : List Cell) (ws : List (List ℕ)) → IsText ws → text_file (elements zero ws cells) ≡ text_left cells
-same_left cells ws text = same_up_to (length cells) cells (omega arith) ws text
+-- it doesn't matter which words stand on the line
+pub same_left : (cells : List Cell) (ws : List (List ℕ)) → AskNothing ws → text_file (elements zero ws cells) ≡ text_left cells
+same_left cells ws none = same_up_to (length cells) cells (omega arith) ws none
 
 -- what is left behind the part that stands first
 left_step : (cells : List Cell) (p : Part) (n : ℕ) → 0 < length cells → first_part false (bytes cells) ≡ (p, n) → text_left cells ≡ left_behind p (line_of (take n cells)) (drop n cells)
 left_step [] p n some found = absurd (omega arith)
 left_step (c ∷ cs) p n some found =
-    next_part (codes "x" ∷ []) c cs p n refl found (λ ws text. same_left (drop (n - 1) cs) ws text)
+    next_part (codes "x" ∷ []) c cs p n x_asks_nothing found (λ ws none. same_left (drop (n - 1) cs) ws none)
     ∙ ap (left_behind p (line_of (take n (c ∷ cs)))) (sym (drop_one_more n c cs (first_some c cs p n found)))
 
 short_behind : (p : Part) (line : ℕ) (cells : List Cell) → is_long p ≡ false → left_behind p line cells ≡ text_left cells
@@ -212,12 +214,12 @@ open_is_rest (b ∷ bs) n some is = open_front (b ∷ bs) n (subst (Front false 
 
 pub nothing_left : (splices : List ℕ) (at base : ℕ) (xs : List ℕ) → xs ≡ []
     → text_left (lined splices at base xs) ≡ file_behind None (elements zero [] (lined splices at base xs))
-unfolding lined elements text_lines lines_left unended_line
+unfolding lined elements lines_behind lines_left unended_line
 nothing_left splices at base [] none = refl
 nothing_left splices at base (b ∷ bs) none = absurd (cc)
 
 pub comment_left : (line : ℕ) (splices : List ℕ) (at base other : ℕ) (xs : List ℕ) → xs ≡ []
     → left_behind open_comment line (lined splices at base xs) ≡ file_behind (Some line) (elements zero [] (lined splices at other xs))
-unfolding lined elements text_lines lines_left unended_line
+unfolding lined elements lines_behind lines_left unended_line
 comment_left line splices at base other [] none = refl
 comment_left line splices at base other (b ∷ bs) none = absurd (cc)

@@ -6,9 +6,10 @@
 // memory of its own, and time is linear in the body, since a quote or a delimiter without a partner is looked for once a line
 // (`unpaired.rt`). What holds between two parts stands in specs/parts/Gathered.antt.
 //
-// `gather_directives` keeps the tokens of directives alone (6.10 paragraph 2; `directives_alone` in specs/DirectiveLines.antt). It goes as
-// `gather` does up to the first token of a line of text, and from there to the end of that line by `text_line.rt`, which passes over its
-// tokens. What is left of a file from there on stands in specs/parts/TextLines.antt.
+// `gather_directives` keeps the tokens of directives alone (6.10 paragraph 2), all of them or as far as they may ask for a file
+// (`kept_alone` in specs/DirectiveLines.antt). It goes as `gather` does up to the first token of a line of text, or the name of a
+// directive that asks for none, and from there to the end of that line by `text_line.rt`, which passes over its tokens. What is left
+// of a file from there on stands in specs/parts/TextLines.antt.
 ghost use Rattle.std.specs.Prelude.{◌≡◌, ◌≤◌, ◌<◌, ◌+◌, ◌-◌, ◌∷◌, ℕ, true, [], None, zero, length, take, drop, get_or, IfOk, slice_get, option_map, option_and_then, take_while};
 ghost use Rattle.std.specs.List.{flat_map};
 ghost use Rattle.std.specs.Option.{option_map_or};
@@ -17,7 +18,7 @@ ghost use Rattle.pp_tokens.specs.parts.Gathered.{newlines, GathersNothing, EndsL
 ghost use Rattle.pp_tokens.specs.Grammar.{is_white};
 ghost use Rattle.pp_tokens.specs.Lined.{lined, spliced_up_to, Rising};
 ghost use Rattle.pp_tokens.specs.Lines.{all_tokens, elements, file_of, first_part, lexed};
-ghost use Rattle.pp_tokens.specs.DirectiveLines.{directives_alone};
+ghost use Rattle.pp_tokens.specs.DirectiveLines.{kept_alone, directives_alone, asking_alone};
 ghost use Rattle.pp_tokens.specs.parts.Packed.{place_told};
 ghost use Rattle.pp_tokens.specs.parts.Seen.{seen_file, token_of_place};
 ghost use Rattle.pp_tokens.specs.parts.Text.{is_due, part_told};
@@ -31,7 +32,7 @@ use crate::part::{What, next_part};
 use crate::place::Place;
 use crate::quoted::word_at;
 use crate::source::{SourceText, read_source};
-use crate::text_line::{begins_line, begins_text, line_end};
+use crate::text_line::{asks_nothing, begins_line, begins_name, begins_text, line_end};
 use crate::token::{Kind, TokenRef};
 use crate::unpaired::Unpaired;
 use std::alloc::{AllocError, Global};
@@ -431,13 +432,18 @@ pub fn lex_body(alloc: Global, body: Vec<u8>, trigraphs: bool) -> Result<Lexed, 
     Ok(finished(text, gathering))
 }
 
-// What is gathered of a whole text's directives alone.
+// What is gathered of a whole text's directives alone: all of it, or what may ask for a file.
 #[inline(never)]
-fn gather_directives(alloc: Global, text: &[u8], splices: &[u32]) -> Result<Gathering, AllocError>
+fn gather_directives(
+    alloc: Global,
+    text: &[u8],
+    splices: &[u32],
+    whole: bool,
+) -> Result<Gathering, AllocError>
     requires small { length text.now + length splices.now ≤ body_limit + 1 }
     requires short { length text.now ≤ body_limit + newlines text.now }
     requires rising { Rising 0 splices.now }
-    ensures file { IfOk result (λ g. seen_file text.now g.places.items g.ends.items g.unended ≡ directives_alone (file_of (elements zero [] (lined splices.now 0 1 text.now)))) }
+    ensures file { IfOk result (λ g. seen_file text.now g.places.items g.ends.items g.unended ≡ kept_alone whole (file_of (elements zero [] (lined splices.now 0 1 text.now)))) }
     ensures gathered { IfOk result (λ g. IsGathered text.now g) }
 {
     // Directives have less than half of most files' tokens.
@@ -471,14 +477,31 @@ fn gather_directives(alloc: Global, text: &[u8], splices: &[u32]) -> Result<Gath
                     at += size;
                 }
             } else {
+                let named = begins_name(gathering.before);
                 let (end, line) = put_first(&mut gathering, text, at, base, passed, &mut unpaired)?;
-                at = end;
-                base = line;
+                if !whole && named && asks_nothing(gathering.before) {
+                    let rest = line_end(text, splices, end, line, passed, &mut unpaired);
+                    gathering.end_text(rest.comment)?;
+                    base = rest.base;
+                    at = rest.at;
+                } else {
+                    at = end;
+                    base = line;
+                }
             }
         }
     }
     gathering.end_last_line()?;
     Ok(gathering)
+}
+
+fn lex_kept(alloc: Global, body: Vec<u8>, trigraphs: bool, whole: bool) -> Result<Lexed, AllocError>
+    requires small { length body.items ≤ body_limit }
+    ensures { IfOk result (λ l. l ≡ kept_alone whole (lexed trigraphs body.items)) }
+{
+    let SourceText { text, splices } = read_source(alloc, body, trigraphs)?;
+    let gathering = gather_directives(alloc, &text, &splices, whole)?;
+    Ok(finished(text, gathering))
 }
 
 /// The directives of a file's body, of at most 16 MiB: its logical lines as `lex` gives them, but those that begin with no `#`
@@ -487,9 +510,17 @@ pub fn lex_directives(alloc: Global, body: Vec<u8>, trigraphs: bool) -> Result<L
     requires small { length body.items ≤ body_limit }
     ensures { IfOk result (λ l. l ≡ directives_alone (lexed trigraphs body.items)) }
 {
-    let SourceText { text, splices } = read_source(alloc, body, trigraphs)?;
-    let gathering = gather_directives(alloc, &text, &splices)?;
-    Ok(finished(text, gathering))
+    lex_kept(alloc, body, trigraphs, true)
+}
+
+/// The same as far as a directive may ask for a file: of `#include` and of what begins or goes on with a condition all tokens
+/// (ISO C 6.10.1, 6.10.2), of each other directive its `#` and the token behind it. Half of most headers' directive tokens are
+/// those of macro definitions, which are passed over as text is.
+pub fn lex_asking(alloc: Global, body: Vec<u8>, trigraphs: bool) -> Result<Lexed, AllocError>
+    requires small { length body.items ≤ body_limit }
+    ensures { IfOk result (λ l. l ≡ asking_alone (lexed trigraphs body.items)) }
+{
+    lex_kept(alloc, body, trigraphs, false)
 }
 
 // The number of the first place of a line.

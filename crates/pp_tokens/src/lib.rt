@@ -25,7 +25,7 @@ pub use base_types::{Bytes, List};
 pub use class::is_text_mark;
 pub use excerpt::Excerpt;
 pub use law::{one_reading, tokens_are_slices};
-pub use lexer::{Lexed, lex, lex_body, lex_directives};
+pub use lexer::{Lexed, lex, lex_asking, lex_body, lex_directives};
 pub use plain::{is_plain, is_simple_name};
 pub use single::{goes_on, single_token};
 pub use token::{Kind, Token, TokenRef};

@@ -1,10 +1,11 @@
-// Where a line of text ends (ISO C 6.10 paragraph 2). Of its tokens none is kept, so only what may end a line or hide a
+// Where a line ends of which no token more is kept: a line of text (ISO C 6.10 paragraph 2), or a directive that asks for no
+// file. So only what may end a line or hide a
 // newline is read as a part: literals and comments. All other bytes are stepped over one by one, wherever tokens begin.
 ghost use Rattle.std.specs.Prelude.{◌≡◌, ◌+◌, ◌≤◌, length, drop, take_while};
 ghost use Rattle.base_types.specs.Limits.{body_limit};
 ghost use Rattle.pp_tokens.specs.Lined.{spliced_up_to, Rising};
 ghost use Rattle.pp_tokens.specs.Lines.{spells_hash};
-ghost use Rattle.pp_tokens.specs.parts.TextLines.{is_ordinary, is_token_part, begins_line, begins_text, EndsText};
+ghost use Rattle.pp_tokens.specs.parts.TextLines.{is_ordinary, is_token_part, begins_line, begins_name, asks_nothing, begins_text, EndsText};
 ghost use Rattle.pp_tokens.specs.parts.Text.{part_told};
 ghost use Rattle.pp_tokens.specs.parts.Unpaired.{KnowsUnpaired};
 
@@ -14,7 +15,7 @@ use crate::part::{What, next_part};
 use crate::run::{Ordinary, run_length};
 use crate::unpaired::Unpaired;
 
-/// Where the line behind a line of text begins, the physical line of that place without its splices, and the physical line
+/// Where the line behind such a line begins, the physical line of that place without its splices, and the physical line
 /// of a comment that begins on the line and never ends.
 #[derive(Clone, Copy, Drop)]
 pub struct LineEnd {
@@ -36,6 +37,20 @@ pub fn begins_line(before: Before) -> bool
     matches!(before, Before::Nothing)
 }
 
+/// Whether a line has its `#` alone so far.
+pub fn begins_name(before: Before) -> bool
+    ensures { result ≡ begins_name before }
+{
+    matches!(before, Before::Hash)
+}
+
+/// Whether a line asks for no file, whatever else stands on it.
+pub fn asks_nothing(before: Before) -> bool
+    ensures { result ≡ asks_nothing before }
+{
+    matches!(before, Before::Other)
+}
+
 /// Whether a part is the first token of a line of text.
 pub fn begins_text(before: Before, what: What, word: &[u8]) -> bool
     ensures { result ≡ begins_text before (part_told what) word.now }
@@ -53,7 +68,7 @@ fn ordinary_at(text: &[u8], at: usize) -> usize
     run_length::<Ordinary>(rest)
 }
 
-/// The end of a line of text, from a place behind its first token on, with the physical line of that place and the splices
+/// The end of a line, from a place on where no header name is due on it, with the physical line of that place and the splices
 /// that are known to stand before it.
 #[inline(never)]
 pub fn line_end(

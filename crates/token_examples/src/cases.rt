@@ -3,7 +3,9 @@ use crate::results::{add_counts, add_header, add_nesting, add_pieces, add_result
 use base_types::limits::BODY_LIMIT;
 use bstr::ByteVec;
 use case_texts::{Cases, Wrong, cut, number_of};
-use pp_tokens::{Lexed, is_plain, is_simple_name, lex_body, lex_directives, single_token};
+use pp_tokens::{
+    Lexed, is_plain, is_simple_name, lex_asking, lex_body, lex_directives, single_token,
+};
 use std::alloc::{AllocError, Global};
 
 /// Cases of bodies, each on a line.
@@ -83,6 +85,7 @@ fn do_body(
         "simple" => add_result(out, &is_simple_name(&body))?,
         "single" => add_result(out, &single_token(&body))?,
         "directives" => add_tokens(alloc, out, &lex_directives(alloc, body, trigraphs)?)?,
+        "asking" => add_tokens(alloc, out, &lex_asking(alloc, body, trigraphs)?)?,
         _ => add_lexed(alloc, out, word, lex_body(alloc, body, trigraphs)?)?,
     }
     Ok(())

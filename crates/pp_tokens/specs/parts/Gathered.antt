@@ -109,6 +109,10 @@ pub record AddsGap (old new : Gathering) (unended : Option ℕ) : Type 0 where
   pub begun : new.begun ≡ true
   pub space : new.space ≡ true
 
+-- a part other than a newline stands on a line that has begun
+abbrev pub begun_with : Part → Bool
+begun_with part = elim part [ newline ↦ false | _ ↦ true ]
+
 -- what stands on the line behind one part more
 abbrev pub before_with : Part → Before → List ℕ → Before
 before_with newline before spelling = Nothing
@@ -131,6 +135,7 @@ pub record Gathers (text : List ℕ) (old new : Gathering) (part : Part) (spelli
   pub gathered : IsGathered text new
   pub few : length new.places.items ≤ length old.places.items + 1
   pub before : new.before ≡ before_with part old.before spelling
+  pub begun : new.begun ≡ begun_with part
   pub lines : seen_lines text new.places.items 0 new.ends.items ≡ lines_with part (seen_lines text old.places.items 0 old.ends.items) (present_tokens text old)
   pub present : present_tokens text new ≡ present_with part (present_tokens text old) spelling line old.space
   pub file : (cells : List Cell) (es : List Element) → bytes cells ≡ spelling → line_of cells ≡ line

@@ -1,42 +1,40 @@
--- What is left of a file from a line of text on, where a line of text tells no more than that it is there. No public
--- contract rests on these.
-use Rattle.std.specs.Prelude.{◌≡◌, ℕ, zero, ◌+◌, ◌≤◌, Bool, true, false, not, ◌&&◌, ◌||◌, List, [], ◌∷◌, map, length, drop, ◌==◌, codes, Option}
+-- What is left of a file from a line on of which no token more is kept. No public contract rests on these.
+use Rattle.std.specs.Prelude.{◌≡◌, ℕ, zero, ◌+◌, ◌≤◌, Bool, true, false, not, ◌&&◌, ◌||◌, List, [], ◌∷◌, length, drop, ◌==◌, codes, Option}
 use Rattle.base_types.specs.Ascii as ascii
 use Rattle.pp_tokens.specs.declared.due.Before.{Before}
-use Rattle.pp_tokens.specs.declared.due.Before.TheVariants.{Nothing}
+use Rattle.pp_tokens.specs.declared.due.Before.TheVariants.{Nothing, Hash, Other}
 use Rattle.pp_tokens.specs.declared.text_line.LineEnd.{LineEnd}
 use Rattle.pp_tokens.specs.declared.token.Token.{Token}
 use Rattle.pp_tokens.specs.Phases.{Cell}
 use Rattle.pp_tokens.specs.Lined.{lined}
 use Rattle.pp_tokens.specs.Lines.{Part, newline, token, Element, LexedFile, elements, or_else, spells_hash, unended_line}
-use Rattle.pp_tokens.specs.DirectiveLines.{directive_line}
 use Rattle.pp_tokens.specs.parts.Gathered.{lines_left}
 
 -- a byte that ends no line, and neither begins nor ends a comment or a literal
 abbrev pub is_ordinary : ℕ → Bool
 is_ordinary b = not ((b == ascii.newline) || ((b == ascii.quote) || ((b == ascii.apostrophe) || (b == ascii.slash))))
 
--- the lines from a line of text on
-unfoldable pub text_lines : List Element → List (List Token)
-text_lines [] = [] ∷ []
-text_lines (e ∷ es) = elim e.part [ newline ↦ [] ∷ map directive_line (lines_left false [] true es) | _ ↦ text_lines es ]
+-- the lines behind the one that has begun
+unfoldable pub lines_behind : List Element → List (List Token)
+lines_behind [] = []
+lines_behind (e ∷ es) = elim e.part [ newline ↦ lines_left false [] true es | _ ↦ lines_behind es ]
 
--- the file from a line of text on
+-- the file behind the line that has begun, with a comment of that line that never ends
 abbrev pub text_file : List Element → LexedFile
-text_file es = record { lines = text_lines es; unended = unended_line es }
+text_file es = record { lines = lines_behind es; unended = unended_line es }
 
--- the file from here on, where a line of text has begun; with which word doesn't matter
+-- the same from here on, where no header name is due on the line; with which words it has begun doesn't matter
 abbrev pub text_left : List Cell → LexedFile
 text_left cells = text_file (elements zero (codes "x" ∷ []) cells)
 
--- the file from the end of a line of text on, where this is the line of a comment that never ends
+-- the file from the end of a line on, where this is the line of a comment that never ends
 abbrev pub file_behind : Option ℕ → List Element → LexedFile
 file_behind comment es = record {
-  lines = [] ∷ map directive_line (lines_left false [] true es);
+  lines = lines_left false [] true es;
   unended = or_else comment (unended_line es);
 }
 
--- a line of text has its end there
+-- a line of which no token more is kept has its end there
 pub record EndsText (text splices : List ℕ) (at base : ℕ) (end : LineEnd) : Type 0 where
   pub within : end.at ≤ length text
   pub later : at ≤ end.at
@@ -46,6 +44,14 @@ pub record EndsText (text splices : List ℕ) (at base : ℕ) (end : LineEnd) : 
 -- nothing but white space and comments stands on the line
 abbrev pub begins_line : Before → Bool
 begins_line before = elim before [ Nothing ↦ true | _ ↦ false ]
+
+-- the line has its `#` alone so far
+abbrev pub begins_name : Before → Bool
+begins_name before = elim before [ Hash ↦ true | _ ↦ false ]
+
+-- whatever else stands on the line, it asks for no file
+abbrev pub asks_nothing : Before → Bool
+asks_nothing before = elim before [ Other ↦ true | _ ↦ false ]
 
 abbrev pub is_token_part : Part → Bool
 is_token_part part = elim part [ token k ↦ true | _ ↦ false ]

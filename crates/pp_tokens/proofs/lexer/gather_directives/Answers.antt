@@ -1,22 +1,21 @@
 use Rattle.std.proofs.Common.{◌≡◌, ◌≤◌, ◌<◌, ◌+◌, ◌-◌, ℕ, true, false, ◌&&◌, not, length, take, drop, ap, ◌∙◌, sym, arith, length-drop, subst, ◌==◌}
 use Rattle.std.proofs.lemmas.List.Sums.{count_by-le-length}
 use Rattle.std.proofs.lemmas.List.{length-take-le}
-use Rattle.std.proofs.lemmas.Bool.{and_parts}
 use Rattle.pp_tokens.specs.Lined.{spliced_up_to}
 use Rattle.pp_tokens.specs.Lines.{Part, newline, first_part, spells_hash}
-use Rattle.pp_tokens.specs.DirectiveLines.{directives_alone}
+use Rattle.pp_tokens.specs.DirectiveLines.{kept_alone}
 use Rattle.pp_tokens.specs.parts.Gathered.{newlines, IsPart, Gathers}
 use Rattle.pp_tokens.specs.parts.Text.{is_due, part_told}
-use Rattle.pp_tokens.specs.parts.TextLines.{is_token_part, begins_line, begins_text}
+use Rattle.pp_tokens.specs.parts.TextLines.{is_token_part, begins_line, asks_nothing, begins_text}
 use Rattle.pp_tokens.specs.parts.Unpaired.{KnowsUnpaired}
 use Rattle.pp_tokens.proofs.FirstPut.{PutOn, first_put, known_behind}
 use Rattle.pp_tokens.proofs.LaterPlaces.{known_later}
 use Rattle.pp_tokens.proofs.Splices.{up_to_all, up_to_later}
 use Rattle.pp_tokens.proofs.ShortParts.{short_stretch}
 use Rattle.pp_tokens.proofs.LexSteps.{first_within, first_is_part, nothing_gathered, lex_start, lex_step, lex_end, white_up_to, newline_at}
-use Rattle.pp_tokens.proofs.DirectiveSteps.{nothing_outlined, gap_outlined, part_outlined, text_outlined, text_step, end_outlined, is_a_token, newline_no_text}
+use Rattle.pp_tokens.proofs.DirectiveSteps.{nothing_outlined, gap_outlined, part_outlined, text_outlined, text_step, end_outlined, is_cut, cut_named, cut_step, uncut_asking, uncut_behind, uncut_start, uncut_whole, is_a_token, newline_no_text}
 use Rattle.pp_tokens.proofs.lexer.gather_directives.Goals as goal
-use Rattle.pp_tokens.proofs.lexer.gather_directives.Goals.{After-next_part-what, In_ok-end}
+use Rattle.pp_tokens.proofs.lexer.gather_directives.Goals.{After-next_part-what, In_ok-end, else-not-whole-via-then-not-whole+then-named+else-asks_nothing, else-not-whole-via-then-not-whole+else-named, else-not-whole-via-else-not-whole}
 
 pub loop-at-init : goal.loop-at-init
 loop-at-init c =
@@ -29,8 +28,8 @@ loop-at-init c =
       known = c.new-unpaired.ensures text 0;
       few = rw c.in_ok-gathering.ensures.places (omega arith);
       gathered = nothing_gathered text g c.in_ok-gathering.ensures;
-      outlined = nothing_outlined text g c.in_ok-gathering.ensures;
-      state = lex_start directives_alone text c.args.splices.now g c.in_ok-gathering.ensures;
+      outlined = nothing_outlined c.args.whole text g c.in_ok-gathering.ensures;
+      state = lex_start (kept_alone c.args.whole) text c.args.splices.now g c.in_ok-gathering.ensures;
     }
 
 -- what stands first isn't empty, and lies within the text
@@ -87,9 +86,8 @@ loop-at-preserved-then-begins_text c =
     let word = take n (drop at text) in
     let begins : begins_text old.before (part_told c.next_part-what.result.0) word ≡ true =
     ap (begins_text old.before (part_told c.next_part-what.result.0)) (sym c.stretch-word.ensures) ∙ sym c.begins_text.ensures ∙ c.if-begins_text.true in
-    let starts : begins_line old.before ≡ true = (and_parts (begins_line old.before) _ begins).0 in
     let kind = is_a_token old.before (part_told c.next_part-what.result.0) word begins in
-    let ended = text_outlined text old new end.comment c.loop-at.invariant.gathered c.loop-at.invariant.outlined starts c.in_ok-end_text.ensures in
+    let ended = text_outlined c.args.whole text old new end.comment c.loop-at.invariant.gathered c.loop-at.invariant.outlined c.in_ok-end_text.ensures in
     let same : at + (end.at - at) ≡ end.at = omega (arith, c.line_end-end.ensures.end.later) in
     record {
       within = c.line_end-end.ensures.end.within;
@@ -99,7 +97,7 @@ loop-at-preserved-then-begins_text c =
       few = omega (arith, ap length c.in_ok-end_text.ensures.places, c.loop-at.invariant.few, c.line_end-end.ensures.end.later);
       gathered = ended.0;
       outlined = ended.1;
-      state = text_step text splices old new at c.loop-at.base n kind.0 end c.loop-at.invariant.state c.loop-at.invariant.gathered c.loop-at.invariant.outlined c.loop-at-test.true
+      state = text_step c.args.whole text splices old new at c.loop-at.base n kind.0 end c.loop-at.invariant.state c.loop-at.invariant.gathered c.loop-at.invariant.outlined c.loop-at-test.true
           (subst (λ p. ◌≡◌ {A = Part × ℕ} (p, n) (first_part (is_due old.before) (drop at text))) kind.1 (first s))
           (subst (λ p. begins_text old.before p word ≡ true) kind.1 begins)
           c.line_end-end.ensures.end c.in_ok-end_text.ensures;
@@ -145,7 +143,7 @@ loop-at-preserved-then-is_white c =
     let new = c.add_white.new.self in
     let same : at + n ≡ end = omega (arith, c.white_end-at.ensures.later) in
     let run =
-    white_up_to directives_alone text splices old new at c.loop-at.base end c.loop-at.invariant.gathered c.loop-at.invariant.state c.add_white.ensures
+    white_up_to (kept_alone c.args.whole) text splices old new at c.loop-at.base end c.loop-at.invariant.gathered c.loop-at.invariant.state c.add_white.ensures
     c.white_end-at.ensures.later c.white_end-at.ensures.within c.white_end-at.ensures.white in
     record {
       within = c.white_end-at.ensures.within;
@@ -154,7 +152,7 @@ loop-at-preserved-then-is_white c =
       known = subst (KnowsUnpaired c.loop-at.unpaired text) same (known_later c.loop-at.unpaired text at n c.loop-at.invariant.known);
       few = omega (arith, c.loop-at.invariant.few, ap length c.add_white.ensures.places, c.white_end-at.ensures.later);
       gathered = run.1;
-      outlined = gap_outlined text old new _ c.loop-at.invariant.outlined c.add_white.ensures;
+      outlined = gap_outlined c.args.whole text old new _ c.loop-at.invariant.outlined c.add_white.ensures;
       state = run.0;
     }
 
@@ -166,7 +164,7 @@ loop-at-preserved-then-text-at-eq10 c =
     let old = c.loop-at.gathering in
     let new = c.end_line.new.self in
     let next =
-    newline_at directives_alone text splices old new at c.loop-at.base c.loop-at.invariant.gathered c.loop-at.invariant.state c.in_ok-end_line.ensures
+    newline_at (kept_alone c.args.whole) text splices old new at c.loop-at.base c.loop-at.invariant.gathered c.loop-at.invariant.state c.in_ok-end_line.ensures
     c.loop-at-test.true c.if-text-at-eq10.true in
     record {
       within = omega (arith, c.loop-at-test.true);
@@ -175,8 +173,8 @@ loop-at-preserved-then-text-at-eq10 c =
       known = known_later c.loop-at.unpaired text at 1 c.loop-at.invariant.known;
       few = omega (arith, c.loop-at.invariant.few, next.1.few);
       gathered = next.1.gathered;
-      outlined = part_outlined text (take 1 (drop at text)) old new newline (c.loop-at.base + spliced_up_to splices at) c.loop-at.invariant.outlined next.1
-          (newline_no_text old.before (take 1 (drop at text)));
+      outlined = part_outlined c.args.whole text (take 1 (drop at text)) old new newline (c.loop-at.base + spliced_up_to splices at) c.loop-at.invariant.outlined next.1
+          (newline_no_text old.before (take 1 (drop at text))) (uncut_asking c.args.whole old.before new.before (ap asks_nothing c.in_ok-end_line.ensures.before));
       state = next.0;
     }
 
@@ -205,8 +203,9 @@ loop-at-preserved-else-begins_text c =
       known = known_later c.next_part-what.new.unpaired text at n c.next_part-what.ensures.known;
       few = omega (arith, c.loop-at.invariant.few, step.few, size.0);
       gathered = step.gathered;
-      outlined = part_outlined text word old new part (c.loop-at.base + spliced_up_to splices at) c.loop-at.invariant.outlined step other;
-      state = rw passed (lex_step directives_alone text splices old new at c.loop-at.base n part c.loop-at.invariant.state c.loop-at-test.true (first s) step);
+      outlined = part_outlined c.args.whole text word old new part (c.loop-at.base + spliced_up_to splices at) c.loop-at.invariant.outlined step other
+          (uncut_start c.args.whole old.before new.before (sym c.begins_line.ensures ∙ c.if-begins_line.true));
+      state = rw passed (lex_step (kept_alone c.args.whole) text splices old new at c.loop-at.base n part c.loop-at.invariant.state c.loop-at-test.true (first s) step);
     }
 
 pub put_first-requires-clause-passed : goal.put_first-requires-clause-passed
@@ -214,17 +213,61 @@ put_first-requires-clause-passed c =
     omega (arith, c.loop-at.invariant.counted, c.loop-at-test.true, c.splices_passed-passed.ensures, up_to_all c.args.splices.now c.loop-at.at, c.requires.small)
 
 put_on : (c : In_ok-end)
-    → PutOn directives_alone c.args.text.now c.args.splices.now c.put_first.new.gathering c.loop-at.at c.splices_passed-passed.result (c.in_ok-end.end, c.in_ok-end.line)
+    → PutOn (kept_alone c.args.whole) c.args.text.now c.args.splices.now c.put_first.new.gathering c.loop-at.at c.splices_passed-passed.result (c.in_ok-end.end, c.in_ok-end.line)
 put_on c =
-    first_put directives_alone c.args.text.now c.args.splices.now c.loop-at.gathering c.put_first.new.gathering c.loop-at.at c.loop-at.base c.splices_passed-passed.result
+    first_put (kept_alone c.args.whole) c.args.text.now c.args.splices.now c.loop-at.gathering c.put_first.new.gathering c.loop-at.at c.loop-at.base c.splices_passed-passed.result
     (c.in_ok-end.end, c.in_ok-end.line) c.loop-at-test.true c.loop-at.invariant.counted c.loop-at.invariant.few c.splices_passed-passed.ensures c.loop-at.invariant.state c.in_ok-end.ensures.puts
 
+-- what stands there isn't the first token of its line
+begun : (c : In_ok-end) → begins_line c.loop-at.gathering.before ≡ false
+begun c = sym c.begins_line.ensures ∙ c.if-begins_line.false
+
+pub line_end-rest-requires-clause-within : goal.line_end-rest-requires-clause-within
+line_end-rest-requires-clause-within c = (put_on (goal.at.line_end-rest-requires-clause-within c).In_ok-end).within
+
+pub line_end-rest-requires-clause-passed : goal.line_end-rest-requires-clause-passed
+line_end-rest-requires-clause-passed c = (put_on (goal.at.line_end-rest-requires-clause-passed c).In_ok-end).passes
+
+pub loop-at-smaller-then-asks_nothing : goal.loop-at-smaller-then-asks_nothing
+loop-at-smaller-then-asks_nothing c =
+    let on = put_on (goal.at.loop-at-smaller-then-asks_nothing c).In_ok-end in
+    omega (arith, on.later, on.within, c.line_end-rest.ensures.end.later, c.line_end-rest.ensures.end.within)
+
+pub loop-at-preserved-then-asks_nothing : goal.loop-at-preserved-then-asks_nothing
+loop-at-preserved-then-asks_nothing c =
+    let on = put_on (goal.at.loop-at-preserved-then-asks_nothing c).In_ok-end in
+    let text = c.args.text.now in
+    let splices = c.args.splices.now in
+    let at = c.loop-at.at in
+    let old = c.loop-at.gathering in
+    let named = c.put_first.new.gathering in
+    let new = c.end_text-then-asks_nothing.new.self in
+    let put = c.in_ok-end.ensures.puts in
+    let end = c.line_end-rest.result in
+    let name = c.in_ok-end.end in
+    let same : name + (end.at - name) ≡ end.at = omega (arith, c.line_end-rest.ensures.end.later) in
+    let cuts : is_cut c.args.whole old.before named.before ≡ true =
+    (λ i. not (c.if-not-whole.true i) && ((sym c.begins_name-named.ensures ∙ c.if-named.true) i && (sym c.asks_nothing.ensures ∙ c.if-asks_nothing.true) i)) in
+    let cut = cut_named c.args.whole text (take put.size (drop at text)) old named put.part (c.loop-at.base + c.splices_passed-passed.result) c.loop-at.invariant.outlined put.gathers cuts in
+    let step = cut_step c.args.whole text splices named new name c.in_ok-end.line end on.state on.gathered cut c.line_end-rest.ensures.end c.in_ok-end_text-2.ensures in
+    record {
+      within = c.line_end-rest.ensures.end.within;
+      counted = c.line_end-rest.ensures.end.counted;
+      passes = omega (arith, on.passes, up_to_later splices name (end.at - name), ap (spliced_up_to splices) same);
+      known = c.line_end-rest.ensures.known;
+      few = omega (arith, ap length c.in_ok-end_text-2.ensures.places, on.few, c.line_end-rest.ensures.end.later);
+      gathered = step.1.0;
+      outlined = step.1.1;
+      state = step.0;
+    }
+
 pub loop-at-smaller : goal.loop-at-smaller
-loop-at-smaller c = let on = put_on c in omega (arith, on.later, on.within)
+loop-at-smaller c = let on = put_on (goal.at.loop-at-smaller c).In_ok-end in omega (arith, on.later, on.within)
 
 pub loop-at-preserved : goal.loop-at-preserved
 loop-at-preserved c =
-    let on = put_on c in
+    let s = (goal.at.loop-at-preserved c).In_ok-end in
+    let on = put_on s in
     let text = c.args.text.now in
     let at = c.loop-at.at in
     let old = c.loop-at.gathering in
@@ -233,7 +276,11 @@ loop-at-preserved c =
     let behind : ℕ × ℕ = (c.in_ok-end.end, c.in_ok-end.line) in
     let put = c.in_ok-end.ensures.puts in
     let word = take put.size (drop at text) in
-    let begun : begins_line old.before ≡ false = sym c.begins_line.ensures ∙ c.if-begins_line.false in
+    let uncut : is_cut c.args.whole old.before new.before ≡ false = elim c.else-not-whole.branch [
+      | else-not-whole-via-then-not-whole+then-named+else-asks_nothing w ↦ uncut_asking c.args.whole old.before new.before (sym w.asks_nothing.ensures ∙ w.if-asks_nothing.false)
+      | else-not-whole-via-then-not-whole+else-named w ↦ uncut_behind c.args.whole old.before new.before (sym c.begins_name-named.ensures ∙ w.if-named.false)
+      | else-not-whole-via-else-not-whole w ↦ uncut_whole c.args.whole old.before new.before w.if-not-whole.false
+    ] in
     record {
       within = on.within;
       counted = on.counted;
@@ -241,8 +288,8 @@ loop-at-preserved c =
       known = known_behind c.put_first.new.unpaired text old new at c.loop-at.base (c.loop-at.base + passed) behind c.in_ok-end.ensures.known put;
       few = on.few;
       gathered = on.gathered;
-      outlined = part_outlined text word old new put.part (c.loop-at.base + passed) c.loop-at.invariant.outlined put.gathers
-          (ap (λ t. t && (is_token_part put.part && not (spells_hash word))) begun);
+      outlined = part_outlined c.args.whole text word old new put.part (c.loop-at.base + passed) c.loop-at.invariant.outlined put.gathers
+          (ap (λ t. t && (is_token_part put.part && not (spells_hash word))) (begun s)) uncut;
       state = on.state;
     }
 
@@ -251,9 +298,9 @@ returns-clause-file c =
     let text = c.args.text.now in
     let old = c.loop-at.gathering in
     let new = c.end_last_line.new.self in
-    sym (end_outlined text old new c.loop-at.invariant.gathered c.loop-at.invariant.outlined c.in_ok-end_last_line.ensures)
-    ∙ (lex_end directives_alone text c.args.splices.now old new c.loop-at.at c.loop-at.base c.loop-at-test.false c.loop-at.invariant.gathered c.loop-at.invariant.state c.in_ok-end_last_line.ensures).0
+    sym (end_outlined c.args.whole text old new c.loop-at.invariant.gathered c.loop-at.invariant.outlined c.in_ok-end_last_line.ensures)
+    ∙ (lex_end (kept_alone c.args.whole) text c.args.splices.now old new c.loop-at.at c.loop-at.base c.loop-at-test.false c.loop-at.invariant.gathered c.loop-at.invariant.state c.in_ok-end_last_line.ensures).0
 
 pub returns-clause-gathered : goal.returns-clause-gathered
 returns-clause-gathered c =
-    (lex_end directives_alone c.args.text.now c.args.splices.now c.loop-at.gathering c.end_last_line.new.self c.loop-at.at c.loop-at.base c.loop-at-test.false c.loop-at.invariant.gathered c.loop-at.invariant.state c.in_ok-end_last_line.ensures).1
+    (lex_end (kept_alone c.args.whole) c.args.text.now c.args.splices.now c.loop-at.gathering c.end_last_line.new.self c.loop-at.at c.loop-at.base c.loop-at-test.false c.loop-at.invariant.gathered c.loop-at.invariant.state c.in_ok-end_last_line.ensures).1

@@ -1,5 +1,5 @@
 use Rattle.std.proofs.Common.{◌≤◌, ◌-◌, ◌+◌, length}
-use Rattle.pp_tokens.specs.DirectiveLines.{directives_alone}
+use Rattle.pp_tokens.specs.DirectiveLines.{kept_alone}
 use Rattle.pp_tokens.specs.parts.Gathered.{IsGathered}
 use Rattle.pp_tokens.specs.Lined.{spliced_up_to}
 use Rattle.pp_tokens.specs.parts.Unpaired.{KnowsUnpaired}
@@ -15,8 +15,8 @@ invariant-loop-at l = record {
   known : KnowsUnpaired l.unpaired l.text l.at;
   few : length l.gathering.places.items ≤ l.at;
   gathered : IsGathered l.text l.gathering;
-  outlined : Outlined l.text l.gathering;
-  state : LexState directives_alone l.text l.splices l.gathering l.at l.base;
+  outlined : Outlined l.whole l.text l.gathering;
+  state : LexState (kept_alone l.whole) l.text l.splices l.gathering l.at l.base;
 }
 
 abbrev pub decreases-loop-at : goal.decreases-loop-at
