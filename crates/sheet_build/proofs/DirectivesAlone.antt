@@ -51,3 +51,14 @@ sheet_of_directives find visit ps read asked trigraphs body is alone same law =
     let lines = (lexed trigraphs body).lines in
     ap (sheet_from find visit) (is ∙ ap (λ (f : LexedFile). pieces f.lines) (alone ∙ ap (λ t. directives_alone (lexed t body)) same))
     ∙ same_directives find visit (pieces (map directive_line lines)) (pieces lines) law
+
+-- and the definitions of the body
+pub definitions_of_directives : (ps : List Piece) (read : LexedFile) (trigraphs : Bool) (body : List ℕ) → ps ≡ pieces read.lines → read ≡ directives_alone (lexed trigraphs body)
+    → directives_of (pieces (map directive_line (lexed trigraphs body).lines)) ≡ directives_of (pieces (lexed trigraphs body).lines)
+    → filter_map definition_in ps ≡ filter_map definition_in (pieces (lexed trigraphs body).lines)
+definitions_of_directives ps read trigraphs body is alone law =
+    let lines = (lexed trigraphs body).lines in
+    ap (filter_map definition_in) (is ∙ ap (λ (f : LexedFile). pieces f.lines) alone)
+    ∙ definitions_alone (pieces (map directive_line lines))
+    ∙ ap (filter_map definition_in) law
+    ∙ sym (definitions_alone (pieces lines))

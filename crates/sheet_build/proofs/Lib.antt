@@ -6,6 +6,7 @@
 --     Counting    the tokens of definitions, counted piece by piece
 --     Parameters  those of function-like macros with plain parameters
 --     DirectivesAlone   a sheet comes of directives alone
+--     AskingLines       and what it asks for of less
 pub mod PlaceLaws
 pub mod Adding
 pub mod Bodies
@@ -13,3 +14,4 @@ pub mod Capped
 pub mod Counting
 pub mod Parameters
 pub mod DirectivesAlone
+pub mod AskingLines

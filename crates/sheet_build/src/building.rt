@@ -16,7 +16,7 @@ use crate::sheets::Sheet;
 use crate::unweighed::{Parts, Unweighed};
 use base_types::Bytes;
 use directive_scan::{Pieces, directives_stand_alone};
-use pp_tokens::lex_directives;
+use pp_tokens::{lex_asking, lex_directives};
 use search_path::{Setup, Visit};
 use std::alloc::Global;
 use tree_model::{CanonPath, Tree, TreeError, locate, read_body};
@@ -40,7 +40,7 @@ pub fn sheet<T: Tree>(
     Ok(Sheet::new(alloc, file.pieces, file.parts, file.bytes)?)
 }
 
-/// The sheet of a visit, as `sheet` gives it, without what it weighs.
+/// The sheet of a visit, as `sheet` gives it, without what it weighs. Of the file only what may ask for another is lexed.
 pub fn unweighed_sheet<T: Tree>(
     alloc: Global,
     tree: &mut T,
@@ -54,8 +54,11 @@ pub fn unweighed_sheet<T: Tree>(
     ensures cause { HasCause TreeError.Fault (T.faults tree.old) (T.faults tree.new) result }
     ensures one_read { T.reads tree.new ≤ T.reads tree.old + 1 }
 {
-    let file = scan_file(alloc, tree, setup, visit)?;
-    Ok(Unweighed::new(alloc, file.pieces, file.parts)?)
+    let Some(body) = body_at(alloc, tree, &visit.place)? else {
+        return Err(TreeError::Large);
+    };
+    let parts = parts_of_body(alloc, tree, setup, visit, &body)?;
+    Ok(Unweighed::unlexed(alloc, body, setup.trigraphs(), parts)?)
 }
 
 // A file as a sheet is made of it: its pieces, what its sheet has but for its definitions, and how many bytes it has.
@@ -131,6 +134,27 @@ fn scan_body<T: Tree>(
         parts,
         bytes,
     })
+}
+
+// What the sheet of a file with these bytes has but for its definitions.
+fn parts_of_body<T: Tree>(
+    alloc: Global,
+    tree: &mut T,
+    setup: &Setup,
+    visit: &Visit,
+    body: &Bytes,
+) -> Result<Parts, TreeError>
+    requires { length body.now ≤ body_limit }
+    ensures same { T.told tree.new ≡ T.told tree.old }
+    ensures parts { ForSome (T.told tree.old) (λ told. IfOk result (λ parts. sheet_of_parts parts ≡ asked_from (search told setup.now) visit.now (scanning.pieces (lexed setup.now.trigraphs body.now).lines))) }
+    ensures cause { HasCause TreeError.Fault (T.faults tree.old) (T.faults tree.new) result }
+    ensures never_large { IsErrOf result TreeError.Large → ⊥ }
+    ensures no_read { T.reads tree.new ≡ T.reads tree.old }
+{
+    let text = body.as_slice().to_vec(alloc)?;
+    let lexed = lex_asking(alloc, text, setup.trigraphs())?;
+    let pieces = Pieces::of(alloc, lexed)?;
+    parts_of_pieces(alloc, tree, setup, visit, &pieces)
 }
 
 // What the sheet of a file with these pieces has but for its definitions.

@@ -2,6 +2,9 @@
 // they are asked for.
 ghost use Rattle.std.specs.Prelude.{◌≡◌, [], ◌++◌, ◌≤◌, ◌&&◌, ◌-◌, ◌^◌, ℕ, List, not, length, map, min, None, IfOk, OnOk, IfSome, IsNone};
 ghost use Rattle.std.specs.List.{cons_option, filter_map, list_any};
+ghost use Rattle.base_types.specs.Limits.{body_limit};
+ghost use Rattle.pp_tokens.specs.Lines.{lexed};
+ghost use Rattle.directive_scan.specs.Directives as scanning;
 ghost use Rattle.pp_tokens.specs.Tokens.{token_seen, rest_of};
 ghost use Rattle.pp_tokens.specs.Marks as marks;
 ghost use Rattle.directive_scan.specs.Spots.{piece_seen};
@@ -11,9 +14,9 @@ ghost use Rattle.sheet_build.specs.Weights.{tokens_defined};
 ghost use Rattle.sheet_build.specs.parts.Counted as counted;
 
 use base_types::{Bytes, List};
-use directive_scan::{Asked, PieceRef, Pieces};
+use directive_scan::{Asked, PieceRef, Pieces, directives_stand_alone};
 use macro_defs::{DefineError, Definition, names_macro, read_define};
-use pp_tokens::{TokenRef, Tokens};
+use pp_tokens::{TokenRef, Tokens, lex_directives};
 use std::alloc::{AllocError, Global};
 
 // Reading.
@@ -30,6 +33,22 @@ pub fn definitions_in(
         add_piece(alloc, pieces.piece(number), &mut defs)?;
     }
     Ok(defs)
+}
+
+// Those of a file with these bytes.
+pub fn definitions_of_body(
+    alloc: Global,
+    body: &Bytes,
+    trigraphs: bool,
+) -> Result<List<(Bytes, Definition)>, AllocError>
+    requires { length body.now ≤ body_limit }
+    ensures { IfOk result (λ defs. map named_pair defs ≡ filter_map definition_in (scanning.pieces (lexed trigraphs body.now).lines)) }
+{
+    directives_stand_alone();
+    let text = body.as_slice().to_vec(alloc)?;
+    let lexed = lex_directives(alloc, text, trigraphs)?;
+    let pieces = Pieces::of(alloc, lexed)?;
+    definitions_in(alloc, &pieces)
 }
 
 // Adds the definition of a piece, if it has one.

@@ -4,7 +4,7 @@ ghost use Rattle.std.specs.List.{filter_map};
 ghost use Rattle.macro_defs.specs.Defining.{Named};
 ghost use Rattle.sheet_build.specs.Sheet.{definition_in};
 ghost use Rattle.sheet_build.specs.Weights.{tokens_defined, sheet_weight};
-ghost use Rattle.sheet_build.specs.parts.Stored.{defs_seen, sheet_with};
+ghost use Rattle.sheet_build.specs.parts.Stored.{defs_seen, sheet_with, AreReadable};
 
 use crate::computed::Computed;
 use crate::definitions::{count_tokens, definitions_in};
@@ -98,7 +98,8 @@ fn weight_of(tokens: u64, parts: &Parts) -> u64
 
 // The definitions of a file of so many bytes, as a sheet of this weight keeps them. A file that is long beside the weight isn't kept.
 fn kept_defs(alloc: Global, pieces: Pieces, bytes: usize, weight: u64) -> Result<Defs, AllocError>
-    ensures { IfOk result (λ defs. defs_seen defs ≡ filter_map definition_in pieces) }
+    ensures defs { IfOk result (λ defs. defs_seen defs ≡ filter_map definition_in pieces) }
+    ensures readable { IfOk result (λ defs. AreReadable defs) }
 {
     if is_kept(bytes, weight) {
         return Ok(Defs::Unread(pieces));

@@ -1,6 +1,6 @@
 // Sheets as an analysis needs them.
 use crate::computed::Computed;
-use crate::definitions::{copies, definitions_in};
+use crate::definitions::{copies, definitions_in, definitions_of_body};
 use base_types::{Bytes, List};
 use directive_scan::Pieces;
 use macro_defs::Definition;
@@ -24,11 +24,13 @@ struct Contents {
     parts: Parts,
 }
 
-// The definitions of a file: as they are, or the file, from which they are read where they are asked for.
+// The definitions of a file: as they are, or the file, from which they are read where they are asked for: its directives, or
+// its bytes, with trigraphs or without.
 #[derive(Drop)]
 pub enum Defs {
     Read(List<(Bytes, Definition)>),
     Unread(Pieces),
+    Unlexed(Bytes, bool),
 }
 
 // What a sheet has but for its definitions.
@@ -61,28 +63,40 @@ impl Parts {
 impl Model for Unweighed {
     ghost use Rattle.std.specs.Arc.{arc_value};
     ghost use Rattle.sheet_build.specs.Sheet.{SheetData};
-    ghost use Rattle.sheet_build.specs.parts.Stored.{defs_seen, sheet_with};
+    ghost use Rattle.sheet_build.specs.parts.Stored.{defs_seen, sheet_with, AreReadable};
 
     ghost Value = { SheetData };
 
     ghost view = { λ s. sheet_with (defs_seen (arc_value s.contents).defs) (arc_value s.contents).parts };
+
+    ghost invariant = { λ s. AreReadable (arc_value s.contents).defs };
 }
 
 impl Unweighed {
-    ghost use Rattle.std.specs.Prelude.{◌≡◌, map, IfOk};
+    ghost use Rattle.std.specs.Prelude.{◌≡◌, ◌≤◌, length, map, IfOk};
     ghost use Rattle.std.specs.List.{filter_map};
+    ghost use Rattle.base_types.specs.Limits.{body_limit};
+    ghost use Rattle.pp_tokens.specs.Lines.{lexed};
+    ghost use Rattle.directive_scan.specs.Directives as scanning;
     ghost use Rattle.sheet_build.specs.Sheet.{named_pair, definition_in};
-    ghost use Rattle.sheet_build.specs.parts.Stored.{defs_seen, sheet_with};
+    ghost use Rattle.sheet_build.specs.parts.Stored.{defs_seen, sheet_with, AreReadable};
 
-    // The sheet of a file: the definitions in its pieces, which aren't read before they are asked for, and these parts.
-    pub(crate) fn new(alloc: Global, pieces: Pieces, parts: Parts) -> Result<Unweighed, AllocError>
-        ensures { IfOk result (λ sheet. sheet ≡ sheet_with (filter_map definition_in pieces) parts) }
+    // The sheet of a file with these bytes: its definitions, for which it isn't lexed before they are asked for, and these parts.
+    pub(crate) fn unlexed(
+        alloc: Global,
+        body: Bytes,
+        trigraphs: bool,
+        parts: Parts,
+    ) -> Result<Unweighed, AllocError>
+        requires { length body ≤ body_limit }
+        ensures { IfOk result (λ sheet. sheet ≡ sheet_with (filter_map definition_in (scanning.pieces (lexed trigraphs body).lines)) parts) }
     {
-        Unweighed::with(alloc, Defs::Unread(pieces), parts)
+        Unweighed::with(alloc, Defs::Unlexed(body, trigraphs), parts)
     }
 
     // The sheet that keeps its definitions so, with these parts.
     pub(crate) fn with(alloc: Global, defs: Defs, parts: Parts) -> Result<Unweighed, AllocError>
+        requires { AreReadable defs }
         ensures { IfOk result (λ sheet. sheet ≡ sheet_with (defs_seen defs) parts) }
     {
         Ok(Unweighed {
@@ -113,6 +127,7 @@ impl Unweighed {
         match &self.contents.defs {
             Defs::Read(defs) => copies(alloc, defs.as_slice()),
             Defs::Unread(pieces) => definitions_in(alloc, pieces),
+            Defs::Unlexed(body, trigraphs) => definitions_of_body(alloc, body, *trigraphs),
         }
     }
 

@@ -1,6 +1,9 @@
 -- What code keeps of a sheet, and how it grows piece by piece.
-use Rattle.std.specs.Prelude.{◌≡◌, ℕ, List, [], ◌∷◌, ◌++◌, ◌||◌, Option, map}
+use Rattle.std.specs.Prelude.{◌≡◌, ◌≤◌, ℕ, List, [], ◌∷◌, ◌++◌, ◌||◌, Option, length, map}
 use Rattle.std.specs.List.{filter_map, flat_map, list_any}
+use Rattle.base_types.specs.Limits.{body_limit}
+use Rattle.pp_tokens.specs.Lines.{lexed}
+use Rattle.directive_scan.specs.Directives.{pieces}
 use Rattle.directive_scan.specs.declared.Directive.{Directive}
 use Rattle.directive_scan.specs.declared.Piece.{Piece}
 use Rattle.directive_scan.specs.declared.Piece.TheVariants.{Line}
@@ -13,12 +16,19 @@ use Rattle.tree_model.specs.Trees.{FileTree}
 use Rattle.sheet_build.specs.Sheet.{SheetData, AskedTarget, plain_hit, computed_of, includes_in, probes_in, definition_in, is_line, named_pair}
 use Rattle.sheet_build.specs.declared.unweighed.Parts.{Parts}
 use Rattle.sheet_build.specs.declared.unweighed.Defs.{Defs}
-use Rattle.sheet_build.specs.declared.unweighed.Defs.TheVariants.{Read, Unread}
+use Rattle.sheet_build.specs.declared.unweighed.Defs.TheVariants.{Read, Unread, Unlexed}
 
 -- the definitions that are kept so
 abbrev pub defs_seen : Defs → List Named
 defs_seen (Read defs) = map named_pair defs
 defs_seen (Unread ps) = filter_map definition_in ps
+defs_seen (Unlexed body trigraphs) = filter_map definition_in (pieces (lexed trigraphs body).lines)
+
+-- a file that isn't lexed yet isn't too large
+abbrev pub AreReadable : Defs → Type 0
+AreReadable (Read defs) = Unit {0}
+AreReadable (Unread ps) = Unit {0}
+AreReadable (Unlexed body trigraphs) = length body ≤ body_limit
 
 -- the sheet of these definitions and parts
 abbrev pub sheet_with : List Named → Parts → SheetData
