@@ -23,7 +23,7 @@ use Rattle.tree_model.proofs.PathLemmas.{text_same, text_itself}
 use Rattle.job_frames.specs.Spelling.{HasSpelling}
 use Rattle.job_frames.proofs.TreeLemmas.{fits_entry}
 use Rattle.macro_defs.proofs.Fronts.{front_at}
-use Rattle.closure_fixpoint.specs.Gathering.{comes_before, are_rising, AreGathered, HasLarge, with_path, kept_at, gathered_from, AreKept, AddsAt, files_there, files_among}
+use Rattle.closure_fixpoint.specs.Gathering.{comes_before, are_rising, AreGathered, HasLarge, with_path, kept_at, gathered_from, AreKept, AddsAt, files_there, files_among, unknown_there, unknown_among}
 use Rattle.closure_fixpoint.proofs.Orders.{in_order, at-member}
 use Rattle.closure_fixpoint.proofs.NodesTold.{test-all}
 
@@ -263,16 +263,25 @@ at-hand nodes i q below is = rw (add-one i) (by_suc nodes i below is)
     by_suc (n ∷ nodes) (suc i) below is = inr (by_suc nodes i (omega (arith, below)) is)
 
 -- the files of joined entries
-pub files-joined : (a b : Entries) → files_among (a ++ b) ≡ files_among a + files_among b
-files-joined [] b = omega arith
-files-joined (e ∷ a) b = omega (arith, files-joined a b)
+unknown-joined : (known : Path → Option Text) (a b : Entries) → unknown_among known (a ++ b) ≡ unknown_among known a + unknown_among known b
+unknown-joined known [] b = omega arith
+unknown-joined known (e ∷ a) b = omega (arith, unknown-joined known a b)
 
-pub reads-added : (before now : ℕ) (old new : Entries) (q : Path) (entry : Entry) (o : Option Entry) → now ≤ before + files_there o → o ≡ Some entry → new ≡ old ++ (q, entry) ∷ []
-    → now + files_among old ≤ before + files_among new
-reads-added before now old new q entry o few is added =
-    let counted : files_among new ≡ files_among old + (files_there (Some entry) + 0) = ap files_among added ∙ files-joined old ((q, entry) ∷ []) in
-    let one : files_there o ≡ files_there (Some entry) = ap files_there is in
+pub reads-added : (known : Path → Option Text) (before now : ℕ) (old new : Entries) (q : Path) (entry : Entry) (o : Option Entry) → now ≤ before + unknown_there (known q) o → o ≡ Some entry
+    → new ≡ old ++ (q, entry) ∷ [] → now + unknown_among known old ≤ before + unknown_among known new
+reads-added known before now old new q entry o few is added =
+    let counted : unknown_among known new ≡ unknown_among known old + (unknown_there (known q) (Some entry) + 0) = ap (unknown_among known) added ∙ unknown-joined known old ((q, entry) ∷ []) in
+    let one : unknown_there (known q) o ≡ unknown_there (known q) (Some entry) = ap (unknown_there (known q)) is in
     omega (arith, few, counted, one)
+
+-- no more of them are unknown than there are
+unknown-there : (known : Option Text) (entry : Option Entry) → unknown_there known entry ≤ files_there entry
+unknown-there None entry = omega arith
+unknown-there (Some body) entry = omega arith
+
+pub unknown-few : (known : Path → Option Text) (es : Entries) → unknown_among known es ≤ files_among es
+unknown-few known [] = omega arith
+unknown-few known (e ∷ es) = omega (arith, unknown-there (known e.0) (Some e.1), unknown-few known es)
 
 pub adds-kept : (nodes : List Path) (i : ℕ) (q : Path) (old new : Entries) → i < length nodes → q ≡ get_or nodes i q → are_rising nodes ≡ true → AreKept (take i nodes) old → AddsAt q old new
     → AreKept (take (i + 1) nodes) new

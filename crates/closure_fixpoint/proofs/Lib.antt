@@ -30,4 +30,5 @@ pub mod DrivingLaws
 pub mod KnownLaws
 pub mod AnalysisLaws
 pub mod GatherLaws
+pub mod BodyLemmas
 pub mod LengthLaws

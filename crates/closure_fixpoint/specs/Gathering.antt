@@ -115,10 +115,19 @@ abbrev pub files_among : Entries → ℕ
 files_among [] = 0
 files_among (e ∷ es) = files_there (Some e.1) + files_among es
 
--- the count of reads rose by the number of files among the entries at most
-abbrev pub ReadsFiles : ℕ → ℕ → Gathered → Type 0
-ReadsFiles before now (gathered.Entries entries) = now ≤ before + files_among entries.items
-ReadsFiles before now (gathered.Refused why) = Unit {0}
+-- how many of these there are whose bytes aren't known
+abbrev pub unknown_there : Option Text → Option Entry → ℕ
+unknown_there None entry = files_there entry
+unknown_there (Some body) entry = 0
+
+abbrev pub unknown_among : (Path → Option Text) → Entries → ℕ
+unknown_among known [] = 0
+unknown_among known (e ∷ es) = unknown_there (known e.0) (Some e.1) + unknown_among known es
+
+-- the count of reads rose by the number of files among the entries at most, without those whose bytes were known
+abbrev pub ReadsFiles : (Path → Option Text) → ℕ → ℕ → Gathered → Type 0
+ReadsFiles known before now (gathered.Entries entries) = now ≤ before + unknown_among known entries.items
+ReadsFiles known before now (gathered.Refused why) = Unit {0}
 
 -- ---- how they are gathered ----
 

@@ -1,5 +1,6 @@
 -- Helpers of contracts: no definition in the folder above rests on them.
---     Seen, Worklist, Walked, AskKeys, Wanting, Plan  helpers of the code
+--     Bodies, Seen, Worklist, Walked, AskKeys, Wanting, Plan  helpers of the code
+pub mod Bodies
 pub mod Seen
 pub mod Worklist
 pub mod Walked

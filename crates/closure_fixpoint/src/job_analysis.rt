@@ -7,14 +7,16 @@ ghost use Rattle.closure_fixpoint.specs.Analysis.{AnalysisHolds};
 ghost use Rattle.closure_fixpoint.specs.Told.{OfSearch, OfSheet};
 ghost use Rattle.closure_fixpoint.specs.Driving.{IsOfTree, IsOfTreeUnlessBroken, StepsSo, EndsSo, IsDoneIn, HasCanonicalNodes};
 ghost use Rattle.closure_fixpoint.specs.Requested.{ReadsEntries};
+ghost use Rattle.closure_fixpoint.specs.parts.Bodies.{bodies_known, AreBodiesOf};
 
+use crate::bodies::Bodies;
 use crate::{Closure, Fixpoint, Gathered, Next, gather, refusals_hold};
 use base_types::Bytes;
 use directive_scan::HeaderName;
 use job_frames::write_request;
 use job_words::Job;
 use search_path::{Ask, Visit, search, searches_locate};
-use sheet_build::unweighed_sheet;
+use sheet_build::{FoundSheet, unweighed_sheet};
 use std::alloc::Global;
 use symbolic_expand::more_definitions;
 use tree_model::{Tree, TreeError, walked_law};
@@ -45,7 +47,7 @@ pub enum Analysed {
     Refused(Refusal),
 }
 
-/// Analyses a job over a tree.
+/// Analyses a job over a tree. The bytes of a file that a sheet was made of are sent as they were read.
 pub fn analyse<T: Tree>(
     alloc: Global,
     tree: &mut T,
@@ -58,8 +60,9 @@ pub fn analyse<T: Tree>(
     ensures never_large { IsErrOf result TreeError.Large → ⊥ }
 {
     refusals_hold();
-    match ending_of(alloc, tree, job, budget)? {
-        Ending::Done(closure) => request_of(alloc, tree, job, &closure),
+    let mut bodies = Bodies::new(alloc);
+    match ending_of(alloc, tree, job, budget, &mut bodies)? {
+        Ending::Done(closure) => request_with(alloc, tree, job, &closure, &mut bodies),
         Ending::Refused(refusal) => Ok(Analysed::Refused(refusal)),
     }
 }
@@ -78,10 +81,29 @@ pub fn request_of<T: Tree>(
     ensures cause { HasCause TreeError.Fault (T.faults tree.old) (T.faults tree.new) result }
     ensures never_large { IsErrOf result TreeError.Large → ⊥ }
 {
+    let mut bodies = Bodies::new(alloc);
+    request_with(alloc, tree, job, closure, &mut bodies)
+}
+
+// The same, where the bytes of these files are known.
+fn request_with<T: Tree>(
+    alloc: Global,
+    tree: &mut T,
+    job: &Job,
+    closure: &Closure,
+    bodies: &mut Bodies,
+) -> Result<Analysed, TreeError>
+    requires bodies { AreBodiesOf (T.told tree.old) (bodies_known bodies.old) }
+    ensures same { T.told tree.new ≡ T.told tree.old }
+    ensures answer { ForSome (T.told tree.old) (λ told. IfOk result (λ answer. (budget : ℕ) → IsDoneIn told job.now budget closure.now.visits closure.now.nodes → AnalysisHolds told job.now budget answer)) }
+    ensures reads { ForSome (T.told tree.old) (λ told. IfOk result (λ answer. (budget : ℕ) → IsDoneIn told job.now budget closure.now.visits closure.now.nodes → ReadsEntries told job.now (T.reads tree.old) (T.reads tree.new) answer)) }
+    ensures cause { HasCause TreeError.Fault (T.faults tree.old) (T.faults tree.new) result }
+    ensures never_large { IsErrOf result TreeError.Large → ⊥ }
+{
     walked_law();
     searches_locate();
     more_definitions::<HeaderName>();
-    let entries = match gather(alloc, tree, job, closure)? {
+    let entries = match gather(alloc, tree, job, closure, bodies)? {
         Gathered::Entries(entries) => entries,
         Gathered::Refused(refusal) => return Ok(Analysed::Refused(refusal)),
     };
@@ -101,8 +123,11 @@ fn ending_of<T: Tree>(
     tree: &mut T,
     job: &Job,
     budget: u32,
+    bodies: &mut Bodies,
 ) -> Result<Ending, TreeError>
+    requires bodies { AreBodiesOf (T.told tree.old) (bodies_known bodies.old) }
     ensures same { T.told tree.new ≡ T.told tree.old }
+    ensures bodies { AreBodiesOf (T.told tree.new) (bodies_known bodies.new) }
     ensures ends { ForSome (T.told tree.old) (λ told. IfOk result (EndsSo told job.now budget)) }
     ensures canonical { IfOk result HasCanonicalNodes }
     ensures cause { HasCause TreeError.Fault (T.faults tree.old) (T.faults tree.new) result }
@@ -110,7 +135,7 @@ fn ending_of<T: Tree>(
 {
     let mut analysis = Fixpoint::new(alloc, job, budget)?;
     for _ in 0..u64::MAX {
-        match step(alloc, tree, job, &mut analysis) {
+        match step(alloc, tree, job, &mut analysis, bodies) {
             Ok(None) => (),
             Ok(Some(ending)) => return Ok(ending),
             Err(error) => return Err(error),
@@ -125,8 +150,11 @@ fn step<T: Tree>(
     tree: &mut T,
     job: &Job,
     analysis: &mut Fixpoint,
+    bodies: &mut Bodies,
 ) -> Result<Option<Ending>, TreeError>
+    requires bodies { AreBodiesOf (T.told tree.old) (bodies_known bodies.old) }
     ensures same { T.told tree.new ≡ T.told tree.old }
+    ensures bodies { AreBodiesOf (T.told tree.new) (bodies_known bodies.new) }
     ensures steps { ForSome (T.told tree.old) (λ told. IfOk result (λ end. (budget : ℕ) → IsOfTreeUnlessBroken told job.now budget analysis.old → StepsSo told job.now budget analysis.new end)) }
     ensures canonical { IfOk result (λ end. IfSome end HasCanonicalNodes) }
     ensures cause { HasCause TreeError.Fault (T.faults tree.old) (T.faults tree.new) result }
@@ -137,7 +165,7 @@ fn step<T: Tree>(
             Ok(()) => Ok(None),
             Err(error) => Err(error),
         },
-        Next::Sheet(visit) => match answer_sheet(alloc, tree, job, &visit, analysis) {
+        Next::Sheet(visit) => match answer_sheet(alloc, tree, job, &visit, analysis, bodies) {
             Ok(()) => Ok(None),
             Err(error) => Err(error),
         },
@@ -177,15 +205,20 @@ fn answer_sheet<T: Tree>(
     job: &Job,
     visit: &Visit,
     analysis: &mut Fixpoint,
+    bodies: &mut Bodies,
 ) -> Result<(), TreeError>
+    requires bodies { AreBodiesOf (T.told tree.old) (bodies_known bodies.old) }
     ensures same { T.told tree.new ≡ T.told tree.old }
+    ensures bodies { AreBodiesOf (T.told tree.new) (bodies_known bodies.new) }
     ensures told { ForSome (T.told tree.old) (λ told. OnOk result ((budget : ℕ) → analysis.old.pending ≡ OfSheet visit.now → IsOfTree told job.now budget analysis.old → IsOfTreeUnlessBroken told job.now budget analysis.new)) }
     ensures cause { HasCause TreeError.Fault (T.faults tree.old) (T.faults tree.new) result }
     ensures never_large { IsErrOf result TreeError.Large → ⊥ }
 {
     match unweighed_sheet(alloc, tree, job.setup(), visit) {
-        Ok(got) => {
-            analysis.put_unweighed(got);
+        Ok(found) => {
+            let FoundSheet { sheet, file } = found;
+            bodies.put(file)?;
+            analysis.put_unweighed(sheet);
             Ok(())
         }
         Err(TreeError::Large) => {

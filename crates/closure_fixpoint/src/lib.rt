@@ -2,6 +2,7 @@
 //! the request that carries just these.
 #![tactic(auto)]
 
+mod bodies;
 mod entries;
 mod fixpoint;
 mod job_analysis;
@@ -17,6 +18,7 @@ mod walked;
 mod wanting;
 mod worklist;
 
+pub use bodies::Bodies;
 pub use entries::{Gathered, gather};
 pub use fixpoint::{Closure, Fixpoint, Next};
 pub use job_analysis::{Analysed, Refusal, analyse, request_of};

@@ -50,7 +50,7 @@ pragma_alike (t ∷ ts) = by_test (bytes_eq t.text (codes "once"))
     by_test true = record { includes = refl; probes = refl; line = refl }
     by_test false = record { includes = refl; probes = refl; line = refl }
 
--- a name that may ask is one of four
+-- neither of two tests
 no_or : (a b : Bool) → (a || b) ≡ false → (a ≡ false) × (b ≡ false)
 no_or true b h = absurd (cc)
 no_or false b h = (refl, h)
@@ -58,6 +58,7 @@ no_or false b h = (refl, h)
 not_both : (b : Bool) → b ≡ false → b ≡ true → ⊥
 not_both b none all = let wrong : false ≡ true = sym none ∙ all in cc
 
+-- a name that may ask is one of four
 other_directive : (name : List ℕ) (ts : List Token) → may_ask name ≡ false → Alike (directive_named name []) (directive_named name ts)
 unfolding directive_named
 other_directive name ts none =

@@ -1,17 +1,18 @@
 -- The sheet of a file that isn't too large.
-use Rattle.std.proofs.Common.{◌≡◌, Bool, true, false, Option, Some, None, cond, ap, refl}
+use Rattle.std.proofs.Common.{◌≡◌, ◌≤◌, ◌∙◌, sym, subst, Bool, true, false, Option, Some, None, cond, ap, refl}
 use Rattle.pp_tokens.specs.Lines.{lexed}
 use Rattle.directive_scan.specs.Directives.{pieces}
-use Rattle.tree_model.specs.Paths.{Text}
+use Rattle.tree_model.specs.Paths.{Text, Path}
 use Rattle.base_types.specs.Limits.{body_limit}
 use Rattle.tree_model.specs.Trees.{FileTree}
-use Rattle.tree_model.specs.Bodies.{body_within}
+use Rattle.tree_model.specs.Bodies.{body_at_path, body_within}
 use Rattle.search_path.specs.SetupOf.{SetupData}
 use Rattle.search_path.specs.Search.{Hit, search}
 use Rattle.search_path.specs.declared.asking.Ask.{Ask}
 use Rattle.search_path.specs.declared.asking.Visit.{Visit}
 use Rattle.sheet_build.specs.Sheet.{empty_sheet, sheet_from, body_of_place, sheet_of}
-use Rattle.std.specs.Prelude.{nat_le, length}
+use Rattle.std.specs.Prelude.{nat_le, length, IfSome}
+use Rattle.std.specs.Option.{option_map}
 
 sheet_within : (find : Ask → Option Hit) (trigraphs : Bool) (visit : Visit) (body whole : Text) (fits : Bool) → Some body ≡ cond fits (Some whole) None →
     sheet_from find visit (pieces (lexed trigraphs body).lines) ≡ cond fits (sheet_from find visit (pieces (lexed trigraphs whole).lines)) empty_sheet
@@ -37,3 +38,14 @@ pub small-body : (tree : FileTree) (visit : Visit) (body : Text) → Some body �
     nat_le (length (body_of_place tree visit.place)) body_limit ≡ true
 small-body tree visit body is =
     let whole = body_of_place tree visit.place in within_small body whole (nat_le (length whole) body_limit) is
+
+-- the bytes of a file that was read, with its path
+pub file-at : (tree : FileTree) (real : Option Path) (body read : Text) → body ≡ read → IfSome real (λ path. read ≡ body_at_path tree path)
+    → IfSome {T = Path × Text} (option_map (λ path. (path, body)) real) (λ file. file.1 ≡ body_at_path tree file.0)
+file-at tree None body read same there = there
+file-at tree (Some path) body read same there = same ∙ there
+
+pub file-within : (real : Option Path) (body read : Text) → body ≡ read → length read ≤ body_limit
+    → IfSome {T = Path × Text} (option_map (λ (path : Path). (path, body)) real) (λ file. length file.1 ≤ body_limit)
+file-within None body read same small = tt
+file-within (Some path) body read same small = subst (λ (b : Text). length b ≤ body_limit) (sym same) small

@@ -1,17 +1,18 @@
 // How sheets are built.
 ghost use Rattle.std.specs.Prelude.{◌≡◌, ◌≤◌, ◌+◌, length, nat_le, true, IfOk, IfSome, IsErrOf};
-ghost use Rattle.std.specs.Option.{ForSome};
+ghost use Rattle.std.specs.Option.{ForSome, option_map};
 ghost use Rattle.std.specs.List.{filter_map};
 ghost use Rattle.base_types.specs.Causes.{HasCause};
 ghost use Rattle.pp_tokens.specs.Lines.{lexed};
 ghost use Rattle.directive_scan.specs.Directives as scanning;
-ghost use Rattle.tree_model.specs.Bodies.{body_within};
+ghost use Rattle.tree_model.specs.Bodies.{body_at_path, body_within};
 ghost use Rattle.base_types.specs.Limits.{body_limit};
 ghost use Rattle.search_path.specs.Search.{search};
 ghost use Rattle.sheet_build.specs.Sheet.{sheet_of, sheet_from, body_of_place, definition_in, IsLargeAt};
 ghost use Rattle.sheet_build.specs.parts.Stored.{sheet_with, sheet_of_parts, asked_from};
 
 use crate::directives::add_piece;
+use crate::file_body::FileBody;
 use crate::sheets::Sheet;
 use crate::unweighed::{Parts, Unweighed};
 use base_types::Bytes;
@@ -40,25 +41,50 @@ pub fn sheet<T: Tree>(
     Ok(Sheet::new(alloc, file.pieces, file.parts, file.bytes)?)
 }
 
+/// A sheet as an analysis needs it, with the file that was read for it, where the visit's place leads to one: the file's path,
+/// behind all links, and its bytes.
+#[derive(Drop)]
+pub struct FoundSheet {
+    pub sheet: Unweighed,
+    pub file: Option<(CanonPath, FileBody)>,
+}
+
 /// The sheet of a visit, as `sheet` gives it, without what it weighs. Of the file only what may ask for another is lexed.
 pub fn unweighed_sheet<T: Tree>(
     alloc: Global,
     tree: &mut T,
     setup: &Setup,
     visit: &Visit,
-) -> Result<Unweighed, TreeError>
+) -> Result<FoundSheet, TreeError>
     ensures same { T.told tree.new ≡ T.told tree.old }
-    ensures sheet { ForSome (T.told tree.old) (λ told. IfOk result (λ sheet. sheet ≡ sheet_of told setup.now visit.now)) }
+    ensures sheet { ForSome (T.told tree.old) (λ told. IfOk result (λ found. found.sheet ≡ sheet_of told setup.now visit.now)) }
+    ensures file { ForSome (T.told tree.old) (λ told. IfOk result (λ found. IfSome found.file (λ file. file.1 ≡ body_at_path told file.0))) }
+    ensures within { IfOk result (λ found. IfSome found.file (λ file. length file.1 ≤ body_limit)) }
     ensures large { ForSome (T.told tree.old) (λ told. IsErrOf result TreeError.Large → IsLargeAt told visit.now) }
-    ensures small { ForSome (T.told tree.old) (λ told. IfOk result (λ _sheet. nat_le (length (body_of_place told visit.now.place)) body_limit ≡ true)) }
+    ensures small { ForSome (T.told tree.old) (λ told. IfOk result (λ _found. nat_le (length (body_of_place told visit.now.place)) body_limit ≡ true)) }
     ensures cause { HasCause TreeError.Fault (T.faults tree.old) (T.faults tree.new) result }
     ensures one_read { T.reads tree.new ≤ T.reads tree.old + 1 }
 {
-    let Some(body) = body_at(alloc, tree, &visit.place)? else {
+    let Some(file) = file_at(alloc, tree, &visit.place)? else {
         return Err(TreeError::Large);
     };
-    let parts = parts_of_body(alloc, tree, setup, visit, &body)?;
-    Ok(Unweighed::unlexed(alloc, body, setup.trigraphs(), parts)?)
+    let body = FileBody::of(alloc, file.body)?;
+    let parts = parts_of_body(alloc, tree, setup, visit, body.as_slice())?;
+    let sheet = Unweighed::unlexed(alloc, body.share()?, setup.trigraphs(), parts)?;
+    Ok(FoundSheet {
+        sheet,
+        file: at_path(file.real, body),
+    })
+}
+
+// The bytes of a file with its path, where it is one.
+fn at_path(real: Option<CanonPath>, body: FileBody) -> Option<(CanonPath, FileBody)>
+    ensures { result ≡ option_map (λ path. (path, body)) real }
+{
+    match real {
+        Some(path) => Some((path, body)),
+        None => None,
+    }
 }
 
 // A file as a sheet is made of it: its pieces, what its sheet has but for its definitions, and how many bytes it has.
@@ -83,30 +109,47 @@ fn scan_file<T: Tree>(
     ensures cause { HasCause TreeError.Fault (T.faults tree.old) (T.faults tree.new) result }
     ensures one_read { T.reads tree.new ≤ T.reads tree.old + 1 }
 {
-    let Some(body) = body_at(alloc, tree, &visit.place)? else {
+    let Some(file) = file_at(alloc, tree, &visit.place)? else {
         return Err(TreeError::Large);
     };
-    scan_body(alloc, tree, setup, visit, body)
+    scan_body(alloc, tree, setup, visit, file.body)
 }
 
-// The bytes of the file that a place leads to, none where there is none; None where they are too many.
-fn body_at<T: Tree>(
+// A file that was read: its path behind all links, where one was found, and its bytes.
+#[derive(Drop)]
+struct ReadFile {
+    real: Option<CanonPath>,
+    body: Bytes,
+}
+
+// The file that a place leads to, without bytes where there is none; None where they are too many.
+fn file_at<T: Tree>(
     alloc: Global,
     tree: &mut T,
     place: &CanonPath,
-) -> Result<Option<Bytes>, TreeError>
+) -> Result<Option<ReadFile>, TreeError>
     ensures same { T.told tree.new ≡ T.told tree.old }
-    ensures body { ForSome (T.told tree.old) (λ told. IfOk result (λ body. body ≡ body_within (body_of_place told place.now))) }
-    ensures within { IfOk result (λ body. IfSome body (λ bytes. length bytes ≤ body_limit)) }
+    ensures body { ForSome (T.told tree.old) (λ told. IfOk result (λ file. option_map (λ f. f.body) file ≡ body_within (body_of_place told place.now))) }
+    ensures real { ForSome (T.told tree.old) (λ told. IfOk result (λ file. IfSome file (λ f. IfSome f.real (λ path. f.body ≡ body_at_path told path)))) }
+    ensures within { IfOk result (λ file. IfSome file (λ f. length f.body ≤ body_limit)) }
     ensures never_large { IsErrOf result TreeError.Large → ⊥ }
     ensures cause { HasCause TreeError.Fault (T.faults tree.old) (T.faults tree.new) result }
     ensures one_read { T.reads tree.new ≤ T.reads tree.old + 1 }
 {
     let root = CanonPath::root(alloc)?;
-    match locate(alloc, tree, &root, place.bytes())? {
-        Some(located) => read_body(alloc, tree, &located.real),
-        None => Ok(Some(Bytes::new(alloc))),
-    }
+    let Some(located) = locate(alloc, tree, &root, place.bytes())? else {
+        return Ok(Some(ReadFile {
+            real: None,
+            body: Bytes::new(alloc),
+        }));
+    };
+    let Some(body) = read_body(alloc, tree, &located.real)? else {
+        return Ok(None);
+    };
+    Ok(Some(ReadFile {
+        real: Some(located.real),
+        body,
+    }))
 }
 
 // A file with these bytes.
@@ -142,7 +185,7 @@ fn parts_of_body<T: Tree>(
     tree: &mut T,
     setup: &Setup,
     visit: &Visit,
-    body: &Bytes,
+    body: &[u8],
 ) -> Result<Parts, TreeError>
     requires { length body.now ≤ body_limit }
     ensures same { T.told tree.new ≡ T.told tree.old }
@@ -151,7 +194,7 @@ fn parts_of_body<T: Tree>(
     ensures never_large { IsErrOf result TreeError.Large → ⊥ }
     ensures no_read { T.reads tree.new ≡ T.reads tree.old }
 {
-    let text = body.as_slice().to_vec(alloc)?;
+    let text = body.to_vec(alloc)?;
     let lexed = lex_asking(alloc, text, setup.trigraphs())?;
     let pieces = Pieces::of(alloc, lexed)?;
     parts_of_pieces(alloc, tree, setup, visit, &pieces)

@@ -38,14 +38,14 @@ pub fn definitions_in(
 // Those of a file with these bytes.
 pub fn definitions_of_body(
     alloc: Global,
-    body: &Bytes,
+    body: &[u8],
     trigraphs: bool,
 ) -> Result<List<(Bytes, Definition)>, AllocError>
     requires { length body.now ≤ body_limit }
     ensures { IfOk result (λ defs. map named_pair defs ≡ filter_map definition_in (scanning.pieces (lexed trigraphs body.now).lines)) }
 {
     directives_stand_alone();
-    let text = body.as_slice().to_vec(alloc)?;
+    let text = body.to_vec(alloc)?;
     let lexed = lex_directives(alloc, text, trigraphs)?;
     let pieces = Pieces::of(alloc, lexed)?;
     definitions_in(alloc, &pieces)

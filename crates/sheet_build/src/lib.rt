@@ -5,6 +5,7 @@ mod building;
 mod computed;
 mod definitions;
 mod directives;
+mod file_body;
 mod keys;
 mod laws;
 mod memo;
@@ -12,8 +13,9 @@ mod sheets;
 mod targets;
 mod unweighed;
 
-pub use building::{sheet, unweighed_sheet};
+pub use building::{FoundSheet, sheet, unweighed_sheet};
 pub use computed::Computed;
+pub use file_body::FileBody;
 pub use keys::SheetKey;
 pub use laws::places_locate;
 pub use memo::SheetMemo;

@@ -1,6 +1,7 @@
 // Sheets as an analysis needs them.
 use crate::computed::Computed;
 use crate::definitions::{copies, definitions_in, definitions_of_body};
+use crate::file_body::FileBody;
 use base_types::{Bytes, List};
 use directive_scan::Pieces;
 use macro_defs::Definition;
@@ -30,7 +31,7 @@ struct Contents {
 pub enum Defs {
     Read(List<(Bytes, Definition)>),
     Unread(Pieces),
-    Unlexed(Bytes, bool),
+    Unlexed(FileBody, bool),
 }
 
 // What a sheet has but for its definitions.
@@ -84,7 +85,7 @@ impl Unweighed {
     // The sheet of a file with these bytes: its definitions, for which it isn't lexed before they are asked for, and these parts.
     pub(crate) fn unlexed(
         alloc: Global,
-        body: Bytes,
+        body: FileBody,
         trigraphs: bool,
         parts: Parts,
     ) -> Result<Unweighed, AllocError>
@@ -127,7 +128,11 @@ impl Unweighed {
         match &self.contents.defs {
             Defs::Read(defs) => copies(alloc, defs.as_slice()),
             Defs::Unread(pieces) => definitions_in(alloc, pieces),
-            Defs::Unlexed(body, trigraphs) => definitions_of_body(alloc, body, *trigraphs),
+            Defs::Unlexed(body, trigraphs) => definitions_of_body(
+                alloc,
+                body.as_slice(),
+                *trigraphs,
+            ),
         }
     }
 

@@ -7,8 +7,8 @@ use Rattle.closure_fixpoint.specs.Driving.{EndsSo, IsDoneIn, IsRefusedIn}
 use Rattle.closure_fixpoint.proofs.AnalysisLaws.{for-told, ok-for-told}
 use Rattle.closure_fixpoint.proofs.job_analysis.analyse.Goals as goal
 
-pub returns-in-Refused-clause-answer : goal.returns-in-Refused-clause-answer
-returns-in-Refused-clause-answer g c =
+pub returns-clause-answer : goal.returns-clause-answer
+returns-clause-answer g c =
     for-told (g.T.Tree.told c.args.tree.now) (λ told. AnalysisHolds told c.args.job.now c.args.budget (analysed.Refused c.in-Refused.refusal))
     (λ told is.
     let end : IsRefusedIn told c.args.job.now c.args.budget c.in-Refused.refusal =
@@ -17,9 +17,9 @@ returns-in-Refused-clause-answer g c =
 
 pub returns-in-Done-clause-answer : goal.returns-in-Done-clause-answer
 returns-in-Done-clause-answer g c =
-    ok-for-told (g.T.Tree.told c.args.tree.now) c.request_of.result (λ told answer. AnalysisHolds told c.args.job.now c.args.budget answer)
+    ok-for-told (g.T.Tree.told c.args.tree.now) c.request_with.result (λ told answer. AnalysisHolds told c.args.job.now c.args.budget answer)
     (λ told is.
     let end : IsDoneIn told c.args.job.now c.args.budget c.in-Done.closure.visits c.in-Done.closure.nodes =
     subst (λ (end : Ending). EndsSo told c.args.job.now c.args.budget end) c.in-Done.is (c.in_ok-closure.ensures.ends told is) in
-    IfOk-weaker c.request_of.result _ (λ answer. AnalysisHolds told c.args.job.now c.args.budget answer) (λ answer holds. holds c.args.budget end)
-    (c.request_of.ensures.answer told (c.in_ok-closure.ensures.same ∙ is)))
+    IfOk-weaker c.request_with.result _ (λ answer. AnalysisHolds told c.args.job.now c.args.budget answer) (λ answer holds. holds c.args.budget end)
+    (c.request_with.ensures.answer told (c.in_ok-closure.ensures.same ∙ is)))

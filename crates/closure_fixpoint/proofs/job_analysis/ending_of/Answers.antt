@@ -12,6 +12,7 @@ pub loop-preserved : goal.loop-preserved
 loop-preserved g c = record {
   same = c.in-Ok-None.ensures.same ∙ c.loop.invariant.same;
   later = omega (arith, c.loop.invariant.later, c.in-Ok-None.ensures.cause.later);
+  bodies = c.in-Ok-None.ensures.bodies;
   goes = λ told is.
       subst (λ (end : Option Ending). StepsSo told c.args.job.now c.args.budget c.step.new.analysis end) c.in-Ok-None.field-0-is
       (c.in-Ok-None.ensures.steps told (c.loop.invariant.same ∙ is) c.args.budget (c.loop.invariant.goes told is));

@@ -14,7 +14,7 @@ returns-clause-parts g c = λ told is.
     let visit = c.args.visit.now in
     let file = lexed c.args.setup.now.trigraphs c.args.body.now in
     let read : c.in_ok-lexed.lexed ≡ asking_alone file =
-    c.in_ok-lexed.ensures ∙ (λ i. asking_alone (lexed (c.trigraphs.ensures i) ((c.in_ok-text.ensures.items_if_clones_equal (λ x y e. e) ∙ c.as_slice.ensures) i))) in
+    c.in_ok-lexed.ensures ∙ (λ i. asking_alone (lexed (c.trigraphs.ensures i) (c.in_ok-text.ensures.items_if_clones_equal (λ x y e. e) i))) in
     let same : asked_from find visit c.in_ok-pieces.pieces ≡ asked_from find visit (pieces file.lines) =
     ap (asked_from find visit) (c.in_ok-pieces.ensures ∙ ap (λ (f : LexedFile). pieces f.lines) read) ∙ asked_of_directives find visit file.lines in
     IfOk-weaker c.parts_of_pieces.result

@@ -13,7 +13,7 @@ returns c =
     let body = c.args.body.now in
     let file = lexed c.args.trigraphs body in
     let read : c.in_ok-lexed.lexed ≡ directives_alone file =
-    c.in_ok-lexed.ensures ∙ (λ i. directives_alone (lexed c.args.trigraphs ((c.in_ok-text.ensures.items_if_clones_equal (λ x y e. e) ∙ c.as_slice.ensures) i))) in
+    c.in_ok-lexed.ensures ∙ (λ i. directives_alone (lexed c.args.trigraphs (c.in_ok-text.ensures.items_if_clones_equal (λ x y e. e) i))) in
     IfOk-weaker c.definitions_in.result
     (λ defs. map named_pair defs ≡ filter_map definition_in c.in_ok-pieces.pieces)
     (λ defs. map named_pair defs ≡ filter_map definition_in (pieces file.lines))
