@@ -1,4 +1,5 @@
 -- Lemmas.
+--     Spellings      the spelling of a name below a text
 --     PathLemmas     canonical paths and their spellings
 --     OrderLemmas    entries whose paths increase
 --     TreeLemmas     the tree of a list of entries
@@ -17,6 +18,7 @@
 --     ShownLemmas    what is shown of a list, one member more
 --     PlacedLemmas   where entries stand, and what is found by it
 --     WalkExamples   worked walks
+pub mod Spellings
 pub mod PathLemmas
 pub mod OrderLemmas
 pub mod TreeLemmas

@@ -16,6 +16,7 @@ mod path;
 mod places;
 mod reached;
 mod showing;
+mod spelling;
 mod tree;
 mod walk;
 

@@ -10,6 +10,7 @@ ghost use Rattle.tree_model.specs.Paths as paths;
 ghost use Rattle.base_types.specs.Ascii.{slash};
 ghost use Rattle.tree_model.specs.Paths.{spelled, spelled_below, names_of, path_of, parent_spelling, child_of, is_same_path, is_same_path-Decides, IsCanonical, IsSpelling};
 
+use crate::spelling::Spelling;
 use base_types::limits::{NAME_LIMIT, PATH_LIMIT};
 use std::alloc::{AllocError, Global};
 use std::cmp::Ordering;
@@ -23,7 +24,7 @@ use std::sync::Arc;
 #[derive(Drop)]
 pub struct CanonPath {
     // the spelling, or None at the root
-    bytes: Option<Arc<Vec<u8>, Global>>,
+    spelling: Option<Arc<Spelling, Global>>,
 }
 
 impl Model for CanonPath {
@@ -33,9 +34,9 @@ impl Model for CanonPath {
 
     ghost Value = { List (List ℕ) };
 
-    ghost view = { λ p. names_of (stored p.bytes) };
+    ghost view = { λ p. names_of (stored p.spelling) };
 
-    ghost invariant = { λ p. IsSpelling (stored p.bytes) × IsBelowRoot p.bytes };
+    ghost invariant = { λ p. IsSpelling (stored p.spelling) × IsBelowRoot p.spelling };
 }
 
 // A byte may stand in a name.
@@ -113,17 +114,6 @@ fn is_spelling(text: &[u8]) -> bool
     *first == b'/' && (names.is_empty() || are_names(names))
 }
 
-// A text, and then a name after a slash, in memory of just that size.
-fn extended(alloc: Global, stem: &[u8], name: &[u8]) -> Result<Vec<u8>, AllocError>
-    ensures { IfOk result (λ longer. longer.items ≡ stem.now ++ slash ∷ name.now) }
-{
-    let mut longer = Vec::with_capacity(alloc, stem.len() + 1 + name.len())?;
-    longer.extend_from_slice(stem)?;
-    longer.push(b'/')?;
-    longer.extend_from_slice(name)?;
-    Ok(longer)
-}
-
 // What stands before the last slash.
 fn before_last(text: &[u8]) -> &[u8]
     ensures { (above name : List ℕ) → IsTrue (list_all paths.is_file_name_byte name) → text.now ≡ above ++ slash ∷ name → result.now ≡ above }
@@ -142,17 +132,19 @@ fn before_last(text: &[u8]) -> &[u8]
 fn the_root() -> CanonPath
     ensures { result ≡ [] }
 {
-    CanonPath { bytes: None }
+    CanonPath { spelling: None }
 }
 
-// The path below the root that bytes spell, which it keeps.
-fn below_root(alloc: Global, bytes: Vec<u8>) -> Result<CanonPath, AllocError>
-    requires spelling { IsSpelling bytes.items }
-    requires below { bytes.items ≡ slash ∷ [] → ⊥ }
-    ensures { IfOk result (λ path. path ≡ names_of bytes.items) }
+// The path below the root that is spelled so.
+fn below_root(alloc: Global, spelling: Spelling) -> Result<CanonPath, AllocError>
+    requires spelling { IsSpelling spelling }
+    requires below { spelling ≡ slash ∷ [] → ⊥ }
+    ensures { IfOk result (λ path. path ≡ names_of spelling) }
 {
-    let bytes = Arc::new(alloc, bytes)?;
-    Ok(CanonPath { bytes: Some(bytes) })
+    let spelling = Arc::new(alloc, spelling)?;
+    Ok(CanonPath {
+        spelling: Some(spelling),
+    })
 }
 
 impl CanonPath {
@@ -173,8 +165,8 @@ impl CanonPath {
         if text.len() == 1 {
             return Ok(Some(the_root()));
         }
-        let bytes = text.to_vec(alloc)?;
-        let path = below_root(alloc, bytes)?;
+        let spelling = Spelling::copy_of(alloc, text)?;
+        let path = below_root(alloc, spelling)?;
         Ok(Some(path))
     }
 
@@ -189,7 +181,7 @@ impl CanonPath {
             return Ok(Some(the_root()));
         }
         let alloc = *text.allocator();
-        let path = below_root(alloc, text)?;
+        let path = below_root(alloc, Spelling::of(text))?;
         Ok(Some(path))
     }
 
@@ -198,9 +190,9 @@ impl CanonPath {
         ensures value { result.now ≡ spelled self.now }
         ensures canonical { IsCanonical self.now }
     {
-        match &self.bytes {
+        match &self.spelling {
             None => b"/".as_slice(),
-            Some(bytes) => bytes.as_slice(),
+            Some(spelling) => spelling.as_slice(),
         }
     }
 
@@ -231,8 +223,8 @@ impl CanonPath {
         if above.is_empty() {
             return Ok(the_root());
         }
-        let bytes = above.to_vec(alloc)?;
-        below_root(alloc, bytes)
+        let spelling = Spelling::copy_of(alloc, above)?;
+        below_root(alloc, spelling)
     }
 
     /// The path of a name in this directory, or None exactly where the name is none or the path would be too long.
@@ -243,8 +235,8 @@ impl CanonPath {
         if !is_name(name) || stem.len() + name.len() >= PATH_LIMIT {
             return Ok(None);
         }
-        let bytes = extended(alloc, stem, name)?;
-        let path = below_root(alloc, bytes)?;
+        let spelling = Spelling::below(alloc, stem, name)?;
+        let path = below_root(alloc, spelling)?;
         Ok(Some(path))
     }
 
@@ -252,11 +244,13 @@ impl CanonPath {
     pub fn copy(&self, _: Global) -> Result<CanonPath, AllocError>
         ensures { IfOk result (λ path. path ≡ self.now) }
     {
-        match &self.bytes {
+        match &self.spelling {
             None => Ok(the_root()),
-            Some(bytes) => {
-                let bytes = Arc::try_clone(bytes)?;
-                Ok(CanonPath { bytes: Some(bytes) })
+            Some(spelling) => {
+                let spelling = Arc::try_clone(spelling)?;
+                Ok(CanonPath {
+                    spelling: Some(spelling),
+                })
             }
         }
     }
@@ -265,7 +259,7 @@ impl CanonPath {
     pub fn is_root(&self) -> bool
         ensures { IsTrue result ↔ (self.now ≡ []) }
     {
-        self.bytes.is_none()
+        self.spelling.is_none()
     }
 
     /// Whether both are the same path.

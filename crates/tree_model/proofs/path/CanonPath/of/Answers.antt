@@ -1,4 +1,4 @@
-use Rattle.std.proofs.Common.{◌≡◌, sym, ◌∙◌, ap, Some, rules}
+use Rattle.std.proofs.Common.{◌≡◌, ℕ, List, sym, ◌∙◌, ap, subst, Some, rules}
 use Rattle.std.specs.Prelude.{length}
 use Rattle.tree_model.specs.Paths as paths
 use Rattle.tree_model.proofs.PathLemmas.{no_path, some_path, root_path, spelling_from_test}
@@ -13,7 +13,11 @@ returns-then-len-eq1 c =
     ap Some c.the_root.ensures ∙ root_path c.args.text.items (sym (c.if-not-is_spelling.ensures ∙ ap paths.is_spelling c.as_slice.ensures.value)) one
 
 pub below_root-requires-clause-spelling : goal.below_root-requires-clause-spelling
-below_root-requires-clause-spelling c = spelling_from_test c.args.text.items (sym (c.if-not-is_spelling.ensures ∙ ap paths.is_spelling c.as_slice.ensures.value))
+below_root-requires-clause-spelling c =
+    subst paths.IsSpelling (sym c.of.ensures) (spelling_from_test c.args.text.items (sym (c.if-not-is_spelling.ensures ∙ ap paths.is_spelling c.as_slice.ensures.value)))
 
 pub returns : goal.returns
-returns c = ap Some c.in_ok-path.ensures ∙ some_path c.args.text.items (sym (c.if-not-is_spelling.ensures ∙ ap paths.is_spelling c.as_slice.ensures.value))
+returns c =
+    ap Some c.in_ok-path.ensures
+    ∙ ap (λ (t : List ℕ). Some (paths.names_of t)) c.of.ensures
+    ∙ some_path c.args.text.items (sym (c.if-not-is_spelling.ensures ∙ ap paths.is_spelling c.as_slice.ensures.value))
