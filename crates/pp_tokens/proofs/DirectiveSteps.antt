@@ -15,7 +15,7 @@ use Rattle.pp_tokens.specs.Lines.{Part, newline, white, comment, open_comment, t
 use Rattle.pp_tokens.specs.DirectiveLines.{may_ask, asking_part, kept_line, kept_alone}
 use Rattle.pp_tokens.specs.parts.Seen.{seen_lines, last_end}
 use Rattle.pp_tokens.specs.parts.Text.{after_word, is_due}
-use Rattle.pp_tokens.specs.parts.TextLines.{lines_behind, text_file, file_behind, begins_line, begins_name, asks_nothing, begins_text, EndsText}
+use Rattle.pp_tokens.specs.parts.TextLines.{lines_behind, text_file, file_behind, begins_line, begins_name, asks_nothing, begins_text, is_token_part, EndsText}
 use Rattle.pp_tokens.specs.parts.Gathered.{newlines, lines_left, present_tokens, file_with, IsGathered, GathersNothing, EndsLastLine, EndsTextLine, AddsGap, Gathers}
 use Rattle.pp_tokens.proofs.DueWords.{after_words, due_is}
 use Rattle.pp_tokens.proofs.LinedRests.{lined_past, cut_bytes}
@@ -487,6 +487,21 @@ cut_step whole text splices old new at base end state g cut ended e =
       },
       line_outlined whole text old new end.comment g cut.lines kept e,
     )
+
+-- no header name is due where a line begins
+pub starts_undue : (before : Before) → begins_line before ≡ true → is_due before ≡ false
+starts_undue Nothing h = refl
+starts_undue Hash h = absurd (cc)
+starts_undue Include h = absurd (cc)
+starts_undue Condition h = absurd (cc)
+starts_undue Probe h = absurd (cc)
+starts_undue Probed h = absurd (cc)
+starts_undue Other h = absurd (cc)
+
+-- no `#` begins a line of text
+pub hash_no_text : (before : Before) (part : Part) (w : List ℕ) → spells_hash w ≡ true → begins_text before part w ≡ false
+hash_no_text before part w h =
+    ap (λ t. begins_line before && (is_token_part part && not t)) h ∙ ap (λ t. begins_line before && t) (and_no (is_token_part part)) ∙ and_no (begins_line before)
 
 -- only a token begins a line of text
 -- a newline is no token

@@ -378,12 +378,12 @@ white_run view text splices old new at base (suc n) g state e some blank =
     again : AddsGap new new None
     again = record { places = refl; ends = refl; first = sym (or_none new.unended); before = refl; begun = e.begun; space = e.space }
 
-newline_is : (text : List ℕ) (at : ℕ) (due : Bool) → at < length text → get_or text at 0 ≡ 10 → first_part due (drop at text) ≡ (newline, 1)
+pub newline_is : (text : List ℕ) (at : ℕ) (due : Bool) → at < length text → get_or text at 0 ≡ 10 → first_part due (drop at text) ≡ (newline, 1)
 newline_is text at due below is =
     let here : get_or (drop at text) 0 0 ≡ get_or text at 0 = get_or-drop at text 0 0 ∙ ap (λ i. get_or text i 0) (omega arith) in
     due_or_not text at due below (rw is refl) ∙ newline_first (drop at text) (here ∙ is)
 
-one_newline : (xs : List ℕ) → 0 < length xs → get_or xs 0 0 ≡ 10 → newlines (take 1 xs) ≡ 1
+pub one_newline : (xs : List ℕ) → 0 < length xs → get_or xs 0 0 ≡ 10 → newlines (take 1 xs) ≡ 1
 one_newline [] some is = absurd (omega (arith, some))
 one_newline (b ∷ bs) some is = rw is refl
 

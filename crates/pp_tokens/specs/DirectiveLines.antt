@@ -26,6 +26,7 @@ kept_line whole ts = if begins_hash ts then (if whole then ts else asking_part t
 abbrev pub directive_line : List Token → List Token
 directive_line = kept_line true
 
+-- the file with what is kept of each line's tokens, and as many lines
 abbrev pub kept_alone : Bool → LexedFile → LexedFile
 kept_alone whole f = record { lines = map (kept_line whole) f.lines; unended = f.unended }
 

@@ -32,7 +32,9 @@ use crate::part::{What, next_part};
 use crate::place::Place;
 use crate::quoted::word_at;
 use crate::source::{SourceText, read_source};
-use crate::text_line::{asks_nothing, begins_line, begins_name, begins_text, line_end};
+use crate::text_line::{
+    asks_nothing, begins_line, begins_name, begins_text, is_lone_hash, line_end,
+};
 use crate::token::{Kind, TokenRef};
 use crate::unpaired::Unpaired;
 use std::alloc::{AllocError, Global};
@@ -84,14 +86,13 @@ struct Gathering {
 }
 
 impl Gathering {
-    // Nothing, with room for what a text of so many bytes usually holds: in C a token and the gap behind it are some
-    // five bytes, and a line thirty. Room that isn't taken costs no memory page.
-    fn with_room(alloc: Global, bytes: usize) -> Result<Gathering, AllocError>
+    // Nothing, with room for so many tokens and lines. Room that isn't taken costs no memory page.
+    fn with_room(alloc: Global, tokens: usize, lines: usize) -> Result<Gathering, AllocError>
         ensures { IfOk result (λ g. GathersNothing g) }
     {
         Ok(Gathering {
-            places: Vec::with_capacity(alloc, bytes / 5)?,
-            ends: Vec::with_capacity(alloc, bytes / 30)?,
+            places: Vec::with_capacity(alloc, tokens)?,
+            ends: Vec::with_capacity(alloc, lines)?,
             unended: None,
             before: Before::Nothing,
             begun: false,
@@ -347,7 +348,8 @@ fn gather(alloc: Global, text: &[u8], splices: &[u32]) -> Result<Gathering, Allo
     ensures file { IfOk result (λ g. seen_file text.now g.places.items g.ends.items g.unended ≡ file_of (elements zero [] (lined splices.now 0 1 text.now))) }
     ensures gathered { IfOk result (λ g. IsGathered text.now g) }
 {
-    let mut gathering = Gathering::with_room(alloc, text.len())?;
+    // In C a token and the gap behind it are some five bytes, and a line thirty.
+    let mut gathering = Gathering::with_room(alloc, text.len() / 5, text.len() / 30)?;
     let mut unpaired = Unpaired::new();
     // The line of a place is `base`, one more than the newlines before it, and the splices up to it.
     // Newlines and white space, a third of what stands in a text, go before all else.
@@ -382,8 +384,8 @@ fn give_back<T>(list: &mut Vec<T>)
     }
 }
 
-// The file that a text makes and what is gathered of all of it. Much room that nothing took is given back.
-fn finished(text: Vec<u8>, gathering: Gathering) -> Lexed
+// The file that a text makes and what is gathered of all of it. Much room that nothing took is given back, where the file is kept.
+fn finished(text: Vec<u8>, gathering: Gathering, kept: bool) -> Lexed
     requires gathered { IsGathered text.items gathering }
     ensures { result ≡ seen_file text.items gathering.places.items gathering.ends.items gathering.unended }
 {
@@ -393,8 +395,10 @@ fn finished(text: Vec<u8>, gathering: Gathering) -> Lexed
         unended,
         ..
     } = gathering;
-    give_back(&mut places);
-    give_back(&mut ends);
+    if kept {
+        give_back(&mut places);
+        give_back(&mut ends);
+    }
     Lexed {
         text,
         places,
@@ -429,7 +433,13 @@ pub fn lex_body(alloc: Global, body: Vec<u8>, trigraphs: bool) -> Result<Lexed, 
 {
     let SourceText { text, splices } = read_source(alloc, body, trigraphs)?;
     let gathering = gather(alloc, &text, &splices)?;
-    Ok(finished(text, gathering))
+    Ok(finished(text, gathering, true))
+}
+
+// For how many tokens of directives a text of so many bytes has room: they are less than half of most files' tokens, and those that
+// may ask for a file less than half of these.
+fn directive_room(bytes: usize, whole: bool) -> usize {
+    if whole { bytes / 10 } else { bytes / 20 }
 }
 
 // What is gathered of a whole text's directives alone: all of it, or what may ask for a file.
@@ -446,8 +456,8 @@ fn gather_directives(
     ensures file { IfOk result (λ g. seen_file text.now g.places.items g.ends.items g.unended ≡ kept_alone whole (file_of (elements zero [] (lined splices.now 0 1 text.now)))) }
     ensures gathered { IfOk result (λ g. IsGathered text.now g) }
 {
-    // Directives have less than half of most files' tokens.
-    let mut gathering = Gathering::with_room(alloc, text.len() / 2)?;
+    let tokens = directive_room(text.len(), whole);
+    let mut gathering = Gathering::with_room(alloc, tokens, text.len() / 30)?;
     let mut unpaired = Unpaired::new();
     // As in `gather`.
     let mut base = 1usize;
@@ -464,17 +474,25 @@ fn gather_directives(
         } else {
             passed = splices_passed(splices, passed, at);
             if begins_line(gathering.before) {
-                let (what, size) = next_part(text, at, is_due(gathering.before), &mut unpaired);
-                let word = stretch(text, at, size);
-                if begins_text(gathering.before, what, word) {
-                    let end = line_end(text, splices, at + size, base, passed, &mut unpaired);
-                    gathering.end_text(end.comment)?;
-                    base = end.base;
-                    at = end.at;
+                if is_lone_hash(text, at) {
+                    let line = (base + passed) as u32;
+                    let hash = (What::Token(Kind::Punct), 1);
+                    let (behind, next) = put_part(&mut gathering, text, at, base, line, hash)?;
+                    at = behind;
+                    base = next;
                 } else {
-                    gathering.add(text, what, at, size, (base + passed) as u32)?;
-                    base += newlines(what, word);
-                    at += size;
+                    let (what, size) = next_part(text, at, is_due(gathering.before), &mut unpaired);
+                    let word = stretch(text, at, size);
+                    if begins_text(gathering.before, what, word) {
+                        let end = line_end(text, splices, at + size, base, passed, &mut unpaired);
+                        gathering.end_text(end.comment)?;
+                        base = end.base;
+                        at = end.at;
+                    } else {
+                        gathering.add(text, what, at, size, (base + passed) as u32)?;
+                        base += newlines(what, word);
+                        at += size;
+                    }
                 }
             } else {
                 let named = begins_name(gathering.before);
@@ -501,7 +519,7 @@ fn lex_kept(alloc: Global, body: Vec<u8>, trigraphs: bool, whole: bool) -> Resul
 {
     let SourceText { text, splices } = read_source(alloc, body, trigraphs)?;
     let gathering = gather_directives(alloc, &text, &splices, whole)?;
-    Ok(finished(text, gathering))
+    Ok(finished(text, gathering, whole))
 }
 
 /// The directives of a file's body, of at most 16 MiB: its logical lines as `lex` gives them, but those that begin with no `#`

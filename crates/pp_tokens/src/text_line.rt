@@ -1,16 +1,19 @@
 // Where a line ends of which no token more is kept: a line of text (ISO C 6.10 paragraph 2), or a directive that asks for no
 // file. So only what may end a line or hide a
 // newline is read as a part: literals and comments. All other bytes are stepped over one by one, wherever tokens begin.
-ghost use Rattle.std.specs.Prelude.{◌≡◌, ◌+◌, ◌≤◌, length, drop, take_while};
+ghost use Rattle.std.specs.Prelude.{◌≡◌, ℕ, ◌+◌, ◌≤◌, ◌<◌, false, length, take, drop, take_while, IsTrue};
 ghost use Rattle.base_types.specs.Limits.{body_limit};
 ghost use Rattle.pp_tokens.specs.Lined.{spliced_up_to, Rising};
-ghost use Rattle.pp_tokens.specs.Lines.{spells_hash};
+ghost use Rattle.pp_tokens.specs.Lines.{Part, token, first_part, spells_hash};
+ghost use Rattle.pp_tokens.specs.declared.token.Kind.TheVariants.{Punct};
 ghost use Rattle.pp_tokens.specs.parts.TextLines.{is_ordinary, is_token_part, begins_line, begins_name, asks_nothing, begins_text, EndsText};
 ghost use Rattle.pp_tokens.specs.parts.Text.{part_told};
 ghost use Rattle.pp_tokens.specs.parts.Unpaired.{KnowsUnpaired};
 
+use crate::class::is_second;
 use crate::due::{Before, spells_hash};
 use crate::lexer::{newlines, splices_passed, stretch};
+use crate::marks::byte_at;
 use crate::part::{What, next_part};
 use crate::run::{Ordinary, run_length};
 use crate::unpaired::Unpaired;
@@ -49,6 +52,16 @@ pub fn asks_nothing(before: Before) -> bool
     ensures { result ≡ asks_nothing before }
 {
     matches!(before, Before::Other)
+}
+
+/// Whether a `#` stands at a place, with no byte behind it that may go on with a punctuator. So most directives begin.
+#[inline(always)]
+pub fn is_lone_hash(text: &[u8], at: usize) -> bool
+    requires { at < length text.now }
+    ensures part { IsTrue result → ◌≡◌ {A = Part × ℕ} (first_part false (drop at text.now)) (token Punct, 1) }
+    ensures hash { IsTrue result → IsTrue (spells_hash (take 1 (drop at text.now))) }
+{
+    text[at] == b'#' && !is_second(byte_at(text, at + 1))
 }
 
 /// Whether a part is the first token of a line of text.
@@ -94,6 +107,14 @@ pub fn line_end(
         let run = ordinary_at(text, at);
         if run > 0 {
             at += run;
+            // Most runs end with the line.
+            if at < text.len() && text[at] == b'\n' {
+                return LineEnd {
+                    at: at + 1,
+                    base: base + 1,
+                    comment: None,
+                };
+            }
         } else {
             let (what, size) = next_part(text, at, false, unpaired);
             let end = at + size;

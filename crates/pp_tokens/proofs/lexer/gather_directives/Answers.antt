@@ -2,7 +2,8 @@ use Rattle.std.proofs.Common.{◌≡◌, ◌≤◌, ◌<◌, ◌+◌, ◌-◌, �
 use Rattle.std.proofs.lemmas.List.Sums.{count_by-le-length}
 use Rattle.std.proofs.lemmas.List.{length-take-le}
 use Rattle.pp_tokens.specs.Lined.{spliced_up_to}
-use Rattle.pp_tokens.specs.Lines.{Part, newline, first_part, spells_hash}
+use Rattle.pp_tokens.specs.declared.token.Kind.TheVariants.{Punct}
+use Rattle.pp_tokens.specs.Lines.{Part, newline, token, first_part, spells_hash}
 use Rattle.pp_tokens.specs.DirectiveLines.{kept_alone}
 use Rattle.pp_tokens.specs.parts.Gathered.{newlines, IsPart, Gathers}
 use Rattle.pp_tokens.specs.parts.Text.{is_due, part_told}
@@ -13,7 +14,7 @@ use Rattle.pp_tokens.proofs.LaterPlaces.{known_later}
 use Rattle.pp_tokens.proofs.Splices.{up_to_all, up_to_later}
 use Rattle.pp_tokens.proofs.ShortParts.{short_stretch}
 use Rattle.pp_tokens.proofs.LexSteps.{first_within, first_is_part, nothing_gathered, lex_start, lex_step, lex_end, white_up_to, newline_at}
-use Rattle.pp_tokens.proofs.DirectiveSteps.{nothing_outlined, gap_outlined, part_outlined, text_outlined, text_step, end_outlined, is_cut, cut_named, cut_step, uncut_asking, uncut_behind, uncut_start, uncut_whole, is_a_token, newline_no_text}
+use Rattle.pp_tokens.proofs.DirectiveSteps.{nothing_outlined, gap_outlined, part_outlined, text_outlined, text_step, end_outlined, is_cut, cut_named, cut_step, uncut_asking, uncut_behind, uncut_start, uncut_whole, starts_undue, hash_no_text, is_a_token, newline_no_text}
 use Rattle.pp_tokens.proofs.lexer.gather_directives.Goals as goal
 use Rattle.pp_tokens.proofs.lexer.gather_directives.Goals.{After-next_part-what, In_ok-end, else-not-whole-via-then-not-whole+then-named+else-asks_nothing, else-not-whole-via-then-not-whole+else-named, else-not-whole-via-else-not-whole}
 
@@ -290,6 +291,43 @@ loop-at-preserved c =
       gathered = on.gathered;
       outlined = part_outlined c.args.whole text word old new put.part (c.loop-at.base + passed) c.loop-at.invariant.outlined put.gathers
           (ap (λ t. t && (is_token_part put.part && not (spells_hash word))) (begun s)) uncut;
+      state = on.state;
+    }
+
+pub overflow_add-line : goal.overflow_add-line
+overflow_add-line c =
+    omega (arith, c.loop-at.invariant.counted, c.loop-at-test.true, c.splices_passed-passed.ensures, up_to_all c.args.splices.now c.loop-at.at, c.requires.small)
+
+pub overflow_cast-line : goal.overflow_cast-line
+overflow_cast-line c =
+    omega (arith, c.loop-at.invariant.counted, c.loop-at-test.true, c.splices_passed-passed.ensures, up_to_all c.args.splices.now c.loop-at.at, c.requires.small)
+
+pub loop-at-preserved-then-is_lone_hash : goal.loop-at-preserved-then-is_lone_hash
+loop-at-preserved-then-is_lone_hash c =
+    let text = c.args.text.now in
+    let at = c.loop-at.at in
+    let old = c.loop-at.gathering in
+    let new = c.put_part.new.gathering in
+    let passed = c.splices_passed-passed.result in
+    let behind : ℕ × ℕ = (c.in_ok-behind.behind, c.in_ok-behind.next) in
+    let put = c.in_ok-behind.ensures in
+    let on =
+    first_put (kept_alone c.args.whole) text c.args.splices.now old new at c.loop-at.base passed behind c.loop-at-test.true c.loop-at.invariant.counted c.loop-at.invariant.few
+    c.splices_passed-passed.ensures c.loop-at.invariant.state put in
+    let starts : begins_line old.before ≡ true = sym c.begins_line.ensures ∙ c.if-begins_line.true in
+    let first : ◌≡◌ {A = Part × ℕ} (put.part, put.size) (token Punct, 1) =
+    put.first ∙ ap (λ d. first_part d (drop at text)) (starts_undue old.before starts) ∙ c.is_lone_hash.ensures.part c.if-is_lone_hash.true in
+    let spelled : spells_hash (take put.size (drop at text)) ≡ true =
+    ap (λ p. spells_hash (take p.1 (drop at text))) first ∙ c.is_lone_hash.ensures.hash c.if-is_lone_hash.true in
+    record {
+      within = on.within;
+      counted = on.counted;
+      passes = on.passes;
+      known = known_behind c.loop-at.unpaired text old new at c.loop-at.base (c.loop-at.base + passed) behind c.loop-at.invariant.known put;
+      few = on.few;
+      gathered = on.gathered;
+      outlined = part_outlined c.args.whole text (take put.size (drop at text)) old new put.part (c.loop-at.base + passed) c.loop-at.invariant.outlined put.gathers
+          (hash_no_text old.before put.part (take put.size (drop at text)) spelled) (uncut_start c.args.whole old.before new.before starts);
       state = on.state;
     }
 

@@ -1,22 +1,49 @@
-use Rattle.std.proofs.Common.{◌≡◌, ◌≤◌, ◌<◌, ◌+◌, ◌-◌, ℕ, List, [], zero, None, false, length, take, drop, sym, ap, ◌∙◌, arith, length-drop, subst, inl, inr, ◌==◌}
+use Rattle.std.proofs.Common.{◌≡◌, ◌≤◌, ◌<◌, ◌+◌, ◌-◌, ℕ, List, [], zero, None, false, length, take, drop, sym, ap, ◌∙◌, arith, length-drop, subst, inl, inr, get_or, ◌==◌}
 use Rattle.std.proofs.lemmas.List.Sums.{count_by-le-length}
-use Rattle.std.proofs.lemmas.List.{length-take-le, drop_all}
+use Rattle.std.proofs.Math.Nat.{add-zero}
+use Rattle.std.proofs.lemmas.List.{length-take-le, drop_all, get_or-drop}
 use Rattle.pp_tokens.specs.Phases.{Cell}
 use Rattle.pp_tokens.specs.Lined.{lined, spliced_up_to}
-use Rattle.pp_tokens.specs.Lines.{Part, open_comment, first_part, elements}
+use Rattle.pp_tokens.specs.Lines.{Part, newline, open_comment, first_part, elements}
 use Rattle.pp_tokens.specs.parts.Gathered.{newlines, IsPart}
 use Rattle.pp_tokens.specs.parts.Text.{part_told}
 use Rattle.pp_tokens.specs.parts.TextLines.{text_left, file_behind}
 use Rattle.pp_tokens.proofs.LaterPlaces.{known_later}
 use Rattle.pp_tokens.proofs.OneLine.{newline_newlines}
 use Rattle.pp_tokens.proofs.Splices.{up_to_all, up_to_later}
-use Rattle.pp_tokens.proofs.LexSteps.{first_within, first_is_part}
+use Rattle.pp_tokens.proofs.LexSteps.{first_within, first_is_part, newline_is, one_newline}
 use Rattle.pp_tokens.proofs.TextLeft.{left_behind, run_left, part_left, open_is_rest, nothing_left, comment_left}
 use Rattle.pp_tokens.proofs.text_line.line_end.Goals as goal
 use Rattle.pp_tokens.proofs.text_line.line_end.Goals.{After-next_part-what}
 
-pub loop-at-preserved-then-run-gt0 : goal.loop-at-preserved-then-run-gt0
-loop-at-preserved-then-run-gt0 c =
+pub returns-then-text-at-eq10-clause-end : goal.returns-then-text-at-eq10-clause-end
+returns-then-text-at-eq10-clause-end c =
+    let text = c.args.text.now in
+    let splices = c.args.splices.now in
+    let n = c.ordinary_at-run.result in
+    let base = c.loop-at.base in
+    let at = c.loop-at.at + n in
+    let xs = drop at text in
+    let below : at < length text = omega (arith, c.if-at-text.true) in
+    let some : 0 < length xs = omega (arith, length-drop at text, below) in
+    let here : get_or xs 0 0 ≡ 10 = get_or-drop at text 0 0 ∙ ap (λ i. get_or text i 0) (add-zero at) ∙ c.if-text-at-eq10.true in
+    record {
+      within = omega (arith, below);
+      later = omega (arith, c.loop-at.invariant.later);
+      counted = omega (arith, c.loop-at.invariant.counted);
+      file = c.loop-at.invariant.left
+          ∙ run_left text splices c.loop-at.at base n c.ordinary_at-run.ensures.run
+          ∙ part_left text splices at base newline 1 below (sym (newline_is text at false below c.if-text-at-eq10.true))
+          ∙ ap (λ m. file_behind None (elements zero [] (lined splices (at + 1) (base + m) (drop (at + 1) text)))) (one_newline xs some here);
+    }
+
+pub returns-then-text-at-eq10-clause-known : goal.returns-then-text-at-eq10-clause-known
+returns-then-text-at-eq10-clause-known c =
+    let n = c.ordinary_at-run.result in
+    known_later c.loop-at.unpaired c.args.text.now (c.loop-at.at + n) 1 (known_later c.loop-at.unpaired c.args.text.now c.loop-at.at n c.loop-at.invariant.known)
+
+pub loop-at-preserved-else-at-text : goal.loop-at-preserved-else-at-text
+loop-at-preserved-else-at-text c =
     let text = c.args.text.now in
     let at = c.loop-at.at in
     let n = c.ordinary_at-run.result in
