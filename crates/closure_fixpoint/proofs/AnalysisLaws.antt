@@ -34,6 +34,7 @@ use Rattle.closure_fixpoint.specs.Requested.{RefusalsHold}
 use Rattle.closure_fixpoint.specs.declared.entries.Gathered.TheVariants as gathered
 use Rattle.closure_fixpoint.specs.Gathering.{comes_before, AreGathered, HasLarge, is_over, GathersNodes}
 use Rattle.closure_fixpoint.proofs.Orders.{in_order}
+use Rattle.closure_fixpoint.proofs.MemberLaws.{test-all}
 use Rattle.closure_fixpoint.proofs.LeadsLaws.{less_itself, parts, long_more, presumed_more}
 use Rattle.closure_fixpoint.proofs.ProgressLaws.{sets-distinct}
 use Rattle.closure_fixpoint.proofs.NodeLaws.{nodes_of_done}
@@ -49,11 +50,6 @@ ok-for-told o (Ok answer) P each = for-told o (λ x. P x answer) each
 ok-for-told o (Err e) P each = tt
 
 -- ENTRIES
-
-test-all : {X : Type 0} (test : X → Bool) (xs : List X) → list_all test xs ≡ true → (x : X) → Member x xs → test x ≡ true
-test-all test [] all x m = elim m [ ]
-test-all test (y ∷ xs) all x (inl e) = ap test (sym e) ∙ (and_parts (test y) (list_all test xs) all).0
-test-all test (y ∷ xs) all x (inr m) = test-all test xs (and_parts (test y) (list_all test xs) all).1 x m
 
 -- lists that increase and have the same entries are one
 same-lists : (a b : Entries) → is_increasing a ≡ true → is_increasing b ≡ true → ((e : Path × Entry) → Member e a → Member e b) → ((e : Path × Entry) → Member e b → Member e a) → a ≡ b

@@ -25,7 +25,7 @@ use Rattle.job_frames.proofs.TreeLemmas.{fits_entry}
 use Rattle.macro_defs.proofs.Fronts.{front_at}
 use Rattle.closure_fixpoint.specs.Gathering.{comes_before, are_rising, AreGathered, HasLarge, with_path, kept_at, gathered_from, AreKept, AddsAt, files_there, files_among, unknown_there, unknown_among}
 use Rattle.closure_fixpoint.proofs.Orders.{in_order, at-member}
-use Rattle.closure_fixpoint.proofs.NodesTold.{test-all}
+use Rattle.closure_fixpoint.proofs.MemberLaws.{test-all}
 
 -- SPELLINGS
 
@@ -44,7 +44,7 @@ rising-front : (done : List Path) (q : Path) (rest : List Path) → are_rising (
 rising-front [] q rest up x m = elim m [ ]
 rising-front (y ∷ done) q rest up x (inl same) =
     let pair = and_parts (list_all (λ other. comes_before y other) (done ++ q ∷ rest)) (are_rising (done ++ q ∷ rest)) up in
-    ap (λ (p : Path). comes_before p q) (sym same) ∙ test-all y (done ++ q ∷ rest) pair.0 q (Member-append_right q done (q ∷ rest) (inl refl))
+    ap (λ (p : Path). comes_before p q) (sym same) ∙ test-all (λ other. comes_before y other) (done ++ q ∷ rest) pair.0 q (Member-append_right q done (q ∷ rest) (inl refl))
 rising-front (y ∷ done) q rest up x (inr m) =
     let pair = and_parts (list_all (λ other. comes_before y other) (done ++ q ∷ rest)) (are_rising (done ++ q ∷ rest)) up in
     rising-front done q rest pair.1 x m

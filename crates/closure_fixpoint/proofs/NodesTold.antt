@@ -15,7 +15,7 @@ use Rattle.closure_fixpoint.specs.Progress.{Heard, located_by_search, located_in
 use Rattle.closure_fixpoint.specs.Told.{AreNodesOf}
 use Rattle.closure_fixpoint.specs.Gathering.{upward, all_upward, walked_of, found_walked, searched_walked, hits_walked, sheets_walked, comes_before, are_rising}
 use Rattle.closure_fixpoint.proofs.Orders.{in_order}
-use Rattle.closure_fixpoint.proofs.MemberLaws.{MadeBy, flat_map-Member}
+use Rattle.closure_fixpoint.proofs.MemberLaws.{MadeBy, flat_map-Member, test-all}
 
 -- NODES OF JOINED LISTS
 
@@ -79,18 +79,12 @@ member-above path (name ∷ met) (inr above) never = inr (member-above path met 
 
 -- RISING PATHS STAND ONCE
 
-pub test-all : (path : Path) (paths : List Path) → list_all (λ other. comes_before path other) paths ≡ true → (x : Path) → Member x paths → comes_before path x ≡ true
-test-all path [] all x m = elim m [ ]
-test-all path (y ∷ paths) all x (inl e) =
-    ap (λ (p : Path). comes_before path p) (sym e) ∙ (and_parts (comes_before path y) (list_all (λ other. comes_before path other) paths) all).0
-test-all path (y ∷ paths) all x (inr m) = test-all path paths (and_parts (comes_before path y) (list_all (λ other. comes_before path other) paths) all).1 x m
-
 pub rising-once : (paths : List Path) → are_rising paths ≡ true → EachOnce paths
 rising-once [] up = tt
 rising-once (path ∷ paths) up = (
   λ m.
       let is : comes_before path path ≡ true =
-      test-all path paths (and_parts (list_all (λ other. comes_before path other) paths) (are_rising paths) up).0 path m in
+      test-all (λ other. comes_before path other) paths (and_parts (list_all (λ other. comes_before path other) paths) (are_rising paths) up).0 path m in
       let not_so : comes_before path path ≡ false = in_order.one_way path path is in absurd (cc),
   rising-once paths (and_parts (list_all (λ other. comes_before path other) paths) (are_rising paths) up).1,
 )

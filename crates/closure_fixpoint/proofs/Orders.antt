@@ -8,6 +8,7 @@ use Rattle.std.specs.Ordering.{nat_cmp, is_lt, ordering_reverse}
 use Rattle.std.specs.declared.cmp.Ordering.{Ordering}
 use Rattle.std.specs.declared.cmp.Ordering.TheVariants.{Less, Equal, Greater}
 use Rattle.std.specs.Cmp.Lexicographic.{slice_cmp}
+use Rattle.std.proofs.lemmas.Bool.{and_parts, and_from}
 use Rattle.std.proofs.lemmas.Cmp.{nat_list_cmp_total}
 use Rattle.std.proofs.lemmas.Map.Lookups.{exact_bytes}
 use Rattle.std.proofs.lemmas.List.MinMax.{ranks_by}
@@ -20,6 +21,7 @@ use Rattle.tree_model.specs.Paths.{Text, Path, spelled, IsCanonical}
 use Rattle.tree_model.specs.Laws.{SpellingsAreApart}
 use Rattle.tree_model.proofs.MemberLemmas.{Member-append, Member-append_left, Member-append_right}
 use Rattle.closure_fixpoint.specs.Gathering.{comes_before, are_rising, is_repeated, unless_repeated, paths_once}
+use Rattle.closure_fixpoint.proofs.MemberLaws.{test-all}
 
 -- MEMBERS
 
@@ -129,7 +131,7 @@ all-before y (x ∷ xs) each = both (comes_before y x) (list_all (λ other. come
     both false b ea eb = cc
 
 -- a path that isn't repeated comes before all in front of it
-before-all : (y : Path) (xs : List Path) → IsUp (y ∷ xs) → is_repeated y xs ≡ false → (x : Path) → Member x xs → comes_before y x ≡ true
+before-all : (y : Path) (xs : List Path) → IsUp xs → is_repeated y xs ≡ false → (x : Path) → Member x xs → comes_before y x ≡ true
 before-all y [] up e x m = elim m [ ]
 before-all y (z ∷ xs) up e x m = by_test (comes_before y x) refl
   where
@@ -143,7 +145,7 @@ before-all y (z ∷ xs) up e x m = by_test (comes_before y x) refl
         irreflexive : (b : Bool) → comes_before z z ≡ b → comes_before z z ≡ false
         irreflexive true e = in_order.one_way z z e
         irreflexive false e = e
-    not_below (inr n) = up.1.0 x n
+    not_below (inr n) = up.0 x n
 
     by_test : (b : Bool) → comes_before y x ≡ b → comes_before y x ≡ true
     by_test true t = t
@@ -161,7 +163,20 @@ once-rises (y ∷ xs) up = by_test (is_repeated y xs) refl (once-rises xs up.1)
     by_test true e rest = subst (λ (b : Bool). are_rising (cond b [] (y ∷ []) ++ paths_once xs) ≡ true) (sym e) rest
     by_test false e rest =
         subst (λ (b : Bool). are_rising (cond b [] (y ∷ []) ++ paths_once xs) ≡ true) (sym e)
-        (both (list_all (λ other. comes_before y other) (paths_once xs)) (are_rising (paths_once xs)) (all-before y (paths_once xs) (λ x m. before-all y xs up e x (once-of x xs m))) rest)
+        (both (list_all (λ other. comes_before y other) (paths_once xs)) (are_rising (paths_once xs)) (all-before y (paths_once xs) (λ x m. before-all y xs up.1 e x (once-of x xs m))) rest)
+
+-- IN ORDER ALREADY
+
+up-from_rising : (xs : List Path) → IsTrue (are_rising xs) → IsUp xs
+up-from_rising [] rising = tt
+up-from_rising (x ∷ xs) rising =
+    let pair = and_parts (list_all (λ other. comes_before x other) xs) (are_rising xs) rising in
+    ((λ other m. in_order.one_way x other (test-all (λ other. comes_before x other) xs pair.0 other m)), up-from_rising xs pair.1)
+
+-- a path that comes before the next of paths in order comes before them all
+pub rises-on : (y : Path) (xs : List Path) → is_repeated y xs ≡ false → IsTrue (are_rising xs) → IsTrue (are_rising (y ∷ xs))
+rises-on y xs e rising =
+    and_from (list_all (λ other. comes_before y other) xs) (are_rising xs) (all-before y xs (λ x m. before-all y xs (up-from_rising xs rising) e x m)) rising
 
 -- A SORT
 

@@ -1,5 +1,5 @@
 -- The nodes that were walked, each once.
-use Rattle.std.proofs.Common.{◌≡◌, ◌⊎◌, ◌+◌, ◌<◌, ℕ, zero, suc, ◌∷◌, ◌++◌, [], List, length, drop, arith, add-one, Some, Bool, true, false, cond, inl, inr, refl, sym, ap, subst, ◌∙◌}
+use Rattle.std.proofs.Common.{◌≡◌, ◌⊎◌, ◌+◌, ◌<◌, ℕ, zero, suc, ◌∷◌, ◌++◌, [], List, length, drop, arith, add-one, Some, Bool, true, false, ◌||◌, cond, inl, inr, refl, sym, ap, subst, ◌∙◌}
 use Rattle.std.specs.Prelude.{◌↔◌}
 use Rattle.std.specs.List.{list_any, flat_map, slice_get}
 use Rattle.base_types.specs.Members.{Member}
@@ -43,6 +43,16 @@ path-next f paths i path below is = rw (add-one i) (by_suc paths i path below is
     by_suc (other ∷ paths) (suc i) path below is = by_suc paths i path (omega (arith, below)) is
 
 -- MEMBERS
+
+-- a path with a number that passes
+pub passes-at : (test : Path → Bool) (paths : List Path) (number : ℕ) (path : Path) → slice_get paths number ≡ Some path → test path ≡ true → list_any test paths ≡ true
+passes-at test [] number path is passes = absurd (cc)
+passes-at test (other ∷ paths) zero path is passes = let same : other ≡ path = cc in ap (λ b. b || list_any test paths) (ap test same ∙ passes)
+passes-at test (other ∷ paths) (suc number) path is passes = ap (λ b. test other || b) (passes-at test paths number path is passes) ∙ or_yes (test other)
+  where
+    or_yes : (b : Bool) → (b || true) ≡ true
+    or_yes true = refl
+    or_yes false = refl
 
 among : (paths : List Path) (path : Path) → list_any (is_same_path path) paths ≡ true → Member path paths
 among paths path is = let by = list_any-by (is_same_path path) paths is in subst (λ (p : Path). Member p paths) (sym ((is_same_path-Decides path by.by).0 by.passes)) by.member

@@ -34,25 +34,41 @@ pub fn nodes_told(
     let mut walked = Walked::new(alloc);
     add_searched(alloc, searches, &mut walked)?;
     add_sheets(alloc, sheets, &mut walked)?;
-    let mut nodes = Vec::new(alloc);
+    let mut nodes = Vec::with_capacity(alloc, walked.len())?;
     add_all_upward(alloc, &walked, &mut nodes)?;
     sorted(alloc, nodes)
 }
 
-// Paths, each once, in order of their spellings' bytes.
+// Paths, each once, in order of their spellings' bytes. Those of an analysis stand so already.
 pub fn in_order(alloc: Global, paths: &[CanonPath]) -> Result<Vec<CanonPath>, AllocError>
     ensures rising { IfOk result (λ nodes. IsTrue (are_rising nodes.items)) }
     ensures same { IfOk result (λ nodes. (path : Path) → Member path nodes.items ↔ Member path paths.now) }
     ensures canonical { IfOk result (λ nodes. All IsCanonical nodes.items) }
 {
-    sorted(alloc, copies(alloc, paths)?)
+    let copies = copies(alloc, paths)?;
+    if is_rising(&copies) {
+        return Ok(copies);
+    }
+    sorted(alloc, copies)
+}
+
+// Each path comes before the next one.
+fn is_rising(paths: &[CanonPath]) -> bool
+    ensures { IsTrue result → IsTrue (are_rising paths.now) }
+{
+    for i in 0..paths.len() {
+        if is_repeated(&paths[i], &paths[i + 1..]) {
+            return false;
+        }
+    }
+    true
 }
 
 fn copies(alloc: Global, paths: &[CanonPath]) -> Result<Vec<CanonPath>, AllocError>
     ensures items { IfOk result (λ copies. copies.items ≡ paths.now) }
     ensures canonical { IfOk result (λ copies. All IsCanonical copies.items) }
 {
-    let mut copies = Vec::new(alloc);
+    let mut copies = Vec::with_capacity(alloc, paths.len())?;
     add_copies(alloc, paths, &mut copies)?;
     Ok(copies)
 }
@@ -97,6 +113,7 @@ fn add_walked(alloc: Global, paths: &[CanonPath], walked: &mut Walked) -> Result
 fn add_nodes(alloc: Global, nodes: &Nodes, walked: &mut Walked) -> Result<(), AllocError>
     ensures { OnOk result (walked.new ≡ with_paths walked.old nodes.now) }
 {
+    walked.begin();
     let (front, shared, behind) = nodes.parts();
     add_walked(alloc, front, walked)?;
     add_walked(alloc, shared, walked)?;
@@ -238,7 +255,7 @@ fn sorted(alloc: Global, nodes: Vec<CanonPath>) -> Result<Vec<CanonPath>, AllocE
 fn each_once(alloc: Global, nodes: &[CanonPath]) -> Result<Vec<CanonPath>, AllocError>
     ensures { IfOk result (λ list. list.items ≡ gathering.paths_once nodes.now) }
 {
-    let mut list = Vec::new(alloc);
+    let mut list = Vec::with_capacity(alloc, nodes.len())?;
     for i in 0..nodes.len() {
         add_once(alloc, &nodes[i], &nodes[i + 1..], &mut list)?;
     }

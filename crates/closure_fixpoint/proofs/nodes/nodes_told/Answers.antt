@@ -24,7 +24,7 @@ returns-clause-are c =
     (λ path. subst (λ (l : List Path). Member path l ↔ Member path (searched ++ in_sheets)) (sym walked) (each-walked (searched ++ in_sheets) path))
     (λ path.
     subst (λ (l : List Path). Member path l ↔ Member path (all_upward c.add_sheets.new.walked))
-    (sym (c.in_ok-add_all_upward.ensures.nodes ∙ ap (λ (l : List Path). l ++ all_upward_from c.add_sheets.new.walked c.add_sheets.new.walked) c.new-nodes.ensures.items))
+    (sym (c.in_ok-add_all_upward.ensures.nodes ∙ ap (λ (l : List Path). l ++ all_upward_from c.add_sheets.new.walked c.add_sheets.new.walked) c.in_ok-nodes.ensures.items))
     (each-above c.add_sheets.new.walked path))
     rising same)
     c.sorted.ensures.rising c.sorted.ensures.same
