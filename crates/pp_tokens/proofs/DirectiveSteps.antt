@@ -1,8 +1,8 @@
 -- The steps of the lexer that keeps the tokens of directives alone, all of them or as far as they may ask for a file.
-use Rattle.std.specs.Prelude.{◌≡◌, ℕ, zero, ◌+◌, ◌<◌, Bool, true, false, cond, not, List, [], ◌∷◌, ◌++◌, ◌||◌, map, length, take, drop, Option, None, Some, codes, bytes_eq, refl, ◌&&◌}
+use Rattle.std.specs.Prelude.{◌≡◌, ℕ, zero, ◌+◌, ◌<◌, ◌≤◌, Bool, true, false, cond, not, List, [], ◌∷◌, ◌++◌, ◌||◌, map, length, take, drop, Option, None, Some, codes, bytes_eq, refl, ◌&&◌}
 use Rattle.std.proofs.Common.{sym, ◌∙◌, ap, arith, subst, append_assoc, length-drop, drop-drop}
-use Rattle.std.proofs.lemmas.Bool.{not-true, not-false, and_parts}
-use Rattle.std.proofs.lemmas.List.{map-append, append-nil}
+use Rattle.std.proofs.lemmas.Bool.{not-true, and_parts}
+use Rattle.std.proofs.lemmas.List.{map-append, append-nil, length-append, length-take-le, take-append-drop}
 use Rattle.pp_tokens.specs.declared.token.Kind.{Kind}
 use Rattle.pp_tokens.specs.declared.token.Token.{Token}
 use Rattle.pp_tokens.specs.declared.due.Before.{Before}
@@ -12,15 +12,15 @@ use Rattle.pp_tokens.specs.declared.text_line.LineEnd.{LineEnd}
 use Rattle.pp_tokens.specs.Phases.{Cell, bytes}
 use Rattle.pp_tokens.specs.Lined.{lined}
 use Rattle.pp_tokens.specs.Lines.{Part, newline, white, comment, open_comment, token, Element, LexedFile, header_due, words_after, spells_hash, line_of, unended_line, first_part, elements, or_else}
-use Rattle.pp_tokens.specs.DirectiveLines.{may_ask, asking_part, kept_line, kept_alone}
-use Rattle.pp_tokens.specs.parts.Seen.{seen_lines, last_end}
+use Rattle.pp_tokens.specs.DirectiveLines.{may_ask, may_tell, asking_part, kept_line, kept_alone}
+use Rattle.pp_tokens.specs.parts.Seen.{token_of_place, seen_lines, last_end, Ascends, EachWithin}
 use Rattle.pp_tokens.specs.parts.Text.{after_word, is_due}
-use Rattle.pp_tokens.specs.parts.TextLines.{lines_behind, text_file, file_behind, begins_line, begins_name, asks_nothing, begins_text, is_token_part, EndsText}
-use Rattle.pp_tokens.specs.parts.Gathered.{newlines, lines_left, present_tokens, file_with, IsGathered, GathersNothing, EndsLastLine, EndsTextLine, AddsGap, Gathers}
+use Rattle.pp_tokens.specs.parts.TextLines.{lines_behind, text_file, file_behind, begins_line, begins_name, asks_nothing, begins_text, is_cut, is_token_part, EndsText}
+use Rattle.pp_tokens.specs.parts.Gathered.{newlines, lines_left, present_tokens, file_with, IsGathered, GathersNothing, EndsLastLine, EndsTextLine, DropsLine, AddsGap, Gathers}
 use Rattle.pp_tokens.proofs.DueWords.{after_words, due_is}
 use Rattle.pp_tokens.proofs.LinedRests.{lined_past, cut_bytes}
 use Rattle.pp_tokens.proofs.OneLine.{short_newlines}
-use Rattle.pp_tokens.proofs.Places.{ascends_line, last_of_more, all_dropped, line_more}
+use Rattle.pp_tokens.proofs.Places.{ascends_line, ascends_last, ascends_own, within_front, none_left, same_lines_all, last_of_more, all_dropped, line_more}
 use Rattle.pp_tokens.proofs.TextLeft.{same_left}
 use Rattle.pp_tokens.proofs.LexSteps.{LexState, first_within, first_is_part, part_first}
 
@@ -61,7 +61,7 @@ open_kept : (whole : Bool) (ts : List Token) → IsOpen whole ts → kept_line w
 open_kept whole ts opens = ap (kept_line whole) (sym (append-nil ts)) ∙ opens [] ∙ append-nil ts
 
 -- the present line is a directive, or empty
-present_kept : (whole : Bool) (text : List ℕ) (g : Gathering) → Outlined whole text g → kept_line whole (present_tokens text g) ≡ present_tokens text g
+pub present_kept : (whole : Bool) (text : List ℕ) (g : Gathering) → Outlined whole text g → kept_line whole (present_tokens text g) ≡ present_tokens text g
 present_kept whole text g o = by_start (begins_line g.before) refl (begins_name g.before) refl
   where
     by_start : (t : Bool) → begins_line g.before ≡ t → (u : Bool) → begins_name g.before ≡ u → kept_line whole (present_tokens text g) ≡ present_tokens text g
@@ -119,7 +119,7 @@ after_named Probe w h =
 after_named Probed w h = either begins_name (bytes_eq w (codes "__has_include")) Probe Condition refl refl
 after_named Other w h = refl
 
-name_asks : (w : List ℕ) → asks_nothing (after_word Hash w) ≡ not (may_ask w)
+pub name_asks : (w : List ℕ) → asks_nothing (after_word Hash w) ≡ not (may_ask w)
 unfolding after_word
 name_asks w = by_test (bytes_eq w (codes "include") || bytes_eq w (codes "include_next")) (bytes_eq w (codes "if") || bytes_eq w (codes "elif"))
   where
@@ -147,7 +147,7 @@ is_hash_only Probe h = absurd (cc)
 is_hash_only Probed h = absurd (cc)
 is_hash_only Other h = absurd (cc)
 
-is_other_only : (before : Before) → asks_nothing before ≡ true → before ≡ Other
+pub is_other_only : (before : Before) → asks_nothing before ≡ true → before ≡ Other
 is_other_only Nothing h = absurd (cc)
 is_other_only Hash h = absurd (cc)
 is_other_only Include h = absurd (cc)
@@ -164,25 +164,19 @@ hash_first k before w first h = by_test (spells_hash w) refl
     by_test true e = refl
     by_test false e = absurd (let wrong : true ≡ false = sym (rw (first, e) refl) ∙ h in cc)
 
--- a directive's name has told that nothing more of the line is kept
-abbrev pub is_cut : Bool → Before → Before → Bool
-is_cut whole before after = not whole && (begins_name before && asks_nothing after)
-
 and_no : (a : Bool) → (a && false) ≡ false
 and_no true = refl
 and_no false = refl
 
-pub uncut_asking : (whole : Bool) (before after : Before) → asks_nothing after ≡ false → is_cut whole before after ≡ false
-uncut_asking whole before after h = ap (λ t. not whole && (begins_name before && t)) h ∙ ap (λ t. not whole && t) (and_no (begins_name before)) ∙ and_no (not whole)
+pub uncut_asking : (whole : Bool) (before after : Before) (word : List ℕ) → asks_nothing after ≡ false → is_cut whole before after word ≡ false
+uncut_asking whole before after word h =
+    ap (λ t. not whole && (begins_name before && (t && not (may_tell word)))) h ∙ ap (λ t. not whole && t) (and_no (begins_name before)) ∙ and_no (not whole)
 
-pub uncut_behind : (whole : Bool) (before after : Before) → begins_name before ≡ false → is_cut whole before after ≡ false
-uncut_behind whole before after h = ap (λ t. not whole && (t && asks_nothing after)) h ∙ and_no (not whole)
+uncut_behind : (whole : Bool) (before after : Before) (word : List ℕ) → begins_name before ≡ false → is_cut whole before after word ≡ false
+uncut_behind whole before after word h = ap (λ t. not whole && (t && (asks_nothing after && not (may_tell word)))) h ∙ and_no (not whole)
 
-pub uncut_whole : (whole : Bool) (before after : Before) → whole ≡ true → is_cut whole before after ≡ false
-uncut_whole whole before after h = ap (λ t. is_cut t before after) h
-
-pub uncut_start : (whole : Bool) (before after : Before) → begins_line before ≡ true → is_cut whole before after ≡ false
-uncut_start whole before after h = uncut_behind whole before after (no_name before h)
+pub uncut_start : (whole : Bool) (before after : Before) (word : List ℕ) → begins_line before ≡ true → is_cut whole before after word ≡ false
+uncut_start whole before after word h = uncut_behind whole before after word (no_name before h)
   where
     no_name : (before : Before) → begins_line before ≡ true → begins_name before ≡ false
     no_name Nothing h = refl
@@ -193,15 +187,22 @@ uncut_start whole before after h = uncut_behind whole before after (no_name befo
     no_name Probed h = refl
     no_name Other h = refl
 
+-- a name that isn't told to be idle tells something
+tells_still : (asks line : Bool) → (not asks && not (asks || line)) ≡ false → (asks || line) ≡ true
+tells_still true line h = refl
+tells_still false true h = refl
+tells_still false false h = absurd (cc)
+
 -- behind the name of a directive that is kept
-name_open : (whole : Bool) (before : Before) (ts : List Token) (t : Token) → before ≡ Hash → IsHash ts → is_cut whole before (after_word before t.text) ≡ false
+name_open : (whole : Bool) (before : Before) (ts : List Token) (t : Token) → before ≡ Hash → IsHash ts → is_cut whole before (after_word before t.text) t.text ≡ false
     → IsOpen whole (ts ++ (t ∷ []))
 name_open true before ts t named h uncut more =
     (λ i. kept_line true ((h.1 i ++ (t ∷ [])) ++ more)) ∙ ap (λ (b : Bool). cond b (h.0 ∷ t ∷ more) []) h.2 ∙ (λ i. (sym h.1 i ++ (t ∷ [])) ++ more)
 name_open false before ts t named h uncut more =
-    let asked : not (may_ask t.text) ≡ false = sym (name_asks t.text) ∙ (λ i. begins_name (sym named i) && asks_nothing (after_word (sym named i) t.text)) ∙ uncut in
-    let asks : may_ask t.text ≡ true = not-false (may_ask t.text) asked in
-    (λ i. kept_line false ((h.1 i ++ (t ∷ [])) ++ more)) ∙ (λ i. cond (h.2 i) (h.0 ∷ t ∷ cond (asks i) more []) []) ∙ (λ i. (sym h.1 i ++ (t ∷ [])) ++ more)
+    let told : (not (may_ask t.text) && not (may_tell t.text)) ≡ false =
+    (λ i. sym (name_asks t.text) i && not (may_tell t.text)) ∙ (λ i. begins_name (sym named i) && (asks_nothing (after_word (sym named i) t.text) && not (may_tell t.text))) ∙ uncut in
+    let tells : may_tell t.text ≡ true = tells_still (may_ask t.text) (bytes_eq t.text (codes "line")) told in
+    (λ i. kept_line false ((h.1 i ++ (t ∷ [])) ++ more)) ∙ (λ i. cond (h.2 i) (cond (tells i) (h.0 ∷ t ∷ more) []) []) ∙ (λ i. (sym h.1 i ++ (t ∷ [])) ++ more)
 
 open_more : (whole : Bool) (ts us : List Token) → IsOpen whole ts → IsOpen whole (ts ++ us)
 open_more whole ts us opens more = ap (kept_line whole) (append_assoc ts us more) ∙ opens (us ++ more) ∙ sym (append_assoc ts us more)
@@ -215,7 +216,7 @@ token_hash k before ts t none other h = by_start (begins_line before) refl
     by_start false e = absurd (let wrong : true ≡ false = sym h ∙ after_named before t.text e in cc)
 
 token_open : (whole : Bool) (k : Kind) (text : List ℕ) (old : Gathering) (t : Token) → Outlined whole text old → begins_text old.before (token k) t.text ≡ false
-    → is_cut whole old.before (after_word old.before t.text) ≡ false → begins_name (after_word old.before t.text) ≡ false → IsOpen whole (present_tokens text old ++ (t ∷ []))
+    → is_cut whole old.before (after_word old.before t.text) t.text ≡ false → begins_name (after_word old.before t.text) ≡ false → IsOpen whole (present_tokens text old ++ (t ∷ []))
 token_open whole k text old t o other uncut named = by_start (begins_line old.before) refl (begins_name old.before) refl
   where
     by_start : (first : Bool) → begins_line old.before ≡ first → (second : Bool) → begins_name old.before ≡ second → IsOpen whole (present_tokens text old ++ (t ∷ []))
@@ -225,7 +226,7 @@ token_open whole k text old t o other uncut named = by_start (begins_line old.be
 
 -- one part more, where no line of text begins with it, and it is no name behind which nothing is kept
 pub part_outlined : (whole : Bool) (text spelling : List ℕ) (old new : Gathering) (part : Part) (line : ℕ) → Outlined whole text old → Gathers text old new part spelling line
-    → begins_text old.before part spelling ≡ false → is_cut whole old.before new.before ≡ false → Outlined whole text new
+    → begins_text old.before part spelling ≡ false → is_cut whole old.before new.before spelling ≡ false → Outlined whole text new
 part_outlined whole text spelling old new newline line o step other uncut = record {
   lines = ap (map (kept_line whole)) step.lines ∙ line_kept whole (seen text old) (present_tokens text old) o.lines (present_kept whole text old o) ∙ sym step.lines;
   none = λ h. step.present;
@@ -242,7 +243,7 @@ part_outlined whole text spelling old new (token k) line o step other uncut =
       none = λ h. absurd (let e : false ≡ true = sym (ap begins_line step.before ∙ after_begun old.before spelling) ∙ h in cc);
       hash = λ h. subst IsHash (sym step.present) (token_hash k old.before (present_tokens text old) t o.none other (sym (ap begins_name step.before) ∙ h));
       more = λ h named. subst (IsOpen whole) (sym step.present)
-          (token_open whole k text old t o other (ap (is_cut whole old.before) (sym step.before) ∙ uncut) (sym (ap begins_name step.before) ∙ named));
+          (token_open whole k text old t o other (ap (λ (after : Before). is_cut whole old.before after spelling) (sym step.before) ∙ uncut) (sym (ap begins_name step.before) ∙ named));
     }
 
 -- at the end
@@ -261,7 +262,7 @@ end_outlined whole text old new g o e =
 -- A LINE OF WHICH NO MORE IS KEPT
 
 -- whatever else stands on a line that begins so, this is kept of it
-abbrev Stays : Bool → List Token → List Token → Type 0
+abbrev pub Stays : Bool → List Token → List Token → Type 0
 Stays whole current kept = (more : List Token) → kept_line whole (current ++ more) ≡ kept
 
 stays_now : (whole : Bool) (current kept : List Token) → Stays whole current kept → kept_line whole current ≡ kept
@@ -281,13 +282,13 @@ joined_part whole kept (token k) cs es ih current space stays =
     let t : Token = record { kind = k; text = bytes cs; line = line_of cs; space = space } in
     ih (current ++ (t ∷ [])) false (λ more. ap (kept_line whole) (append_assoc current (t ∷ []) more) ∙ stays (t ∷ more))
 
-joined : (whole : Bool) (kept : List Token) (es : List Element) → Joins whole kept es
+pub joined : (whole : Bool) (kept : List Token) (es : List Element) → Joins whole kept es
 unfolding lines_left lines_behind
 joined whole kept [] current space stays = ap (λ (ts : List Token). ts ∷ []) (stays_now whole current kept stays)
 joined whole kept (e ∷ es) current space stays = joined_part whole kept e.part e.cells es (joined whole kept es) current space stays
 
 -- what is gathered, then what is kept of the present line, then a file behind it
-abbrev kept_so : Bool → List ℕ → Gathering → List Token → LexedFile → LexedFile
+abbrev pub kept_so : Bool → List ℕ → Gathering → List Token → LexedFile → LexedFile
 kept_so whole text g kept f = record {
   lines = seen_lines text g.places.items 0 g.ends.items ++ (kept ∷ map (kept_line whole) f.lines);
   unended = or_else g.unended f.unended;
@@ -322,7 +323,7 @@ unfolding after_words
 begun_stays before [] h = h
 begun_stays before (w ∷ ws) h = begun_stays (after_word before w) ws (after_begun before w)
 
-no_words : (ws : List (List ℕ)) → begins_line (after_words Nothing ws) ≡ true → ws ≡ []
+pub no_words : (ws : List (List ℕ)) → begins_line (after_words Nothing ws) ≡ true → ws ≡ []
 unfolding after_words
 no_words [] h = refl
 no_words (w ∷ ws) h = absurd (let e : true ≡ false = sym h ∙ begun_stays (after_word Nothing w) ws (after_begun Nothing w) in cc)
@@ -331,24 +332,68 @@ or_assoc : (a b c : Option ℕ) → or_else (or_else a b) c ≡ or_else a (or_el
 or_assoc None b c = refl
 or_assoc (Some x) b c = refl
 
--- the finished lines and the present one behind the end of a line
-line_ended : (text : List ℕ) (old new : Gathering) (unended : Option ℕ) → IsGathered text old → EndsTextLine old new unended
-    → (seen text new ≡ seen text old ++ (present_tokens text old ∷ [])) × (present_tokens text new ≡ [])
-line_ended text old new unended g e = (
-  rw (e.places, e.ends) (line_more text old.places.items 0 old.ends.items g.ascends),
-  rw (e.places, e.ends) (rw (last_of_more 0 old.ends.items (length old.places.items), all_dropped old.places.items) refl),
-)
+-- the line has ended, and so much is kept of it
+pub record EndsSo (text : List ℕ) (old new : Gathering) (kept : List Token) (unended : Option ℕ) : Type 0 where
+  pub lines : seen_lines text new.places.items 0 new.ends.items ≡ seen_lines text old.places.items 0 old.ends.items ++ (kept ∷ [])
+  pub present : present_tokens text new ≡ []
+  pub first : new.unended ≡ or_else old.unended unended
+  pub before : new.before ≡ Nothing
+  pub begun : new.begun ≡ false
+  pub space : new.space ≡ true
+  pub gathered : IsGathered text new
+
+-- what was gathered of it
+pub ends_so : (text : List ℕ) (old new : Gathering) (unended : Option ℕ) → IsGathered text old → EndsTextLine old new unended → EndsSo text old new (present_tokens text old) unended
+ends_so text old new unended g e = record {
+  lines = rw (e.places, e.ends) (line_more text old.places.items 0 old.ends.items g.ascends);
+  present = rw (e.places, e.ends) (rw (last_of_more 0 old.ends.items (length old.places.items), all_dropped old.places.items) refl);
+  first = e.first;
+  before = e.before;
+  begun = e.begun;
+  space = e.space;
+  gathered = record { ascends = rw (e.places, e.ends) (ascends_line 0 old.ends.items (length old.places.items) g.ascends); within = rw e.places g.within };
+}
+
+-- or nothing
+pub dropped_so : (text : List ℕ) (old mid new : Gathering) (unended : Option ℕ) → IsGathered text old → DropsLine old mid → EndsTextLine mid new unended → EndsSo text old new [] unended
+dropped_so text old mid new unended g d e =
+    let places = old.places.items in
+    let k = last_end 0 old.ends.items in
+    let last = ascends_last 0 old.ends.items (length places) g.ascends in
+    let size : length (take k places) ≡ k = length-take-le k places last.1 in
+    let ascends : Ascends 0 old.ends.items (length (take k places)) = subst (Ascends 0 old.ends.items) (sym size) (ascends_own 0 old.ends.items (length places) g.ascends) in
+    let mid_gathered : IsGathered text mid = record {
+      ascends = rw (d.places, d.ends) ascends;
+      within = rw d.places (within_front text (take k places) (drop k places) (subst (EachWithin text) (sym (take-append-drop k places)) g.within));
+    } in
+    let so = ends_so text mid new unended mid_gathered e in
+    let none : present_tokens text mid ≡ [] = rw (d.places, d.ends) (ap (map (token_of_place text)) (none_left k places)) in
+    let same : seen text mid ≡ seen text old =
+    rw (d.places, d.ends) (sym (ap (λ ps. seen_lines text ps 0 old.ends.items) (sym (take-append-drop k places)) ∙ same_lines_all text (take k places) (drop k places) 0 old.ends.items ascends)) in
+    record {
+      lines = so.lines ∙ (λ i. same i ++ (none i ∷ []));
+      present = so.present;
+      first = so.first ∙ ap (λ o. or_else o unended) d.unended;
+      before = so.before;
+      begun = so.begun;
+      space = so.space;
+      gathered = so.gathered;
+    }
+
+pub dropped_few : (old mid new : Gathering) (unended : Option ℕ) → DropsLine old mid → EndsTextLine mid new unended → length new.places.items ≤ length old.places.items
+dropped_few old mid new unended d e =
+    let places = old.places.items in
+    let k = last_end 0 old.ends.items in
+    omega (arith, ap length e.places, ap length d.places, length-append (take k places) (drop k places), ap length (take-append-drop k places))
 
 -- the file from the end of the line on
-line_behind : (whole : Bool) (text : List ℕ) (old new : Gathering) (unended : Option ℕ) (es : List Element) → IsGathered text old → map (kept_line whole) (seen text old) ≡ seen text old
-    → kept_line whole (present_tokens text old) ≡ present_tokens text old → EndsTextLine old new unended
-    → kept_alone whole (file_with text new es) ≡ kept_so whole text old (present_tokens text old) (file_behind unended es)
-line_behind whole text old new unended es g lines kept e =
-    let now = line_ended text old new unended g e in
-    let one : List (List Token) = present_tokens text old ∷ [] in
+pub line_behind : (whole : Bool) (text : List ℕ) (old new : Gathering) (kept : List Token) (unended : Option ℕ) (es : List Element) → map (kept_line whole) (seen text old) ≡ seen text old
+    → kept_line whole kept ≡ kept → EndsSo text old new kept unended → kept_alone whole (file_with text new es) ≡ kept_so whole text old kept (file_behind unended es)
+line_behind whole text old new kept unended es lines same e =
+    let one : List (List Token) = kept ∷ [] in
     let others = map (kept_line whole) (lines_left false [] true es) in
     (λ i. record {
-      lines = map (kept_line whole) (now.0 i ++ lines_left (e.begun i) (now.1 i) (e.space i) es);
+      lines = map (kept_line whole) (e.lines i ++ lines_left (e.begun i) (e.present i) (e.space i) es);
       unended = or_else (e.first i) (unended_line es);
     })
     ∙ (λ i. record {
@@ -356,27 +401,26 @@ line_behind whole text old new unended es g lines kept e =
       unended = or_assoc old.unended unended (unended_line es) i;
     })
     ∙ ap (λ (ls : List (List Token)). record { lines = ls ++ others; unended = or_else old.unended (or_else unended (unended_line es)) })
-    (line_kept whole (seen text old) (present_tokens text old) lines kept)
+    (line_kept whole (seen text old) kept lines same)
     ∙ ap (λ (ls : List (List Token)). record { lines = ls; unended = or_else old.unended (or_else unended (unended_line es)) })
     (append_assoc (seen text old) one others)
 
-line_outlined : (whole : Bool) (text : List ℕ) (old new : Gathering) (unended : Option ℕ) → IsGathered text old → map (kept_line whole) (seen text old) ≡ seen text old
-    → kept_line whole (present_tokens text old) ≡ present_tokens text old → EndsTextLine old new unended
-    → IsGathered text new × Outlined whole text new
-line_outlined whole text old new unended g lines kept e =
-    let now = line_ended text old new unended g e in (
-      record { ascends = rw (e.places, e.ends) (ascends_line 0 old.ends.items (length old.places.items) g.ascends); within = rw e.places g.within },
-      record {
-        lines = ap (map (kept_line whole)) now.0 ∙ line_kept whole (seen text old) (present_tokens text old) lines kept ∙ sym now.0;
-        none = λ h. now.1;
-        hash = λ h. absurd (let wrong : false ≡ true = sym (ap begins_name e.before) ∙ h in cc);
-        more = λ h named. absurd (let wrong : true ≡ false = sym (ap begins_line e.before) ∙ h in cc);
-      },
-    )
+line_outlined : (whole : Bool) (text : List ℕ) (old new : Gathering) (kept : List Token) (unended : Option ℕ) → map (kept_line whole) (seen text old) ≡ seen text old
+    → kept_line whole kept ≡ kept → EndsSo text old new kept unended → IsGathered text new × Outlined whole text new
+line_outlined whole text old new kept unended lines same e = (
+  e.gathered,
+  record {
+    lines = ap (map (kept_line whole)) e.lines ∙ line_kept whole (seen text old) kept lines same ∙ sym e.lines;
+    none = λ h. e.present;
+    hash = λ h. absurd (let wrong : false ≡ true = sym (ap begins_name e.before) ∙ h in cc);
+    more = λ h named. absurd (let wrong : true ≡ false = sym (ap begins_line e.before) ∙ h in cc);
+  },
+)
 
 pub text_outlined : (whole : Bool) (text : List ℕ) (old new : Gathering) (unended : Option ℕ) → IsGathered text old → Outlined whole text old → EndsTextLine old new unended
     → IsGathered text new × Outlined whole text new
-text_outlined whole text old new unended g o e = line_outlined whole text old new unended g o.lines (present_kept whole text old o) e
+text_outlined whole text old new unended g o e =
+    line_outlined whole text old new (present_tokens text old) unended o.lines (present_kept whole text old o) (ends_so text old new unended g e)
 
 -- the elements of a line of text may be replaced by what is behind it, once it has ended
 text_replaced : (whole : Bool) (text : List ℕ) (old new : Gathering) (k : Kind) (cells : List Cell) (es others : List Element) (unended : Option ℕ) → IsGathered text old
@@ -386,7 +430,7 @@ text_replaced whole text old new k cells es others unended g o first other left 
     text_begun whole text old k cells es o first other
     ∙ ap (kept_so whole text old []) left
     ∙ ap (λ (ts : List Token). kept_so whole text old ts (file_behind unended others)) (sym (o.none first))
-    ∙ sym (line_behind whole text old new unended others g o.lines (present_kept whole text old o) e)
+    ∙ sym (line_behind whole text old new (present_tokens text old) unended others o.lines (present_kept whole text old o) (ends_so text old new unended g e))
 
 -- a line of text from its first token on
 pub text_step : (whole : Bool) (text splices : List ℕ) (old new : Gathering) (at base n : ℕ) (k : Kind) (end : LineEnd) → LexState (kept_alone whole) text splices old at base
@@ -425,12 +469,12 @@ text_step whole text splices old new at base n k end state g o below is begins e
 
 -- A DIRECTIVE THAT ASKS FOR NO FILE
 
--- nothing more of the present line is kept
+-- nothing of the present line is kept
 pub record IsCut (whole : Bool) (text : List ℕ) (g : Gathering) : Type 0 where
   pub lines : map (kept_line whole) (seen_lines text g.places.items 0 g.ends.items) ≡ seen_lines text g.places.items 0 g.ends.items
   pub begun : g.begun ≡ true
   pub other : g.before ≡ Other
-  pub stays : Stays whole (present_tokens text g) (present_tokens text g)
+  pub stays : Stays whole (present_tokens text g) []
 
 -- `#` alone isn't enough to tell it
 name_still : (before after : Before) → after ≡ before → begins_name before ≡ true → asks_nothing after ≡ true → ⊥
@@ -438,54 +482,50 @@ name_still before after same named nothing =
     let wrong : false ≡ true = ap asks_nothing (sym (same ∙ is_hash_only before named)) ∙ nothing in cc
 
 cut_part : (text spelling : List ℕ) (old new : Gathering) (part : Part) (line : ℕ) → Outlined false text old → Gathers text old new part spelling line
-    → begins_name old.before ≡ true → asks_nothing new.before ≡ true → IsCut false text new
+    → begins_name old.before ≡ true → asks_nothing new.before ≡ true → may_tell spelling ≡ false → IsCut false text new
 unfolding after_word
-cut_part text spelling old new newline line o step named nothing = absurd (let wrong : false ≡ true = ap asks_nothing (sym step.before) ∙ nothing in cc)
-cut_part text spelling old new white line o step named nothing = absurd (name_still old.before new.before step.before named nothing)
-cut_part text spelling old new comment line o step named nothing = absurd (name_still old.before new.before step.before named nothing)
-cut_part text spelling old new open_comment line o step named nothing = absurd (name_still old.before new.before step.before named nothing)
-cut_part text spelling old new (token k) line o step named nothing =
+cut_part text spelling old new newline line o step named nothing idle = absurd (let wrong : false ≡ true = ap asks_nothing (sym step.before) ∙ nothing in cc)
+cut_part text spelling old new white line o step named nothing idle = absurd (name_still old.before new.before step.before named nothing)
+cut_part text spelling old new comment line o step named nothing idle = absurd (name_still old.before new.before step.before named nothing)
+cut_part text spelling old new open_comment line o step named nothing idle = absurd (name_still old.before new.before step.before named nothing)
+cut_part text spelling old new (token k) line o step named nothing idle =
     let t : Token = record { kind = k; text = spelling; line = line; space = old.space } in
     let h = o.hash named in
-    let behind : asks_nothing (after_word Hash spelling) ≡ true =
-    (λ i. asks_nothing (after_word (sym (is_hash_only old.before named) i) spelling)) ∙ ap asks_nothing (sym step.before) ∙ nothing in
-    let none : may_ask spelling ≡ false = not-true (may_ask spelling) (sym (name_asks spelling) ∙ behind) in
     let present : present_tokens text new ≡ h.0 ∷ t ∷ [] = step.present ∙ ap (λ (ts : List Token). ts ++ (t ∷ [])) h.1 in
     record {
       lines = ap (map (kept_line false)) step.lines ∙ o.lines ∙ sym step.lines;
       begun = step.begun;
       other = is_other_only new.before nothing;
       stays = λ more.
-          (λ i. kept_line false (present i ++ more)) ∙ (λ i. cond (h.2 i) (h.0 ∷ t ∷ cond (none i) more []) []) ∙ sym present;
+          (λ i. kept_line false (present i ++ more)) ∙ (λ i. cond (h.2 i) (cond (idle i) (h.0 ∷ t ∷ more) []) []);
     }
 
 pub cut_named : (whole : Bool) (text spelling : List ℕ) (old new : Gathering) (part : Part) (line : ℕ) → Outlined whole text old → Gathers text old new part spelling line
-    → is_cut whole old.before new.before ≡ true → IsCut whole text new
+    → is_cut whole old.before new.before spelling ≡ true → IsCut whole text new
 cut_named true text spelling old new part line o step cut = absurd (cc)
 cut_named false text spelling old new part line o step cut =
-    let both = and_parts (begins_name old.before) (asks_nothing new.before) cut in
-    cut_part text spelling old new part line o step both.0 both.1
+    let both = and_parts (begins_name old.before) (asks_nothing new.before && not (may_tell spelling)) cut in
+    let idle = and_parts (asks_nothing new.before) (not (may_tell spelling)) both.1 in
+    cut_part text spelling old new part line o step both.0 idle.0 (not-true (may_tell spelling) idle.1)
 
 -- the rest of its line is passed over
-pub cut_step : (whole : Bool) (text splices : List ℕ) (old new : Gathering) (at base : ℕ) (end : LineEnd) → LexState (kept_alone whole) text splices old at base → IsGathered text old
-    → IsCut whole text old → EndsText text splices at base end → EndsTextLine old new end.comment
+pub cut_step : (whole : Bool) (text splices : List ℕ) (old new : Gathering) (at base : ℕ) (end : LineEnd) → LexState (kept_alone whole) text splices old at base
+    → IsCut whole text old → EndsText text splices at base end → EndsSo text old new [] end.comment
     → LexState (kept_alone whole) text splices new end.at end.base × (IsGathered text new × Outlined whole text new)
 unfolding after_words
-cut_step whole text splices old new at base end state g cut ended e =
+cut_step whole text splices old new at base end state cut ended e =
     let cells = lined splices at base (drop at text) in
-    let present = present_tokens text old in
-    let kept : kept_line whole present ≡ present = stays_now whole present present cut.stays in
     let left : text_file (elements zero state.words cells) ≡ file_behind end.comment (elements zero [] (lined splices end.at end.base (drop end.at text))) =
     same_left cells state.words (state.seen ∙ cut.other) ∙ ended.file in (
       record {
         words = [];
         seen = sym e.before;
         file = state.file
-            ∙ cut_begun whole text old present (elements zero state.words cells) cut.lines cut.begun cut.stays
-            ∙ ap (kept_so whole text old present) left
-            ∙ sym (line_behind whole text old new end.comment (elements zero [] (lined splices end.at end.base (drop end.at text))) g cut.lines kept e);
+            ∙ cut_begun whole text old [] (elements zero state.words cells) cut.lines cut.begun cut.stays
+            ∙ ap (kept_so whole text old []) left
+            ∙ sym (line_behind whole text old new [] end.comment (elements zero [] (lined splices end.at end.base (drop end.at text))) cut.lines refl e);
       },
-      line_outlined whole text old new end.comment g cut.lines kept e,
+      line_outlined whole text old new [] end.comment cut.lines refl e,
     )
 
 -- no header name is due where a line begins

@@ -322,7 +322,7 @@ lex_end view text splices old new at base past g state e =
 
 -- A RUN OF WHITE SPACE
 
-white_is : (text : List ℕ) (at : ℕ) (due : Bool) → at < length text → is_white (get_or text at 0) ≡ true → first_part due (drop at text) ≡ (white, 1)
+pub white_is : (text : List ℕ) (at : ℕ) (due : Bool) → at < length text → is_white (get_or text at 0) ≡ true → first_part due (drop at text) ≡ (white, 1)
 white_is text at due below blank =
     let here : get_or (drop at text) 0 0 ≡ get_or text at 0 = get_or-drop at text 0 0 ∙ ap (λ i. get_or text i 0) (omega arith) in
     due_or_not text at due below (opens_none is_white (get_or text at 0) blank refl refl) ∙ white_first (drop at text) (ap is_white here ∙ blank)
@@ -342,7 +342,7 @@ one_white view text splices old new at base g state below blank e =
 abbrev pub AreWhite : List ℕ → ℕ → ℕ → Type 0
 AreWhite text at n = (k : ℕ) → k < n → (at + k < length text) × (is_white (get_or text (at + k) 0) ≡ true)
 
-later_white : (text : List ℕ) (at n : ℕ) → AreWhite text at (suc n) → AreWhite text (at + 1) n
+pub later_white : (text : List ℕ) (at n : ℕ) → AreWhite text at (suc n) → AreWhite text (at + 1) n
 later_white text at n blank k less =
     let next : at + suc k ≡ at + 1 + k = omega arith in
     let here = blank (suc k) (omega (arith, less)) in

@@ -42,4 +42,5 @@ mod Runs
 mod OrdinaryParts
 mod TextLeft
 mod DirectiveSteps
+mod IdleLines
 mod WholeTokens

@@ -1,8 +1,8 @@
 -- The lines that a list of places and the lines' ends show.
 use Rattle.std.specs.Prelude.{◌≡◌, ℕ, zero, suc, ◌+◌, ◌-◌, ◌≤◌, ◌<◌, List, [], ◌∷◌, ◌++◌, map, length, take, drop, get_or, Some, None, refl, slice_get, option_map}
-use Rattle.std.proofs.Common.{sym, ◌∙◌, ap, arith, length-drop, subst}
+use Rattle.std.proofs.Common.{sym, ◌∙◌, ap, arith, length-drop, subst, append_assoc}
 use Rattle.std.proofs.Math.Seq.{take-length}
-use Rattle.std.proofs.lemmas.List.{map-append, drop-append-le, take-append-le, length-map, length-take-le, get_or_default}
+use Rattle.std.proofs.lemmas.List.{map-append, append-nil, length-append, drop-append-le, take-append-le, length-map, length-take-le, get_or_default}
 use Rattle.std.proofs.lemmas.Option.{slice_get-map, slice_get_past}
 use Rattle.pp_tokens.specs.declared.place.Place.{Place}
 use Rattle.pp_tokens.specs.declared.token.Token.{Token}
@@ -19,6 +19,12 @@ unfolding Ascends
 ascends_more from [] last more le h = omega arith
 ascends_more from (end ∷ ends) last more le (low, h) = (low, ascends_more end ends last more le h)
 
+-- the ends go up to their own last
+pub ascends_own : (from : ℕ) (ends : List ℕ) (last : ℕ) → Ascends from ends last → Ascends from ends (last_end from ends)
+unfolding Ascends last_end
+ascends_own from [] last h = omega arith
+ascends_own from (end ∷ ends) last (low, h) = (low, ascends_own end ends last h)
+
 pub ascends_line : (from : ℕ) (ends : List ℕ) (last : ℕ) → Ascends from ends last → Ascends from (ends ++ (last ∷ [])) last
 unfolding Ascends
 ascends_line from [] last h = (h, omega arith)
@@ -29,10 +35,37 @@ unfolding last_end
 last_of_more from [] last = refl
 last_of_more from (end ∷ ends) last = last_of_more end ends last
 
+-- the last end, where a list has one
+pub last_end_is : (from : ℕ) (ends : List ℕ) (end : ℕ) → slice_get ends (length ends - 1) ≡ Some end → last_end from ends ≡ end
+unfolding last_end
+last_end_is from [] end is = absurd (cc)
+last_end_is from (one ∷ []) end is = let same : one ≡ end = cc in same
+last_end_is from (one ∷ two ∷ ends) end is =
+    let place : length (one ∷ two ∷ ends) - 1 ≡ suc (length (two ∷ ends) - 1) = omega arith in
+    last_end_is one (two ∷ ends) end (sym (ap (slice_get (one ∷ two ∷ ends)) place) ∙ is)
+
+pub no_last : (ends : List ℕ) → slice_get ends (length ends - 1) ≡ None → ends ≡ []
+no_last [] is = refl
+no_last (one ∷ []) is = absurd (cc)
+no_last (one ∷ two ∷ ends) is =
+    let place : length (one ∷ two ∷ ends) - 1 ≡ suc (length (two ∷ ends) - 1) = omega arith in
+    let none : (two ∷ ends) ≡ [] = no_last (two ∷ ends) (sym (ap (slice_get (one ∷ two ∷ ends)) place) ∙ is) in
+    absurd (cc)
+
 pub within_more : (text : List ℕ) (places : List Place) (p : Place) → EachWithin text places → (place_told p).start + (place_told p).length ≤ length text → EachWithin text (places ++ (p ∷ []))
 unfolding EachWithin
 within_more text [] p h le = (le, tt)
 within_more text (q ∷ places) p h le = (h.0, within_more text places p h.1 le)
+
+pub within_front : (text : List ℕ) (places others : List Place) → EachWithin text (places ++ others) → EachWithin text places
+unfolding EachWithin
+within_front text [] others h = tt
+within_front text (q ∷ places) others h = (h.0, within_front text places others h.1)
+
+pub none_left : {A : Type 0} → (k : ℕ) (xs : List A) → drop k (take k xs) ≡ []
+none_left zero xs = refl
+none_left (suc k) [] = refl
+none_left (suc k) (x ∷ xs) = none_left k xs
 
 pub all_dropped : {A : Type 0} → (xs : List A) → drop (length xs) xs ≡ []
 all_dropped [] = refl
@@ -49,6 +82,15 @@ same_lines text places p from (end ∷ ends) (low, h) =
     let front : take (end - from) (drop from places ++ (p ∷ [])) ≡ take (end - from) (drop from places) =
     take-append-le (end - from) (drop from places) (p ∷ []) (omega (arith, low, high, length-drop from places)) in
     rw (behind, front, same_lines text places p end ends h) refl
+
+-- nor do more
+pub same_lines_all : (text : List ℕ) (places others : List Place) (from : ℕ) (ends : List ℕ) → Ascends from ends (length places) → seen_lines text (places ++ others) from ends ≡ seen_lines text places from ends
+same_lines_all text places [] from ends h = ap (λ ps. seen_lines text ps from ends) (append-nil places)
+same_lines_all text places (p ∷ others) from ends h =
+    let longer : length places ≤ length (places ++ (p ∷ [])) = omega (arith, length-append places (p ∷ [])) in
+    ap (λ ps. seen_lines text ps from ends) (sym (append_assoc places (p ∷ []) others))
+    ∙ same_lines_all text (places ++ (p ∷ [])) others from ends (ascends_more from ends (length places) (length (places ++ (p ∷ []))) longer h)
+    ∙ same_lines text places p from ends h
 
 -- the line that ends with the last place
 pub line_more : (text : List ℕ) (places : List Place) (from : ℕ) (ends : List ℕ) → Ascends from ends (length places)

@@ -12,11 +12,15 @@ begins_hash (t ∷ ts) = spells_hash t.text
 abbrev pub may_ask : List ℕ → Bool
 may_ask name = (bytes_eq name (codes "include") || bytes_eq name (codes "include_next")) || (bytes_eq name (codes "if") || bytes_eq name (codes "elif"))
 
--- a directive's `#` and its name, and the rest of it where it may ask for a file
+-- or it may change what `__FILE__` and `__LINE__` are in its own: `#line` (6.10.4)
+abbrev pub may_tell : List ℕ → Bool
+may_tell name = may_ask name || bytes_eq name (codes "line")
+
+-- a directive whose name is one of those, or that has none; nothing is kept of any other
 abbrev pub asking_part : List Token → List Token
 asking_part [] = []
 asking_part (hash ∷ []) = hash ∷ []
-asking_part (hash ∷ name ∷ ts) = hash ∷ name ∷ (if may_ask name.text then ts else [])
+asking_part (hash ∷ name ∷ ts) = if may_tell name.text then hash ∷ name ∷ ts else []
 
 -- of a directive all tokens or those, and of text none
 abbrev pub kept_line : Bool → List Token → List Token
@@ -34,6 +38,6 @@ kept_alone whole f = record { lines = map (kept_line whole) f.lines; unended = f
 abbrev pub directives_alone : LexedFile → LexedFile
 directives_alone = kept_alone true
 
--- the same as far as a directive may ask for a file: of each other its `#` and its name are left
+-- the same of those directives alone that may ask for a file, or tell of their own
 abbrev pub asking_alone : LexedFile → LexedFile
 asking_alone = kept_alone false

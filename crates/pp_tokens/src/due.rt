@@ -92,9 +92,9 @@ fn after_nothing(word: &[u8]) -> Before
     }
 }
 
-// Whether a word is this one. Most words aren't even as long.
+/// Whether a word is this one. Most words aren't even as long.
 #[inline(always)]
-fn spells(word: &[u8], wanted: &[u8]) -> bool
+pub fn spells(word: &[u8], wanted: &[u8]) -> bool
     ensures { result ≡ bytes_eq word.now wanted.now }
 {
     word.len() == wanted.len() && word == wanted

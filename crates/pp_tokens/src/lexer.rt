@@ -6,15 +6,16 @@
 // memory of its own, and time is linear in the body, since a quote or a delimiter without a partner is looked for once a line
 // (`unpaired.rt`). What holds between two parts stands in specs/parts/Gathered.antt.
 //
-// `gather_directives` keeps the tokens of directives alone (6.10 paragraph 2), all of them or as far as they may ask for a file
+// `gather_directives` keeps the tokens of directives alone (6.10 paragraph 2), of all or of those that may ask for a file
 // (`kept_alone` in specs/DirectiveLines.antt). It goes as `gather` does up to the first token of a line of text, or the name of a
-// directive that asks for none, and from there to the end of that line by `text_line.rt`, which passes over its tokens. What is left
-// of a file from there on stands in specs/parts/TextLines.antt.
+// directive that isn't kept, and from there to the end of that line by `text_line.rt`, which passes over its tokens. Such a name is looked
+// for where the line's `#` stands, so that no token of most such lines is made. What is left of a file from there on stands in
+// specs/parts/TextLines.antt.
 ghost use Rattle.std.specs.Prelude.{◌≡◌, ◌≤◌, ◌<◌, ◌+◌, ◌-◌, ◌∷◌, ℕ, true, [], None, zero, length, take, drop, get_or, IfOk, slice_get, option_map, option_and_then, take_while};
 ghost use Rattle.std.specs.List.{flat_map};
 ghost use Rattle.std.specs.Option.{option_map_or};
 ghost use Rattle.base_types.specs.Limits.{body_limit};
-ghost use Rattle.pp_tokens.specs.parts.Gathered.{newlines, GathersNothing, EndsLine, AddsToken, AddsGap, EndsLastLine, EndsTextLine, IsGathered, IsPart, Gathers, PutsFirst};
+ghost use Rattle.pp_tokens.specs.parts.Gathered.{newlines, GathersNothing, EndsLine, AddsToken, AddsGap, EndsLastLine, EndsTextLine, DropsLine, IsGathered, IsPart, Gathers, PutsFirst};
 ghost use Rattle.pp_tokens.specs.Grammar.{is_white};
 ghost use Rattle.pp_tokens.specs.Lined.{lined, spliced_up_to, Rising};
 ghost use Rattle.pp_tokens.specs.Lines.{all_tokens, elements, file_of, first_part, lexed};
@@ -32,9 +33,7 @@ use crate::part::{What, next_part};
 use crate::place::Place;
 use crate::quoted::word_at;
 use crate::source::{SourceText, read_source};
-use crate::text_line::{
-    asks_nothing, begins_line, begins_name, begins_text, is_lone_hash, line_end,
-};
+use crate::text_line::{begins_line, begins_text, idle_name, is_cut, is_lone_hash, line_end};
 use crate::token::{Kind, TokenRef};
 use crate::unpaired::Unpaired;
 use std::alloc::{AllocError, Global};
@@ -180,6 +179,16 @@ impl Gathering {
         }
     }
 
+    // Nothing is kept of the present line.
+    fn drop_line(&mut self)
+        ensures { DropsLine self.old self.new }
+    {
+        match self.ends.last() {
+            Some(end) => self.places.truncate(*end as usize),
+            None => self.places.truncate(0),
+        }
+    }
+
     // A line of text is finished, with the line of a comment on it that never ends.
     fn end_text(&mut self, comment: Option<u32>) -> Result<(), AllocError>
         requires { length self.old.places.items ≤ body_limit + 1 }
@@ -212,9 +221,9 @@ pub fn splices_passed(splices: &[u32], passed: usize, at: usize) -> usize
     count
 }
 
-// Where the white space ends that stands at a place.
+/// Where the white space ends that stands at a place.
 #[inline(always)]
-fn white_end(text: &[u8], at: usize) -> usize
+pub fn white_end(text: &[u8], at: usize) -> usize
     requires within { at < length text.now }
     requires white { is_white (get_or text.now at 0) ≡ true }
     ensures later { at < result }
@@ -437,9 +446,9 @@ pub fn lex_body(alloc: Global, body: Vec<u8>, trigraphs: bool) -> Result<Lexed, 
 }
 
 // For how many tokens of directives a text of so many bytes has room: they are less than half of most files' tokens, and those that
-// may ask for a file less than half of these.
+// may ask for a file less than a fourth of these.
 fn directive_room(bytes: usize, whole: bool) -> usize {
-    if whole { bytes / 10 } else { bytes / 20 }
+    if whole { bytes / 10 } else { bytes / 40 }
 }
 
 // What is gathered of a whole text's directives alone: all of it, or what may ask for a file.
@@ -475,11 +484,18 @@ fn gather_directives(
             passed = splices_passed(splices, passed, at);
             if begins_line(gathering.before) {
                 if is_lone_hash(text, at) {
-                    let line = (base + passed) as u32;
-                    let hash = (What::Token(Kind::Punct), 1);
-                    let (behind, next) = put_part(&mut gathering, text, at, base, line, hash)?;
-                    at = behind;
-                    base = next;
+                    if let Some(name) = idle_name(text, at + 1, whole) {
+                        let idle = line_end(text, splices, name, base, passed, &mut unpaired);
+                        gathering.end_text(idle.comment)?;
+                        base = idle.base;
+                        at = idle.at;
+                    } else {
+                        let line = (base + passed) as u32;
+                        let hash = (What::Token(Kind::Punct), 1);
+                        let (behind, next) = put_part(&mut gathering, text, at, base, line, hash)?;
+                        at = behind;
+                        base = next;
+                    }
                 } else {
                     let (what, size) = next_part(text, at, is_due(gathering.before), &mut unpaired);
                     let word = stretch(text, at, size);
@@ -495,9 +511,10 @@ fn gather_directives(
                     }
                 }
             } else {
-                let named = begins_name(gathering.before);
+                let before = gathering.before;
                 let (end, line) = put_first(&mut gathering, text, at, base, passed, &mut unpaired)?;
-                if !whole && named && asks_nothing(gathering.before) {
+                if is_cut(whole, before, gathering.before, stretch(text, at, end - at)) {
+                    gathering.drop_line();
                     let rest = line_end(text, splices, end, line, passed, &mut unpaired);
                     gathering.end_text(rest.comment)?;
                     base = rest.base;
@@ -531,9 +548,9 @@ pub fn lex_directives(alloc: Global, body: Vec<u8>, trigraphs: bool) -> Result<L
     lex_kept(alloc, body, trigraphs, true)
 }
 
-/// The same as far as a directive may ask for a file: of `#include` and of what begins or goes on with a condition all tokens
-/// (ISO C 6.10.1, 6.10.2), of each other directive its `#` and the token behind it. Half of most headers' directive tokens are
-/// those of macro definitions, which are passed over as text is.
+/// The same of those directives alone that may ask for a file, as `#include` and what begins or goes on with a condition do (ISO C
+/// 6.10.1, 6.10.2), or that tell of their own, as `#line` does (6.10.4). Lines with others are empty. Most directives of headers define a
+/// macro or end a group, and are passed over as text is.
 pub fn lex_asking(alloc: Global, body: Vec<u8>, trigraphs: bool) -> Result<Lexed, AllocError>
     requires small { length body.items ≤ body_limit }
     ensures { IfOk result (λ l. l ≡ asking_alone (lexed trigraphs body.items)) }

@@ -2,13 +2,14 @@
 // a literal (ISO C 6.4.2, 6.4.4.4, 6.4.5, 6.4.7).
 ghost use Rattle.std.specs.Prelude.{◌≡◌, ◌≤◌, ◌<◌, ◌+◌, ℕ, ◌⊎◌, true, false, None, IfSome, length, drop, get_or, take_while, not, ◌&&◌, ◌==◌};
 ghost use Rattle.base_types.specs.Ascii as ascii;
-ghost use Rattle.pp_tokens.specs.declared.token.Kind.TheVariants.{Header};
+ghost use Rattle.pp_tokens.specs.declared.token.Kind.TheVariants.{Header, Ident};
 ghost use Rattle.pp_tokens.specs.Grammar.{is_identifier_start};
 ghost use Rattle.pp_tokens.specs.Lines.{Part, token, first_part};
 ghost use Rattle.pp_tokens.specs.parts.Text.{part_told, is_quote};
 ghost use Rattle.pp_tokens.specs.parts.Literals.{opens_character, opens_string, opens_literal, literal_kind, closing_delimiter};
 ghost use Rattle.pp_tokens.specs.parts.Unpaired.{closing_length, delimiter_length, NonePairs, KnowsUnpaired};
 
+use crate::class::is_identifier_start;
 use crate::comment::line_length;
 use crate::part::{What, word_length};
 use crate::token::Kind;
@@ -194,6 +195,29 @@ fn opens_literal(word: &[u8], quote: u8) -> bool
     ensures { result ≡ opens_literal word.now quote }
 {
     (quote == b'"' && opens_string(word)) || (quote == b'\'' && opens_character(word))
+}
+
+/// How many bytes an identifier at a place has that no quote stands behind which may begin a literal; 0 where none stands there.
+#[inline(always)]
+pub fn plain_word(text: &[u8], at: usize) -> usize
+    requires { at ≤ length text.now }
+    ensures part { 0 < result → ◌≡◌ {A = Part × ℕ} (first_part false (drop at text.now)) (token Ident, result) }
+    ensures within { at + result ≤ length text.now }
+{
+    if at >= text.len() || !is_identifier_start(text[at]) {
+        return 0;
+    }
+    let (_, rest) = text.split_at(at);
+    let length = word_length(rest);
+    let (word, behind) = rest.split_at(length);
+    if behind.is_empty() {
+        return length;
+    }
+    if opens_literal(word, behind[0]) {
+        0
+    } else {
+        length
+    }
 }
 
 /// What begins with an identifier's byte: a literal with a prefix (`u8`, `u`, `U` or `L` before `"`, and `u`, `U` or `L`

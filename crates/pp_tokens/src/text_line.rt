@@ -1,20 +1,23 @@
 // Where a line ends of which no token more is kept: a line of text (ISO C 6.10 paragraph 2), or a directive that asks for no
 // file. So only what may end a line or hide a
 // newline is read as a part: literals and comments. All other bytes are stepped over one by one, wherever tokens begin.
-ghost use Rattle.std.specs.Prelude.{◌≡◌, ℕ, ◌+◌, ◌≤◌, ◌<◌, false, length, take, drop, take_while, IsTrue};
+ghost use Rattle.std.specs.Prelude.{◌≡◌, ℕ, ◌+◌, ◌≤◌, ◌<◌, true, false, not, length, take, drop, get_or, take_while, IsTrue, IsFalse, IfSome};
 ghost use Rattle.base_types.specs.Limits.{body_limit};
+ghost use Rattle.pp_tokens.specs.DirectiveLines.{may_tell};
+ghost use Rattle.pp_tokens.specs.Grammar.{is_white};
 ghost use Rattle.pp_tokens.specs.Lined.{spliced_up_to, Rising};
 ghost use Rattle.pp_tokens.specs.Lines.{Part, token, first_part, spells_hash};
 ghost use Rattle.pp_tokens.specs.declared.token.Kind.TheVariants.{Punct};
-ghost use Rattle.pp_tokens.specs.parts.TextLines.{is_ordinary, is_token_part, begins_line, begins_name, asks_nothing, begins_text, EndsText};
+ghost use Rattle.pp_tokens.specs.parts.TextLines.{is_ordinary, is_token_part, begins_line, begins_name, asks_nothing, begins_text, is_cut, IsIdleName, EndsText};
 ghost use Rattle.pp_tokens.specs.parts.Text.{part_told};
 ghost use Rattle.pp_tokens.specs.parts.Unpaired.{KnowsUnpaired};
 
-use crate::class::is_second;
-use crate::due::{Before, spells_hash};
-use crate::lexer::{newlines, splices_passed, stretch};
+use crate::class::{is_second, is_white};
+use crate::due::{Before, spells, spells_hash};
+use crate::lexer::{newlines, splices_passed, stretch, white_end};
 use crate::marks::byte_at;
 use crate::part::{What, next_part};
+use crate::quoted::plain_word;
 use crate::run::{Ordinary, run_length};
 use crate::unpaired::Unpaired;
 
@@ -62,6 +65,57 @@ pub fn is_lone_hash(text: &[u8], at: usize) -> bool
     ensures hash { IsTrue result → IsTrue (spells_hash (take 1 (drop at text.now))) }
 {
     text[at] == b'#' && !is_second(byte_at(text, at + 1))
+}
+
+/// Whether no directive of this name asks for a file (ISO C 6.10.1, 6.10.2), or changes the presumed name of its own (6.10.4).
+#[inline(always)]
+pub fn is_idle(name: &[u8]) -> bool
+    ensures { result ≡ not (may_tell name.now) }
+{
+    let asks = (spells(name, b"include") || spells(name, b"include_next"))
+        || (spells(name, b"if") || spells(name, b"elif"));
+    !(asks || spells(name, b"line"))
+}
+
+/// Whether nothing is kept of a line of which this was told before a word and behind it.
+#[inline(always)]
+pub fn is_cut(whole: bool, before: Before, after: Before, word: &[u8]) -> bool
+    ensures { result ≡ is_cut whole before after word.now }
+{
+    !whole && begins_name(before) && asks_nothing(after) && is_idle(word)
+}
+
+/// Where the name of a directive ends of which nothing is kept, where it stands from a place on behind white space; None where another
+/// may stand there. `#`, white space and an identifier begin nearly all lines with directives.
+#[inline(always)]
+pub fn idle_name(text: &[u8], from: usize, whole: bool) -> Option<usize>
+    requires { from ≤ length text.now }
+    ensures { IfSome result (λ end. IsFalse whole × IsIdleName text.now from end) }
+{
+    if whole {
+        return None;
+    }
+    let start = white_space_end(text, from);
+    let size = plain_word(text, start);
+    if size > 0 && is_idle(stretch(text, start, size)) {
+        return Some(start + size);
+    }
+    None
+}
+
+// Where white space ends that may stand at a place.
+#[inline(always)]
+fn white_space_end(text: &[u8], from: usize) -> usize
+    requires { from ≤ length text.now }
+    ensures later { from ≤ result }
+    ensures within { result ≤ length text.now }
+    ensures white { (i : ℕ) → from ≤ i → i < result → is_white (get_or text.now i 0) ≡ true }
+{
+    if from < text.len() && is_white(text[from]) {
+        white_end(text, from)
+    } else {
+        from
+    }
 }
 
 /// Whether a part is the first token of a line of text.

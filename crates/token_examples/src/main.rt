@@ -25,7 +25,7 @@ counts TIMES PIECE [before BACK] [behind FRONT]
                 logical lines, its tokens, and the physical line on which the
                 last logical line with tokens begins, or 0; `open`, as above
 directives BODY the tokens of its directives alone, as `tokens` has them
-asking BODY     the same of each as far as it may ask for a file
+asking BODY     the same of those that may ask for a file, or tell of their own
 pieces BODY     each piece: `run` and its tokens, or a directive's physical
                 line, its name, and what it keeps
 nesting BODY    what is wrong with its conditionals, or None

@@ -91,6 +91,12 @@ pub record EndsTextLine (old new : Gathering) (comment : Option ℕ) : Type 0 wh
   pub begun : new.begun ≡ false
   pub space : new.space ≡ true
 
+-- what was gathered of the present line is dropped
+pub record DropsLine (old new : Gathering) : Type 0 where
+  pub places : new.places.items ≡ take (last_end 0 old.ends.items) old.places.items
+  pub ends : new.ends.items ≡ old.ends.items
+  pub unended : new.unended ≡ old.unended
+
 -- the present line has a token more, of this spelling
 pub record AddsToken (old new : Gathering) (place : Place) (spelling : List ℕ) : Type 0 where
   pub places : new.places.items ≡ old.places.items ++ (place ∷ [])

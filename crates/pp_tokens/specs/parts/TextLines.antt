@@ -1,13 +1,16 @@
 -- What is left of a file from a line on of which no token more is kept. No public contract rests on these.
-use Rattle.std.specs.Prelude.{◌≡◌, ℕ, zero, ◌+◌, ◌≤◌, Bool, true, false, not, ◌&&◌, ◌||◌, List, [], ◌∷◌, length, drop, ◌==◌, codes, Option}
+use Rattle.std.specs.Prelude.{◌≡◌, ℕ, zero, ◌+◌, ◌-◌, ◌≤◌, ◌<◌, Bool, true, false, not, ◌&&◌, ◌||◌, List, [], ◌∷◌, length, take, drop, get_or, ◌==◌, codes, Option}
 use Rattle.base_types.specs.Ascii as ascii
 use Rattle.pp_tokens.specs.declared.due.Before.{Before}
 use Rattle.pp_tokens.specs.declared.due.Before.TheVariants.{Nothing, Hash, Other}
 use Rattle.pp_tokens.specs.declared.text_line.LineEnd.{LineEnd}
 use Rattle.pp_tokens.specs.declared.token.Token.{Token}
+use Rattle.pp_tokens.specs.declared.token.Kind.{Kind}
 use Rattle.pp_tokens.specs.Phases.{Cell}
 use Rattle.pp_tokens.specs.Lined.{lined}
-use Rattle.pp_tokens.specs.Lines.{Part, newline, token, Element, LexedFile, elements, or_else, spells_hash, unended_line}
+use Rattle.pp_tokens.specs.Grammar.{is_white}
+use Rattle.pp_tokens.specs.DirectiveLines.{may_tell}
+use Rattle.pp_tokens.specs.Lines.{Part, newline, token, Element, LexedFile, elements, first_part, or_else, spells_hash, unended_line}
 use Rattle.pp_tokens.specs.parts.Gathered.{lines_left}
 
 -- a byte that ends no line, and neither begins nor ends a comment or a literal
@@ -59,3 +62,18 @@ is_token_part part = elim part [ token k ↦ true | _ ↦ false ]
 -- this part is the first token of a line of text (6.10 paragraph 2)
 abbrev pub begins_text : Before → Part → List ℕ → Bool
 begins_text before part word = begins_line before && (is_token_part part && not (spells_hash word))
+
+-- a directive's name has told that nothing of its line is kept
+abbrev pub is_cut : Bool → Before → Before → List ℕ → Bool
+is_cut whole before after word = not whole && (begins_name before && (asks_nothing after && not (may_tell word)))
+
+-- such a name stands behind white space from a place on, and ends at another
+pub record IsIdleName (text : List ℕ) (from end : ℕ) : Type 0 where
+  pub start : ℕ
+  pub kind : Kind
+  pub later : from ≤ start
+  pub white : (i : ℕ) → from ≤ i → i < start → is_white (get_or text i 0) ≡ true
+  pub begins : start < end
+  pub within : end ≤ length text
+  pub first : ◌≡◌ {A = Part × ℕ} (first_part false (drop start text)) (token kind, end - start)
+  pub idle : may_tell (take (end - start) (drop start text)) ≡ false

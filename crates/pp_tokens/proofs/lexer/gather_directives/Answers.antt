@@ -1,4 +1,4 @@
-use Rattle.std.proofs.Common.{◌≡◌, ◌≤◌, ◌<◌, ◌+◌, ◌-◌, ℕ, true, false, ◌&&◌, not, length, take, drop, ap, ◌∙◌, sym, arith, length-drop, subst, ◌==◌}
+use Rattle.std.proofs.Common.{◌≡◌, ◌≤◌, ◌<◌, ◌+◌, ◌-◌, ℕ, Bool, true, false, ◌&&◌, not, length, take, drop, ap, ◌∙◌, sym, arith, length-drop, subst, ◌==◌}
 use Rattle.std.proofs.lemmas.List.Sums.{count_by-le-length}
 use Rattle.std.proofs.lemmas.List.{length-take-le}
 use Rattle.pp_tokens.specs.Lined.{spliced_up_to}
@@ -7,16 +7,17 @@ use Rattle.pp_tokens.specs.Lines.{Part, newline, token, first_part, spells_hash}
 use Rattle.pp_tokens.specs.DirectiveLines.{kept_alone}
 use Rattle.pp_tokens.specs.parts.Gathered.{newlines, IsPart, Gathers}
 use Rattle.pp_tokens.specs.parts.Text.{is_due, part_told}
-use Rattle.pp_tokens.specs.parts.TextLines.{is_token_part, begins_line, asks_nothing, begins_text}
+use Rattle.pp_tokens.specs.parts.TextLines.{is_token_part, begins_line, asks_nothing, begins_text, is_cut}
 use Rattle.pp_tokens.specs.parts.Unpaired.{KnowsUnpaired}
 use Rattle.pp_tokens.proofs.FirstPut.{PutOn, first_put, known_behind}
 use Rattle.pp_tokens.proofs.LaterPlaces.{known_later}
 use Rattle.pp_tokens.proofs.Splices.{up_to_all, up_to_later}
 use Rattle.pp_tokens.proofs.ShortParts.{short_stretch}
-use Rattle.pp_tokens.proofs.LexSteps.{first_within, first_is_part, nothing_gathered, lex_start, lex_step, lex_end, white_up_to, newline_at}
-use Rattle.pp_tokens.proofs.DirectiveSteps.{nothing_outlined, gap_outlined, part_outlined, text_outlined, text_step, end_outlined, is_cut, cut_named, cut_step, uncut_asking, uncut_behind, uncut_start, uncut_whole, starts_undue, hash_no_text, is_a_token, newline_no_text}
+use Rattle.pp_tokens.proofs.LexSteps.{LexState, first_within, first_is_part, nothing_gathered, lex_start, lex_step, lex_end, white_up_to, newline_at}
+use Rattle.pp_tokens.proofs.DirectiveSteps.{Outlined, nothing_outlined, gap_outlined, part_outlined, text_outlined, text_step, end_outlined, dropped_so, dropped_few, cut_named, cut_step, uncut_asking, uncut_start, starts_undue, hash_no_text, is_a_token, newline_no_text}
+use Rattle.pp_tokens.proofs.IdleLines.{idle_step}
 use Rattle.pp_tokens.proofs.lexer.gather_directives.Goals as goal
-use Rattle.pp_tokens.proofs.lexer.gather_directives.Goals.{After-next_part-what, In_ok-end, else-not-whole-via-then-not-whole+then-named+else-asks_nothing, else-not-whole-via-then-not-whole+else-named, else-not-whole-via-else-not-whole}
+use Rattle.pp_tokens.proofs.lexer.gather_directives.Goals.{After-next_part-what, In_ok-end}
 
 pub loop-at-init : goal.loop-at-init
 loop-at-init c =
@@ -82,26 +83,26 @@ loop-at-preserved-then-begins_text c =
     let at = c.loop-at.at in
     let n = c.next_part-what.result.1 in
     let old = c.loop-at.gathering in
-    let new = c.end_text.new.self in
+    let new = c.end_text-then-begins_text.new.self in
     let end = c.line_end-end.result in
     let word = take n (drop at text) in
     let begins : begins_text old.before (part_told c.next_part-what.result.0) word ≡ true =
     ap (begins_text old.before (part_told c.next_part-what.result.0)) (sym c.stretch-word.ensures) ∙ sym c.begins_text.ensures ∙ c.if-begins_text.true in
     let kind = is_a_token old.before (part_told c.next_part-what.result.0) word begins in
-    let ended = text_outlined c.args.whole text old new end.comment c.loop-at.invariant.gathered c.loop-at.invariant.outlined c.in_ok-end_text.ensures in
+    let ended = text_outlined c.args.whole text old new end.comment c.loop-at.invariant.gathered c.loop-at.invariant.outlined c.in_ok-end_text-2.ensures in
     let same : at + (end.at - at) ≡ end.at = omega (arith, c.line_end-end.ensures.end.later) in
     record {
       within = c.line_end-end.ensures.end.within;
       counted = c.line_end-end.ensures.end.counted;
       passes = omega (arith, c.splices_passed-passed.ensures, up_to_later splices at (end.at - at), ap (spliced_up_to splices) same);
       known = c.line_end-end.ensures.known;
-      few = omega (arith, ap length c.in_ok-end_text.ensures.places, c.loop-at.invariant.few, c.line_end-end.ensures.end.later);
+      few = omega (arith, ap length c.in_ok-end_text-2.ensures.places, c.loop-at.invariant.few, c.line_end-end.ensures.end.later);
       gathered = ended.0;
       outlined = ended.1;
       state = text_step c.args.whole text splices old new at c.loop-at.base n kind.0 end c.loop-at.invariant.state c.loop-at.invariant.gathered c.loop-at.invariant.outlined c.loop-at-test.true
           (subst (λ p. ◌≡◌ {A = Part × ℕ} (p, n) (first_part (is_due old.before) (drop at text))) kind.1 (first s))
           (subst (λ p. begins_text old.before p word ≡ true) kind.1 begins)
-          c.line_end-end.ensures.end c.in_ok-end_text.ensures;
+          c.line_end-end.ensures.end c.in_ok-end_text-2.ensures;
     }
 
 pub overflow_add-base-else-begins_text : goal.overflow_add-base-else-begins_text
@@ -175,7 +176,7 @@ loop-at-preserved-then-text-at-eq10 c =
       few = omega (arith, c.loop-at.invariant.few, next.1.few);
       gathered = next.1.gathered;
       outlined = part_outlined c.args.whole text (take 1 (drop at text)) old new newline (c.loop-at.base + spliced_up_to splices at) c.loop-at.invariant.outlined next.1
-          (newline_no_text old.before (take 1 (drop at text))) (uncut_asking c.args.whole old.before new.before (ap asks_nothing c.in_ok-end_line.ensures.before));
+          (newline_no_text old.before (take 1 (drop at text))) (uncut_asking c.args.whole old.before new.before (take 1 (drop at text)) (ap asks_nothing c.in_ok-end_line.ensures.before));
       state = next.0;
     }
 
@@ -205,7 +206,7 @@ loop-at-preserved-else-begins_text c =
       few = omega (arith, c.loop-at.invariant.few, step.few, size.0);
       gathered = step.gathered;
       outlined = part_outlined c.args.whole text word old new part (c.loop-at.base + spliced_up_to splices at) c.loop-at.invariant.outlined step other
-          (uncut_start c.args.whole old.before new.before (sym c.begins_line.ensures ∙ c.if-begins_line.true));
+          (uncut_start c.args.whole old.before new.before word (sym c.begins_line.ensures ∙ c.if-begins_line.true));
       state = rw passed (lex_step (kept_alone c.args.whole) text splices old new at c.loop-at.base n part c.loop-at.invariant.state c.loop-at-test.true (first s) step);
     }
 
@@ -229,34 +230,44 @@ line_end-rest-requires-clause-within c = (put_on (goal.at.line_end-rest-requires
 pub line_end-rest-requires-clause-passed : goal.line_end-rest-requires-clause-passed
 line_end-rest-requires-clause-passed c = (put_on (goal.at.line_end-rest-requires-clause-passed c).In_ok-end).passes
 
-pub loop-at-smaller-then-asks_nothing : goal.loop-at-smaller-then-asks_nothing
-loop-at-smaller-then-asks_nothing c =
-    let on = put_on (goal.at.loop-at-smaller-then-asks_nothing c).In_ok-end in
+pub stretch-requires : goal.stretch-requires
+stretch-requires c = let on = put_on (goal.at.stretch-requires c).In_ok-end in omega (arith, on.later, on.within)
+
+-- the spelling of what stands there
+spelled : (c : In_ok-end) (size : ℕ) → c.in_ok-end.end ≡ c.loop-at.at + size → take (c.in_ok-end.end - c.loop-at.at) (drop c.loop-at.at c.args.text.now) ≡ take size (drop c.loop-at.at c.args.text.now)
+spelled c size place = ap (λ n. take n (drop c.loop-at.at c.args.text.now)) (omega (arith, place))
+
+pub loop-at-smaller-then-is_cut : goal.loop-at-smaller-then-is_cut
+loop-at-smaller-then-is_cut c =
+    let on = put_on (goal.at.loop-at-smaller-then-is_cut c).In_ok-end in
     omega (arith, on.later, on.within, c.line_end-rest.ensures.end.later, c.line_end-rest.ensures.end.within)
 
-pub loop-at-preserved-then-asks_nothing : goal.loop-at-preserved-then-asks_nothing
-loop-at-preserved-then-asks_nothing c =
-    let on = put_on (goal.at.loop-at-preserved-then-asks_nothing c).In_ok-end in
+pub loop-at-preserved-then-is_cut : goal.loop-at-preserved-then-is_cut
+loop-at-preserved-then-is_cut c =
+    let s = (goal.at.loop-at-preserved-then-is_cut c).In_ok-end in
+    let on = put_on s in
     let text = c.args.text.now in
     let splices = c.args.splices.now in
     let at = c.loop-at.at in
     let old = c.loop-at.gathering in
     let named = c.put_first.new.gathering in
-    let new = c.end_text-then-asks_nothing.new.self in
+    let new = c.end_text-then-is_cut.new.self in
     let put = c.in_ok-end.ensures.puts in
     let end = c.line_end-rest.result in
     let name = c.in_ok-end.end in
+    let word = take put.size (drop at text) in
     let same : name + (end.at - name) ≡ end.at = omega (arith, c.line_end-rest.ensures.end.later) in
-    let cuts : is_cut c.args.whole old.before named.before ≡ true =
-    (λ i. not (c.if-not-whole.true i) && ((sym c.begins_name-named.ensures ∙ c.if-named.true) i && (sym c.asks_nothing.ensures ∙ c.if-asks_nothing.true) i)) in
-    let cut = cut_named c.args.whole text (take put.size (drop at text)) old named put.part (c.loop-at.base + c.splices_passed-passed.result) c.loop-at.invariant.outlined put.gathers cuts in
-    let step = cut_step c.args.whole text splices named new name c.in_ok-end.line end on.state on.gathered cut c.line_end-rest.ensures.end c.in_ok-end_text-2.ensures in
+    let cuts : is_cut c.args.whole old.before named.before word ≡ true =
+    ap (is_cut c.args.whole old.before named.before) (sym (spelled s put.size put.place) ∙ sym c.stretch.ensures) ∙ sym c.is_cut.ensures ∙ c.if-is_cut.true in
+    let cut = cut_named c.args.whole text word old named put.part (c.loop-at.base + c.splices_passed-passed.result) c.loop-at.invariant.outlined put.gathers cuts in
+    let ended = dropped_so text named c.drop_line.new.self new end.comment on.gathered c.drop_line.ensures c.in_ok-end_text-3.ensures in
+    let step = cut_step c.args.whole text splices named new name c.in_ok-end.line end on.state cut c.line_end-rest.ensures.end ended in
     record {
       within = c.line_end-rest.ensures.end.within;
       counted = c.line_end-rest.ensures.end.counted;
       passes = omega (arith, on.passes, up_to_later splices name (end.at - name), ap (spliced_up_to splices) same);
       known = c.line_end-rest.ensures.known;
-      few = omega (arith, ap length c.in_ok-end_text-2.ensures.places, on.few, c.line_end-rest.ensures.end.later);
+      few = omega (arith, dropped_few named c.drop_line.new.self new end.comment c.drop_line.ensures c.in_ok-end_text-3.ensures, on.few, c.line_end-rest.ensures.end.later);
       gathered = step.1.0;
       outlined = step.1.1;
       state = step.0;
@@ -277,11 +288,8 @@ loop-at-preserved c =
     let behind : ℕ × ℕ = (c.in_ok-end.end, c.in_ok-end.line) in
     let put = c.in_ok-end.ensures.puts in
     let word = take put.size (drop at text) in
-    let uncut : is_cut c.args.whole old.before new.before ≡ false = elim c.else-not-whole.branch [
-      | else-not-whole-via-then-not-whole+then-named+else-asks_nothing w ↦ uncut_asking c.args.whole old.before new.before (sym w.asks_nothing.ensures ∙ w.if-asks_nothing.false)
-      | else-not-whole-via-then-not-whole+else-named w ↦ uncut_behind c.args.whole old.before new.before (sym c.begins_name-named.ensures ∙ w.if-named.false)
-      | else-not-whole-via-else-not-whole w ↦ uncut_whole c.args.whole old.before new.before w.if-not-whole.false
-    ] in
+    let uncut : is_cut c.args.whole old.before new.before word ≡ false =
+    ap (is_cut c.args.whole old.before new.before) (sym (spelled s put.size put.place) ∙ sym c.stretch.ensures) ∙ sym c.is_cut.ensures ∙ c.if-is_cut.false in
     record {
       within = on.within;
       counted = on.counted;
@@ -302,8 +310,8 @@ pub overflow_cast-line : goal.overflow_cast-line
 overflow_cast-line c =
     omega (arith, c.loop-at.invariant.counted, c.loop-at-test.true, c.splices_passed-passed.ensures, up_to_all c.args.splices.now c.loop-at.at, c.requires.small)
 
-pub loop-at-preserved-then-is_lone_hash : goal.loop-at-preserved-then-is_lone_hash
-loop-at-preserved-then-is_lone_hash c =
+pub loop-at-preserved-in_default : goal.loop-at-preserved-in_default
+loop-at-preserved-in_default c =
     let text = c.args.text.now in
     let at = c.loop-at.at in
     let old = c.loop-at.gathering in
@@ -327,8 +335,49 @@ loop-at-preserved-then-is_lone_hash c =
       few = on.few;
       gathered = on.gathered;
       outlined = part_outlined c.args.whole text (take put.size (drop at text)) old new put.part (c.loop-at.base + passed) c.loop-at.invariant.outlined put.gathers
-          (hash_no_text old.before put.part (take put.size (drop at text)) spelled) (uncut_start c.args.whole old.before new.before starts);
+          (hash_no_text old.before put.part (take put.size (drop at text)) spelled) (uncut_start c.args.whole old.before new.before (take put.size (drop at text)) starts);
       state = on.state;
+    }
+
+pub line_end-idle-requires-clause-passed : goal.line_end-idle-requires-clause-passed
+line_end-idle-requires-clause-passed c =
+    let splices = c.args.splices.now in
+    let at = c.loop-at.at in
+    let name = c.in-Some.name in
+    let idle = c.in-Some.ensures.1 in
+    let same : at + (name - at) ≡ name = omega (arith, idle.later, idle.begins) in
+    omega (arith, c.splices_passed-passed.ensures, up_to_later splices at (name - at), ap (spliced_up_to splices) same)
+
+pub loop-at-preserved-in-Some : goal.loop-at-preserved-in-Some
+loop-at-preserved-in-Some c =
+    let text = c.args.text.now in
+    let splices = c.args.splices.now in
+    let at = c.loop-at.at in
+    let base = c.loop-at.base in
+    let old = c.loop-at.gathering in
+    let new = c.end_text.new.self in
+    let end = c.line_end-idle.result in
+    let part = c.in-Some.ensures.0 in
+    let idle = c.in-Some.ensures.1 in
+    let ended = text_outlined c.args.whole text old new end.comment c.loop-at.invariant.gathered c.loop-at.invariant.outlined c.in_ok-end_text.ensures in
+    let later : at < end.at = omega (arith, idle.later, idle.begins, c.line_end-idle.ensures.end.later) in
+    let same : at + (end.at - at) ≡ end.at = omega (arith, later) in
+    record {
+      within = c.line_end-idle.ensures.end.within;
+      counted = c.line_end-idle.ensures.end.counted;
+      passes = omega (arith, c.splices_passed-passed.ensures, up_to_later splices at (end.at - at), ap (spliced_up_to splices) same);
+      known = c.line_end-idle.ensures.known;
+      few = omega (arith, ap length c.in_ok-end_text.ensures.places, c.loop-at.invariant.few, later);
+      gathered = ended.0;
+      outlined = ended.1;
+      state = subst (λ (whole : Bool). LexState (kept_alone whole) text splices new end.at end.base) (sym part)
+          (idle_step text splices old new at base c.in-Some.name end
+          (subst (λ (whole : Bool). LexState (kept_alone whole) text splices old at base) part c.loop-at.invariant.state)
+          c.loop-at.invariant.gathered
+          (subst (λ (whole : Bool). Outlined whole text old) part c.loop-at.invariant.outlined)
+          c.loop-at-test.true (sym c.begins_line.ensures ∙ c.if-begins_line.true)
+          (c.is_lone_hash.ensures.part c.if-is_lone_hash.true) (c.is_lone_hash.ensures.hash c.if-is_lone_hash.true)
+          idle c.line_end-idle.ensures.end c.in_ok-end_text.ensures);
     }
 
 pub returns-clause-file : goal.returns-clause-file
