@@ -40,6 +40,7 @@ impl FileBody {
         })
     }
 
+    /// These bytes, borrowed.
     pub fn as_slice(&self) -> &[u8]
         ensures { result.now ≡ self.now }
     {

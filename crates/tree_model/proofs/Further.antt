@@ -20,12 +20,12 @@ use Rattle.tree_model.proofs.Below.{entry_none, entry_file, taken_as, reached_di
 
 module _ (look : Look) (last : Text) where
   -- by the end and the nodes of the walk without the last component: behind a directory it goes on from there, and else it leads nowhere
-  abbrev Further : List Path → End → Walked → Type 0
+  abbrev pub Further : List Path → End → Walked → Type 0
   Further nodes Nowhere whole = whole.end ≡ Nowhere
   Further nodes (AtFile real) whole = whole.end ≡ Nowhere
   Further nodes (AtDir dir links) whole = (whole.end ≡ (walk look links dir (last ∷ [])).end) × (whole.nodes ≡ nodes ++ (walk look links dir (last ∷ [])).nodes)
 
-  abbrev IsFurther : Walked → Walked → Type 0
+  abbrev pub IsFurther : Walked → Walked → Type 0
   IsFurther part whole = Further part.nodes part.end whole
 
   past : (path : Path) (nodes : List Path) (end : End) (whole : Walked) → Further nodes end whole → Further (path ∷ nodes) end (through path whole)

@@ -15,6 +15,7 @@
 --     StepLemmas     each step of a program goes on as the walk does
 --     Below          what is located below a text whose walk from the root reached a directory, or none
 --     Further        walks with one component more
+--     LinkFronts     what stands before the last `/` of a link's text, walked from the root
 --     ShownLemmas    what is shown of a list, one member more
 --     PlacedLemmas   where entries stand, and what is found by it
 --     WalkExamples   worked walks
@@ -34,6 +35,7 @@ pub mod StepLemmas
 pub mod RememberedLemmas
 pub mod Below
 pub mod Further
+pub mod LinkFronts
 pub mod ShownLemmas
 pub mod PlacedLemmas
 mod WalkExamples

@@ -197,7 +197,7 @@ impl CanonPath {
     }
 
     // The spelling, empty at the root.
-    fn stem(&self) -> &[u8]
+    pub(crate) fn stem(&self) -> &[u8]
         ensures value { result.now ≡ spelled_below self.now }
         ensures canonical { IsCanonical self.now }
     {

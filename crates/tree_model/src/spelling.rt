@@ -114,8 +114,8 @@ fn put_below(bytes: &mut [u8; 94], stem: &[u8], name: &[u8])
     bytes[at + 1..at + 1 + name.len()].copy_from_slice(name);
 }
 
-// The same in memory of just that size.
-fn extended(alloc: Global, stem: &[u8], name: &[u8]) -> Result<Vec<u8>, AllocError>
+/// The same in memory of just that size.
+pub fn extended(alloc: Global, stem: &[u8], name: &[u8]) -> Result<Vec<u8>, AllocError>
     ensures { IfOk result (λ longer. longer.items ≡ stem.now ++ slash ∷ name.now) }
 {
     let mut longer = Vec::with_capacity(alloc, stem.len() + 1 + name.len())?;

@@ -6,13 +6,15 @@
 // name, is the file's place. A walk takes one look at the tree and makes one path for each component, which the note of it shares.
 //
 // A text that begins with `/` is walked up to its last `/` once, where the tree remembers what that reached, and then glanced at (glance.rt).
-// Where the walk of that text's own front is remembered, one look tells what it reaches, and no walk is needed (learn.rt).
-ghost use Rattle.std.specs.Prelude.{◌≡◌, ◌≤◌, ℕ, [], ◌∷◌, ◌++◌, Some, IfOk, IfSome, OnOk, IsErrOf, ◌==◌};
+// Where the walk of that text's own front is remembered, one look tells what it reaches, and no walk is needed (learn.rt). What stands before the
+// last `/` of a last component's link is such a text as well, behind the link's directory (`behind_link`).
+ghost use Rattle.std.specs.Prelude.{◌≡◌, ◌≤◌, ℕ, [], ◌∷◌, ◌++◌, length, drop, reverse, Some, IfOk, IfSome, OnOk, IsErrOf, ◌==◌};
 ghost use Rattle.std.specs.List.{position};
 ghost use Rattle.std.specs.Option.{option_map, ForSome};
 ghost use Rattle.base_types.specs.Causes.{HasCause};
 ghost use Rattle.base_types.specs.Ascii.{slash};
 ghost use Rattle.base_types.specs.Limits.{link_limit};
+ghost use Rattle.tree_model.specs.Paths.{IsCanonical};
 ghost use Rattle.tree_model.specs.Trees.{FileTree, entry_at};
 ghost use Rattle.tree_model.specs.Walk as walks;
 ghost use Rattle.tree_model.specs.Walk.{Look, components, but_last, last_of, component_of, entered, located_in, walk, walk_ended, is_absolute};
@@ -22,7 +24,8 @@ ghost use Rattle.tree_model.specs.parts.Steps.{GoesOn, components_left, asked, o
 
 use crate::glance::Glanced;
 use crate::learn::glance_or_learn;
-use crate::nodes::{Nodes, SharedNodes};
+use crate::nodes::{Nodes, SharedNodes, push_copies};
+use crate::spelling::extended;
 use crate::{CanonPath, Node, Reached, Tree, TreeError};
 use base_types::limits::{LINK_LIMIT, PATH_LIMIT};
 use base_types::{Bytes, List};
@@ -301,8 +304,26 @@ fn walk_on<T: Tree>(
     ensures never_large { IsErrOf result TreeError.Large → ⊥ }
     ensures no_read { T.reads tree.new ≡ T.reads tree.old }
 {
+    let step = until_link(alloc, tree, dir, rest, walked)?;
+    to_end(alloc, tree, links, step, walked)
+}
+
+// Walks on from a step, with at most so many links.
+fn to_end<T: Tree>(
+    alloc: Global,
+    tree: &mut T,
+    links: u32,
+    step: Step,
+    walked: &mut List<CanonPath>,
+) -> Result<Stop, TreeError>
+    ensures same { T.told tree.new ≡ T.told tree.old }
+    ensures stop { IfOk result (λ stop. ForSome (T.told tree.old) (λ told. GoesOn walked.old (onward (entry_at told) links [] step) walked.new (walk_ended (end_of stop)))) }
+    ensures cause { HasCause TreeError.Fault (T.faults tree.old) (T.faults tree.new) result }
+    ensures never_large { IsErrOf result TreeError.Large → ⊥ }
+    ensures no_read { T.reads tree.new ≡ T.reads tree.old }
+{
     let mut links = links;
-    let mut step = until_link(alloc, tree, dir, rest, walked)?;
+    let mut step = step;
     loop {
         match step {
             Step::Nowhere => return Ok(Stop::Nowhere),
@@ -317,6 +338,101 @@ fn walk_on<T: Tree>(
             }
         }
     }
+}
+
+// Where a last component leads to from the directory in which it is looked up. Where it is a link, the tree remembers what stands before the
+// last `/` of its text: the links of one directory lead to few others.
+fn walk_last<T: Tree>(
+    alloc: Global,
+    tree: &mut T,
+    dir: CanonPath,
+    links: u32,
+    name: &[u8],
+    walked: &mut List<CanonPath>,
+) -> Result<Stop, TreeError>
+    ensures same { T.told tree.new ≡ T.told tree.old }
+    ensures stop { IfOk result (λ stop. ForSome (T.told tree.old) (λ told. GoesOn walked.old (walk (entry_at told) links dir (components name.now)) walked.new (walk_ended (end_of stop)))) }
+    ensures cause { HasCause TreeError.Fault (T.faults tree.old) (T.faults tree.new) result }
+    ensures never_large { IsErrOf result TreeError.Large → ⊥ }
+    ensures no_read { T.reads tree.new ≡ T.reads tree.old }
+{
+    match until_link(alloc, tree, dir, Some(name), walked)? {
+        Step::Link(from, text) => {
+            if links == 0 {
+                return Ok(Stop::Nowhere);
+            }
+            let step = behind_link(alloc, tree, from, text.as_slice(), walked)?;
+            to_end(alloc, tree, links - 1, step, walked)
+        }
+        step => to_end(alloc, tree, links, step, walked),
+    }
+}
+
+// Walks a link's text from a directory, up to the next link. What stands before its last `/` is walked from the root, and glanced at from then
+// on; where that follows a link, the text is walked from the directory itself.
+fn behind_link<T: Tree>(
+    alloc: Global,
+    tree: &mut T,
+    from: CanonPath,
+    text: &[u8],
+    walked: &mut List<CanonPath>,
+) -> Result<Step, TreeError>
+    ensures same { T.told tree.new ≡ T.told tree.old }
+    ensures step { IfOk result (λ step. ForSome (T.told tree.old) (λ told. (links : ℕ) → GoesOn walked.old (walk (entry_at told) links from (components text.now)) walked.new (onward (entry_at told) links [] step))) }
+    ensures cause { HasCause TreeError.Fault (T.faults tree.old) (T.faults tree.new) result }
+    ensures never_large { IsErrOf result TreeError.Large → ⊥ }
+    ensures no_read { T.reads tree.new ≡ T.reads tree.old }
+{
+    let (head, name) = cut_last(text);
+    let Some(head) = head else {
+        return until_link(alloc, tree, from, Some(text), walked);
+    };
+    let front = text_from_root(alloc, &from, head)?;
+    let (stop, nodes) = reach_front(alloc, tree, &front)?;
+    if let Stop::Dir(last, left) = stop {
+        if left == LINK_LIMIT {
+            note_behind(alloc, nodes.as_slice(), depth(&from), walked)?;
+            return until_link(alloc, tree, last, Some(name), walked);
+        }
+    }
+    until_link(alloc, tree, from, Some(text), walked)
+}
+
+// A text that leads from the root to a directory, and on from there.
+fn text_from_root(alloc: Global, dir: &CanonPath, text: &[u8]) -> Result<Vec<u8>, AllocError>
+    ensures { IfOk result (λ whole. components whole.items ≡ [] ∷ (reverse dir.now ++ components text.now)) }
+{
+    extended(alloc, dir.stem(), text)
+}
+
+// How many names a path has.
+fn depth(path: &CanonPath) -> usize
+    ensures value { result ≡ length path.now }
+    ensures canonical { IsCanonical path.now }
+{
+    let stem = path.stem();
+    let mut count = 0;
+    for b in stem {
+        if *b == b'/' {
+            count += 1;
+        }
+    }
+    count
+}
+
+// Notes nodes, but for so many first ones.
+fn note_behind(
+    alloc: Global,
+    nodes: &[CanonPath],
+    skipped: usize,
+    walked: &mut List<CanonPath>,
+) -> Result<(), AllocError>
+    ensures { OnOk result (walked.new ≡ walked.old ++ drop skipped nodes.now) }
+{
+    if skipped < nodes.len() {
+        push_copies(alloc, walked, &nodes[skipped..])?;
+    }
+    Ok(())
 }
 
 // The file that a last component leads to from the directory in which it is looked up, after the nodes walked before: some, and then
@@ -342,7 +458,7 @@ fn locate_last<T: Tree>(
     };
     let front = before.len();
     let mut own = before;
-    match walk_on(alloc, tree, dir, links, Some(name), &mut own)? {
+    match walk_last(alloc, tree, dir, links, name, &mut own)? {
         Stop::File(real) => Ok(Some(Located {
             place,
             real,
@@ -400,6 +516,24 @@ fn walk_front<T: Tree>(
     Ok((stop, shared))
 }
 
+// Where the walk of a text from the root stops, with the nodes walked, whether the tree remembers it or not.
+fn reach_front<T: Tree>(
+    alloc: Global,
+    tree: &mut T,
+    text: &[u8],
+) -> Result<(Stop, SharedNodes), TreeError>
+    ensures same { T.told tree.new ≡ T.told tree.old }
+    ensures stop { IfOk result (λ it. ForSome (T.told tree.old) (λ told. GoesOn [] (walk (entry_at told) link_limit [] (components text.now)) it.1 (walk_ended (end_of it.0)))) }
+    ensures cause { HasCause TreeError.Fault (T.faults tree.old) (T.faults tree.new) result }
+    ensures never_large { IsErrOf result TreeError.Large → ⊥ }
+    ensures no_read { T.reads tree.new ≡ T.reads tree.old }
+{
+    match recall_front(alloc, tree, text)? {
+        Some(known) => Ok(known),
+        None => walk_front(alloc, tree, text),
+    }
+}
+
 // The nodes in front of those of a walk from the root: the directory that the text was asked from, and the root.
 pub(crate) fn nodes_before(alloc: Global, dir: &CanonPath) -> Result<List<CanonPath>, AllocError>
     ensures { IfOk result (λ nodes. nodes ≡ dir.now ∷ [] ∷ []) }
@@ -426,10 +560,7 @@ fn walk_below<T: Tree>(
     ensures never_large { IsErrOf result TreeError.Large → ⊥ }
     ensures no_read { T.reads tree.new ≡ T.reads tree.old }
 {
-    let (stop, shared) = match recall_front(alloc, tree, text)? {
-        Some(known) => known,
-        None => walk_front(alloc, tree, text)?,
-    };
+    let (stop, shared) = reach_front(alloc, tree, text)?;
     match stop {
         Stop::Dir(last, links) => {
             let before = nodes_before(alloc, dir)?;

@@ -13,8 +13,8 @@ returns-in_default-clause-found g c told is =
 pub returns-in-File-clause-found : goal.returns-in-File-clause-found
 returns-in-File-clause-found g c told is =
     rw (c.around.ensures, c.len-front.ensures)
-    (located_file (entry_at told) c.args.links c.args.dir c.args.name.now c.args.before c.args.shared c.walk_on.new.walked c.in-Some.place c.in-File.real
+    (located_file (entry_at told) c.args.links c.args.dir c.args.name.now c.args.before c.args.shared c.walk_last.new.walked c.in-Some.place c.in-File.real
     (sym c.in-Some.is ∙ c.in_ok-place.ensures)
-    (subst (λ list. GoesOn c.args.before (walk (entry_at told) c.args.links c.args.dir list) c.walk_on.new.walked (walk_ended (AtFile c.in-File.real))) c.requires
-    (subst (λ s. GoesOn c.args.before (walk (entry_at told) c.args.links c.args.dir (components c.args.name.now)) c.walk_on.new.walked (walk_ended (end_of s))) c.in-File.is
+    (subst (λ list. GoesOn c.args.before (walk (entry_at told) c.args.links c.args.dir list) c.walk_last.new.walked (walk_ended (AtFile c.in-File.real))) c.requires
+    (subst (λ s. GoesOn c.args.before (walk (entry_at told) c.args.links c.args.dir (components c.args.name.now)) c.walk_last.new.walked (walk_ended (end_of s))) c.in-File.is
     (c.in_ok-real.ensures.stop told is))))

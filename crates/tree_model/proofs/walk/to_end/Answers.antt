@@ -1,6 +1,6 @@
 use Rattle.tree_model.specs.Trees.{entry_at}
 use Rattle.tree_model.proofs.StepLemmas.{at_dir}
-use Rattle.tree_model.proofs.walk.walk_on.Goals as goal
+use Rattle.tree_model.proofs.walk.to_end.Goals as goal
 
 pub returns-in-Dir-clause-stop : goal.returns-in-Dir-clause-stop
 returns-in-Dir-clause-stop g c told is =

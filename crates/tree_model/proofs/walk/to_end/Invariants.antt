@@ -1,9 +1,7 @@
 use Rattle.std.proofs.Common.{◌≡◌, ◌≤◌, [], Some}
-use Rattle.std.specs.Option.{option_map}
 use Rattle.tree_model.specs.Trees.{FileTree, entry_at}
-use Rattle.tree_model.specs.Walk.{walk}
-use Rattle.tree_model.specs.parts.Steps.{GoesOn, components_left, onward}
-use Rattle.tree_model.proofs.walk.walk_on.Given as goal
+use Rattle.tree_model.specs.parts.Steps.{GoesOn, onward}
+use Rattle.tree_model.proofs.walk.to_end.Given as goal
 
 abbrev pub invariant-loop-step : goal.invariant-loop-step
 invariant-loop-step g l = record {
@@ -11,7 +9,7 @@ invariant-loop-step g l = record {
   later : g.T.Tree.faults l.fn.tree ≤ g.T.Tree.faults l.tree;
   no_read : g.T.Tree.reads l.tree ≡ g.T.Tree.reads l.fn.tree;
   goes : (told : FileTree) → g.T.Tree.told l.fn.tree ≡ Some told
-      → GoesOn l.fn.walked (walk (entry_at told) l.fn.links l.fn.dir (components_left (option_map (λ t. t.now) l.fn.rest)))
+      → GoesOn l.fn.walked (onward (entry_at told) l.fn.links [] l.fn.step)
       l.walked (onward (entry_at told) l.links [] l.step);
 }
 
