@@ -3,9 +3,10 @@
 
 TREES is `tree_examples` as it was built. There are sources that include headers of the C library or of the kernel, and the units
 that REAL/units.json lists, where tools/real_text.py made it. Their tree in memory has the headers of the directories that are
-searched. The units of each set are analysed with nothing remembered, TIMES times in all (500). The time of one is told beside the
-processor time of `gcc -M`, with how many files are sent for each that `gcc -M` lists, and how many units are refused. A second
-table tells which files are sent beside these for most units, and the group of which file names each.
+searched. The units of each set are analysed with nothing remembered, TIMES times in all (500), in each of five rounds, of which the
+least time counts. The time of one is told beside the processor time of `gcc -M`, with how many files are sent for each that `gcc -M`
+lists, and how many units are refused; then whether the time for 340 kB meets the goal. A second table tells which files are sent
+beside these for most units, and the group of which file names each.
 """
 import os
 import re
@@ -25,6 +26,10 @@ FOLDERS = re.compile(r"(asm|asm-generic|bits|gnu|linux|mtd|net|netinet|sys)(/|$)
 INCLUDED = re.compile(r".*\.(h|c|ch|def|inc)")
 # How many rows the second table has.
 ROWS = 20
+# How many rounds there are, of which the least time counts.
+ROUNDS = 5
+# The goal: so many milliseconds at most for a unit of so many bytes.
+GOAL, OF_BYTES = 1, 340_000
 DIRECTIVE = re.compile(rb"^[ \t]*#[ \t]*(if|ifdef|ifndef|elif|else|endif|include|include_next)\b(.*)")
 
 
@@ -139,25 +144,33 @@ def measured(trees, label, units, times):
     answers = [line for line in told.splitlines() if line.startswith("> ")]
     for unit, answer in zip(units, answers, strict=True):
         unit.sent = files_of(answer)
-    base, _ = timed([trees], text=nodes.case(["path /w"]))
-    rounds = -(-times // len(units))
-    asked, _ = timed([trees], text=nodes.case([question("length", unit) for unit in units] * rounds))
+    repeats = -(-times // len(units))
+    unasked, asking = nodes.case(["path /w"]), nodes.case([question("length", unit) for unit in units] * repeats)
+    rounds = [(timed([trees], text=unasked)[0], timed([trees], text=asking)[0]) for _ in range(ROUNDS)]
+    base, asked = map(min, zip(*rounds, strict=True))
     gcc = 0
     for unit in units:
-        took, listed = timed(["gcc", "-M", "-w", *unit.of_gcc], unit.folder)
+        took, listed = min(timed(["gcc", "-M", "-w", *unit.of_gcc], unit.folder) for _ in range(ROUNDS))
         gcc += took
         unit.listed = {os.path.realpath(os.path.join(unit.folder, name)) for name in listed.replace("\\\n", " ").split()[1:]}
     done = [unit for unit in units if isinstance(unit.sent, set)]
     sent, size = sum(len(unit.sent) for unit in done), sum(len(nodes.nodes[path][1]) for unit in done for path in unit.sent)
     listed = sum(len(unit.listed) for unit in done)
-    one, of_gcc = (asked - base) / rounds / len(units) * 1e3, gcc / len(units) * 1e3
+    one, of_gcc = (asked - base) / repeats / len(units) * 1e3, gcc / len(units) * 1e3
     refused = ", ".join(f"{count} {why}" for why, count in Counter(unit.sent for unit in units if unit not in done).items()) or "0"
     print(f"| {label} | {len(units)} | {sent / len(done):.0f} | {size / len(done):,.0f} | {sent / listed:.2f} | {refused} | {one:.2f} "
           f"| {one * 1e6 * len(done) / size:.1f} | {of_gcc:.1f} |", flush=True)
     for unit in done:
         for path in sorted(unit.listed - unit.sent):
             print(f"{unit.words[-1]}: {path} isn't sent, and gcc -M lists it", file=sys.stderr)
-    return nodes, done
+    return nodes, done, one * OF_BYTES * len(done) / size
+
+
+def print_goal(labels, of_goal):
+    """For how many sets a unit of the goal's size takes no longer than the goal."""
+    missed = [f"{label} ({one:.2f} ms)" for label, one in zip(labels, of_goal, strict=True) if one > GOAL]
+    print(f"\nFor {OF_BYTES:,} bytes at most {GOAL} ms: met by {len(of_goal) - len(missed)} sets, the slowest with {max(of_goal):.2f} ms"
+          + (f"; MISSED by {', '.join(missed)}." if missed else "."))
 
 
 def reason(nodes, unit, path):
@@ -186,7 +199,7 @@ def reason(nodes, unit, path):
 def print_beside(sets):
     """The files that are sent beside those that gcc lists, for how many units, and why."""
     beside, why = Counter(), {}
-    for nodes, units in sets:
+    for nodes, units, _ in sets:
         for unit in units:
             for path in unit.sent - unit.listed:
                 beside[path] += 1
@@ -217,7 +230,9 @@ def main(trees, real="", times="500"):
         print("The analysis, over a tree in memory with nothing remembered: the mean of a set's units.\n")
         print("| set | units | files sent | bytes | of those that `gcc -M` lists | refused | ms | ns/byte | `gcc -M`, ms |")
         print("|---|---:|---:|---:|---:|---:|---:|---:|---:|")
-        print_beside([measured(trees, label, units, int(times)) for label, units in sets])
+        measures = [measured(trees, label, units, int(times)) for label, units in sets]
+        print_goal([label for label, _ in sets], [of_goal for _, _, of_goal in measures])
+        print_beside(measures)
 
 
 if __name__ == "__main__":
