@@ -15,7 +15,7 @@ use Rattle.pp_tokens.specs.Lines.{Part, newline, white, comment, open_comment, t
 use Rattle.pp_tokens.specs.DirectiveLines.{may_ask, may_tell, asking_part, kept_line, kept_alone}
 use Rattle.pp_tokens.specs.parts.Seen.{token_of_place, seen_lines, last_end, Ascends, EachWithin}
 use Rattle.pp_tokens.specs.parts.Text.{after_word, is_due}
-use Rattle.pp_tokens.specs.parts.TextLines.{lines_behind, text_file, file_behind, begins_line, begins_name, asks_nothing, begins_text, is_cut, is_token_part, EndsText}
+use Rattle.pp_tokens.specs.parts.TextLines.{lines_behind, text_file, text_left, file_behind, begins_line, begins_name, asks_nothing, begins_text, is_cut, is_token_part, EndsText}
 use Rattle.pp_tokens.specs.parts.Gathered.{newlines, lines_left, present_tokens, file_with, IsGathered, GathersNothing, EndsLastLine, EndsTextLine, DropsLine, AddsGap, Gathers}
 use Rattle.pp_tokens.proofs.DueWords.{after_words, due_is}
 use Rattle.pp_tokens.proofs.LinedRests.{lined_past, cut_bytes}
@@ -432,13 +432,17 @@ text_replaced whole text old new k cells es others unended g o first other left 
     ∙ ap (λ (ts : List Token). kept_so whole text old ts (file_behind unended others)) (sym (o.none first))
     ∙ sym (line_behind whole text old new (present_tokens text old) unended others o.lines (present_kept whole text old o) (ends_so text old new unended g e))
 
+-- what is left of a line from a place on has its end there
+abbrev pub Leads : (text splices : List ℕ) (at base : ℕ) → LineEnd → Type 0
+Leads text splices at base end = text_left (lined splices at base (drop at text)) ≡ file_behind end.comment (elements zero [] (lined splices end.at end.base (drop end.at text)))
+
 -- a line of text from its first token on
 pub text_step : (whole : Bool) (text splices : List ℕ) (old new : Gathering) (at base n : ℕ) (k : Kind) (end : LineEnd) → LexState (kept_alone whole) text splices old at base
     → IsGathered text old → Outlined whole text old → at < length text → ◌≡◌ {A = Part × ℕ} (token k, n) (first_part (is_due old.before) (drop at text))
-    → begins_text old.before (token k) (take n (drop at text)) ≡ true → EndsText text splices (at + n) base end → EndsTextLine old new end.comment
+    → begins_text old.before (token k) (take n (drop at text)) ≡ true → Leads text splices (at + n) base end → EndsTextLine old new end.comment
     → LexState (kept_alone whole) text splices new end.at end.base
 unfolding after_words after_word words_after
-text_step whole text splices old new at base n k end state g o below is begins ended e =
+text_step whole text splices old new at base n k end state g o below is begins leads e =
     let xs = drop at text in
     let some : 0 < length xs = omega (arith, length-drop at text) in
     let moves : 0 < n = (first_within (is_due old.before) xs (token k) n some is).0 in
@@ -458,7 +462,7 @@ text_step whole text splices old new at base n k end state g o below is begins e
     let left : text_file es ≡ file_behind end.comment (elements zero [] (lined splices end.at end.base (drop end.at text))) =
     (λ i. text_file (elements zero (words i ++ (spelling i ∷ [])) (behind i)))
     ∙ same_left (lined splices (at + n) base (drop (at + n) text)) (take n xs ∷ []) (ap (λ t. cond t Hash Other) other)
-    ∙ ended.file in
+    ∙ leads in
     record {
       words = [];
       seen = sym e.before;

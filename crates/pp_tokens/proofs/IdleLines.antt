@@ -1,6 +1,6 @@
 -- A directive of which nothing is kept, from its `#` on.
-use Rattle.std.specs.Prelude.{◌≡◌, ℕ, zero, suc, ◌+◌, ◌-◌, ◌≤◌, ◌<◌, Bool, true, false, cond, not, ◌||◌, List, [], ◌∷◌, ◌++◌, map, length, take, drop, get_or, refl}
-use Rattle.std.proofs.Common.{sym, ◌∙◌, ap, arith, subst, length-drop, drop-drop}
+use Rattle.std.specs.Prelude.{◌≡◌, ℕ, zero, suc, ◌+◌, ◌-◌, ◌≤◌, ◌<◌, Bool, true, false, cond, not, ◌&&◌, ◌||◌, List, [], ◌∷◌, ◌++◌, map, length, take, drop, get_or, refl}
+use Rattle.std.proofs.Common.{sym, ◌∙◌, ap, arith, subst, inl, inr, length-drop, drop-drop}
 use Rattle.std.proofs.lemmas.List.{map-append}
 use Rattle.pp_tokens.specs.declared.token.Kind.{Kind}
 use Rattle.pp_tokens.specs.declared.token.Kind.TheVariants.{Punct}
@@ -11,18 +11,18 @@ use Rattle.pp_tokens.specs.declared.text_line.LineEnd.{LineEnd}
 use Rattle.pp_tokens.specs.Grammar.{is_white}
 use Rattle.pp_tokens.specs.Phases.{Cell, bytes}
 use Rattle.pp_tokens.specs.Lined.{lined}
-use Rattle.pp_tokens.specs.Lines.{Part, white, token, Element, header_due, words_after, spells_hash, line_of, unended_line, first_part, elements, or_else}
+use Rattle.pp_tokens.specs.Lines.{white, token, Element, header_due, words_after, spells_hash, line_of, unended_line, first_part, elements, or_else}
 use Rattle.pp_tokens.specs.DirectiveLines.{may_ask, may_tell, kept_line, kept_alone}
 use Rattle.pp_tokens.specs.parts.Seen.{seen_lines}
 use Rattle.pp_tokens.specs.parts.Text.{after_word, is_due}
-use Rattle.pp_tokens.specs.parts.TextLines.{lines_behind, text_file, text_left, file_behind, begins_line, IsIdleName, EndsText}
+use Rattle.pp_tokens.specs.parts.TextLines.{lines_behind, text_file, text_left, file_behind, begins_line, IsIdleName, IsIdleBehind, IsIdleDirective, IsIdleFrom, EndsText}
 use Rattle.pp_tokens.specs.parts.Gathered.{newlines, lines_left, present_tokens, file_with, IsGathered, EndsTextLine}
 use Rattle.pp_tokens.proofs.DueWords.{after_words, due_is, one_word_more}
 use Rattle.pp_tokens.proofs.LinedRests.{lined_past, cut_bytes}
 use Rattle.pp_tokens.proofs.OneLine.{short_newlines}
-use Rattle.pp_tokens.proofs.TextLeft.{same_left}
-use Rattle.pp_tokens.proofs.LexSteps.{LexState, AreWhite, first_is_part, part_first, white_is, later_white}
-use Rattle.pp_tokens.proofs.DirectiveSteps.{Outlined, joined, kept_so, ends_so, line_behind, no_words, present_kept, starts_undue, name_asks, is_other_only}
+use Rattle.pp_tokens.proofs.TextLeft.{same_left, token_left}
+use Rattle.pp_tokens.proofs.LexSteps.{LexState, AreWhite, first_within, first_is_part, part_first, white_is, later_white}
+use Rattle.pp_tokens.proofs.DirectiveSteps.{Outlined, joined, kept_so, ends_so, line_behind, no_words, present_kept, starts_undue, name_asks, is_other_only, text_step}
 
 -- WHAT IS LEFT OF ITS LINE
 
@@ -59,36 +59,37 @@ idle_other w idle = is_other_only (after_word Hash w) (name_asks w ∙ ap not (a
 
 -- UP TO THE NAME
 
--- on a line with its `#`, from a place on up to where its name ends: nothing is kept of the line, and what is left begins there
+-- on a line with its `#`, from a place on up to its name: nothing is kept of the line, and what is left begins there
 record Idles (hash : Token) (words : List (List ℕ)) (text splices : List ℕ) (at base name : ℕ) : Type 0 where
   drops : Drops (hash ∷ []) (elements zero words (lined splices at base (drop at text)))
   left : text_file (elements zero words (lined splices at base (drop at text))) ≡ text_left (lined splices name base (drop name text))
 
-idles_named : (hash : Token) (words : List (List ℕ)) (text splices : List ℕ) (at base name : ℕ) (k : Kind) → spells_hash hash.text ≡ true → after_words Nothing words ≡ Hash → at < name
-    → name ≤ length text → ◌≡◌ {A = Part × ℕ} (first_part false (drop at text)) (token k, name - at) → may_tell (take (name - at) (drop at text)) ≡ false
-    → Idles hash words text splices at base name
+idles_named : (hash : Token) (words : List (List ℕ)) (text splices : List ℕ) (at base : ℕ) → spells_hash hash.text ≡ true → after_words Nothing words ≡ Hash → IsIdleName text at
+    → Idles hash words text splices at base at
 unfolding words_after
-idles_named hash words text splices at base name k is named begins within found idle =
+idles_named hash words text splices at base is named (t, idle) =
     let xs = drop at text in
-    let n = name - at in
-    let some : 0 < length xs = omega (arith, length-drop at text, begins, within) in
+    let n = t.size in
+    let k = t.kind in
+    let some : 0 < length xs = omega (arith, length-drop at text, t.within) in
+    let moves : 0 < n = (first_within false xs (token k) n some (sym t.first)).0 in
     let all = lined splices at base xs in
     let cells = take n all in
     let spelling : bytes cells ≡ take n xs = cut_bytes n splices at base xs in
     let due : header_due words ≡ false = due_is words ∙ ap is_due named in
-    let first = part_first words false splices at base n (token k) xs some due found (omega (arith, begins)) in
-    let none : newlines (take n xs) ≡ 0 = short_newlines (token k) (take n xs) refl (first_is_part false xs (token k) n some (sym found)) in
+    let first = part_first words false splices at base n (token k) xs some due t.first moves in
+    let none : newlines (take n xs) ≡ 0 = short_newlines (token k) (take n xs) refl (first_is_part false xs (token k) n some (sym t.first)) in
     let line : base + newlines (take n xs) ≡ base = omega (arith, none) in
-    let place : at + n ≡ name = omega (arith, begins) in
-    let behind : drop n all ≡ lined splices name base (drop name text) =
-    lined_past n splices at base xs ∙ (λ i. lined splices (at + n) (line i) (drop-drop n at text i)) ∙ (λ i. lined splices (place i) base (drop (place i) text)) in
+    let behind : drop n all ≡ lined splices (at + n) base (drop (at + n) text) =
+    lined_past n splices at base xs ∙ (λ i. lined splices (at + n) (line i) (drop-drop n at text i)) in
     let others : after_words Nothing (words ++ (take n xs ∷ [])) ≡ Other = one_word_more Nothing words (take n xs) ∙ ap (λ b. after_word b (take n xs)) named ∙ idle_other (take n xs) idle in
     let rest = elements zero (words ++ (bytes cells ∷ [])) (drop n all) in
     record {
       drops = subst (Drops (hash ∷ [])) (sym first) (drops_named hash k cells rest is (ap may_tell spelling ∙ idle));
       left = ap text_file first ∙ behind_token k cells rest
           ∙ (λ i. text_file (elements zero (words ++ (spelling i ∷ [])) (behind i)))
-          ∙ same_left (lined splices name base (drop name text)) (words ++ (take n xs ∷ [])) others;
+          ∙ same_left (lined splices (at + n) base (drop (at + n) text)) (words ++ (take n xs ∷ [])) others
+          ∙ sym (token_left text splices at base k n t.within (sym t.first));
     }
 
 idles_white : (hash : Token) (words : List (List ℕ)) (text splices : List ℕ) (at base name n : ℕ) → AreWhite text at n → Idles hash words text splices (at + n) base name
@@ -116,14 +117,14 @@ idles_white hash words text splices at base name (suc n) blank behind =
       left = ap text_file so ∙ behind_white (take 1 all) rest ∙ later.left;
     }
 
-idles_from : (hash : Token) (words : List (List ℕ)) (text splices : List ℕ) (from base name : ℕ) → spells_hash hash.text ≡ true → after_words Nothing words ≡ Hash → IsIdleName text from name
+idles_from : (hash : Token) (words : List (List ℕ)) (text splices : List ℕ) (from base name : ℕ) → spells_hash hash.text ≡ true → after_words Nothing words ≡ Hash → IsIdleBehind text from name
     → Idles hash words text splices from base name
 idles_from hash words text splices from base name is named idle =
-    let n = idle.start - from in
-    let same : from + n ≡ idle.start = omega (arith, idle.later) in
-    let blank : AreWhite text from n = λ k low. (omega (arith, low, idle.later, idle.begins, idle.within), idle.white (from + k) (omega arith) (omega (arith, low, idle.later))) in
+    let n = name - from in
+    let same : from + n ≡ name = omega (arith, idle.later) in
+    let blank : AreWhite text from n = λ k low. (omega (arith, low, idle.later, idle.idle.0.within), idle.white (from + k) (omega arith) (omega (arith, low, idle.later))) in
     idles_white hash words text splices from base name n blank
-    (subst (λ m. Idles hash words text splices m base name) (sym same) (idles_named hash words text splices idle.start base name idle.kind is named idle.begins idle.within idle.first idle.idle))
+    (subst (λ m. Idles hash words text splices m base name) (sym same) (idles_named hash words text splices name base is named idle.idle))
 
 -- THE LINE
 
@@ -139,13 +140,14 @@ idle_begun text g cells es o first drops =
     ∙ (λ i. o.lines i ++ map (kept_line false) (lines_left true (o.none first i ++ (t ∷ [])) false es))
     ∙ ap (λ (ls : List (List Token)). seen_lines text g.places.items 0 g.ends.items ++ ls) (drops false))
 
-pub idle_step : (text splices : List ℕ) (old new : Gathering) (at base name : ℕ) (end : LineEnd) → LexState (kept_alone false) text splices old at base → IsGathered text old → Outlined false text old
-    → at < length text → begins_line old.before ≡ true → ◌≡◌ {A = Part × ℕ} (first_part false (drop at text)) (token Punct, 1) → spells_hash (take 1 (drop at text)) ≡ true
-    → IsIdleName text (at + 1) name → EndsText text splices name base end → EndsTextLine old new end.comment
+idle_step : (text splices : List ℕ) (old new : Gathering) (at base name : ℕ) (end : LineEnd) → LexState (kept_alone false) text splices old at base → IsGathered text old → Outlined false text old
+    → at < length text → begins_line old.before ≡ true → IsIdleDirective text at name → EndsText text splices name base end → EndsTextLine old new end.comment
     → LexState (kept_alone false) text splices new end.at end.base
 unfolding after_words after_word words_after
-idle_step text splices old new at base name end state g o below begins found hash idle ended e =
+idle_step text splices old new at base name end state g o below begins directive ended e =
     let xs = drop at text in
+    let found = directive.first in
+    let hash = directive.hash in
     let some : 0 < length xs = omega (arith, length-drop at text, below) in
     let words : state.words ≡ [] = no_words state.words (ap begins_line state.seen ∙ begins) in
     let due : header_due state.words ≡ false = due_is state.words ∙ ap is_due state.seen ∙ starts_undue old.before begins in
@@ -159,7 +161,7 @@ idle_step text splices old new at base name end state g o below begins found has
     let t : Token = record { kind = Punct; text = bytes cells; line = line_of cells; space = old.space } in
     let rest = elements zero (take 1 xs ∷ []) (lined splices (at + 1) base (drop (at + 1) text)) in
     let so = first ∙ (λ i. record { part = token Punct; cells = cells } ∷ elements zero (words i ++ (spelling i ∷ [])) (past i)) in
-    let idles = idles_from t (take 1 xs ∷ []) text splices (at + 1) base name (ap spells_hash spelling ∙ hash) (ap (λ b. cond b Hash Other) hash) idle in
+    let idles = idles_from t (take 1 xs ∷ []) text splices (at + 1) base name (ap spells_hash spelling ∙ hash) (ap (λ b. cond b Hash Other) hash) directive.name in
     let es = elements zero [] (lined splices end.at end.base (drop end.at text)) in
     record {
       words = [];
@@ -171,3 +173,27 @@ idle_step text splices old new at base name end state g o below begins found has
           ∙ ap (λ (ts : List Token). kept_so false text old ts (file_behind end.comment es)) (sym (o.none begins))
           ∙ sym (line_behind false text old new (present_tokens text old) end.comment es o.lines (present_kept false text old o) (ends_so text old new end.comment g e));
     }
+
+-- FROM ITS FIRST TOKEN ON
+
+-- where what is left of the line begins
+pub from_later : (whole : Bool) (text : List ℕ) (at from : ℕ) → at < length text → IsIdleFrom whole text at from → (at ≤ from) × (from ≤ length text)
+from_later whole text at from below (inl (same, is)) = (omega (arith, same), omega (arith, same, below))
+from_later whole text at from below (inr (part, is)) = (omega (arith, is.name.later), omega (arith, is.name.idle.0.within))
+
+pub idle_moves : (whole : Bool) (text splices : List ℕ) (at from base : ℕ) (end : LineEnd) → at < length text → IsIdleFrom whole text at from → EndsText text splices from base end → at < end.at
+idle_moves whole text splices at from base end below (inl (same, is)) ended = (let later = ended.moves (omega (arith, same, below)) in omega (arith, same, later))
+idle_moves whole text splices at from base end below (inr (part, is)) ended = omega (arith, is.name.later, ended.later)
+
+pub idle_line : (whole : Bool) (text splices : List ℕ) (old new : Gathering) (at base from : ℕ) (end : LineEnd) → LexState (kept_alone whole) text splices old at base
+    → IsGathered text old → Outlined whole text old → at < length text → begins_line old.before ≡ true → IsIdleFrom whole text at from → EndsText text splices from base end
+    → EndsTextLine old new end.comment → LexState (kept_alone whole) text splices new end.at end.base
+idle_line whole text splices old new at base from end state g o below begins (inl (same, (t, other))) ended e =
+    text_step whole text splices old new at base t.size t.kind end state g o below
+    (sym t.first ∙ ap (λ d. first_part d (drop at text)) (sym (starts_undue old.before begins)))
+    (λ i. begins i && not (other i))
+    (sym (token_left text splices at base t.kind t.size below (sym t.first)) ∙ ap (λ m. text_left (lined splices m base (drop m text))) (sym same) ∙ ended.file) e
+idle_line whole text splices old new at base from end state g o below begins (inr (part, directive)) ended e =
+    subst (λ (w : Bool). LexState (kept_alone w) text splices new end.at end.base) (sym part)
+    (idle_step text splices old new at base from end (subst (λ (w : Bool). LexState (kept_alone w) text splices old at base) part state) g
+    (subst (λ (w : Bool). Outlined w text old) part o) below begins directive ended e)

@@ -42,5 +42,6 @@ mod Runs
 mod OrdinaryParts
 mod TextLeft
 mod DirectiveSteps
+mod FirstTokens
 mod IdleLines
 mod WholeTokens

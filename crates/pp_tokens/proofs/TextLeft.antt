@@ -9,6 +9,7 @@ use Rattle.std.proofs.lemmas.Bool.{and_parts}
 use Rattle.pp_tokens.specs.declared.due.Before.TheVariants.{Nothing, Other}
 use Rattle.pp_tokens.specs.Phases.{Cell, bytes}
 use Rattle.pp_tokens.specs.Lined.{lined, spliced_up_to}
+use Rattle.pp_tokens.specs.declared.token.Kind.{Kind}
 use Rattle.pp_tokens.specs.Lines.{Part, newline, white, comment, open_comment, token, LexedFile, header_due, words_after, line_of, unended_line, first_part, elements, Stands}
 use Rattle.pp_tokens.specs.parts.Text.{after_word, is_due}
 use Rattle.pp_tokens.specs.parts.Gathered.{newlines, lines_left, is_long}
@@ -16,11 +17,11 @@ use Rattle.pp_tokens.specs.parts.TextLines.{is_ordinary, lines_behind, text_file
 use Rattle.pp_tokens.proofs.Reading.{Front, next_element, drop_one_more, first_stands, some_length}
 use Rattle.pp_tokens.proofs.DueWords.{after_words, due_is, one_word_more}
 use Rattle.pp_tokens.proofs.LinedRests.{lined_bytes, lined_past, cut_line}
-use Rattle.pp_tokens.proofs.OneLine.{all_pass, none_counted}
+use Rattle.pp_tokens.proofs.OneLine.{all_pass, none_counted, short_newlines}
 use Rattle.pp_tokens.proofs.Closing.{run_front}
 use Rattle.pp_tokens.proofs.SliceLemmas.{comment_at}
 use Rattle.pp_tokens.proofs.OrdinaryParts.{GoesOn, part_goes_on}
-use Rattle.pp_tokens.proofs.LexSteps.{first_within}
+use Rattle.pp_tokens.proofs.LexSteps.{first_within, part_at}
 
 -- THE WORDS ON THE LINE
 
@@ -199,6 +200,15 @@ part_left text splices at base p n below is =
     ∙ ap (λ l. left_behind p l (drop n all)) (cut_line n splices at base xs moves here)
     ∙ ap (left_behind p (base + spliced_up_to splices at))
     (lined_past n splices at base xs ∙ ap (lined splices (at + n) (base + newlines (take n xs))) (drop-drop n at text))
+
+-- what is left behind a token is what is left from its front on
+pub token_left : (text splices : List ℕ) (at base : ℕ) (k : Kind) (n : ℕ) → at < length text → ◌≡◌ {A = Part × ℕ} (token k, n) (first_part false (drop at text))
+    → text_left (lined splices at base (drop at text)) ≡ text_left (lined splices (at + n) base (drop (at + n) text))
+token_left text splices at base k n below is =
+    let spelling = take n (drop at text) in
+    let none : newlines spelling ≡ 0 = short_newlines (token k) spelling refl (part_at text at false (token k) n below is) in
+    let same : base + newlines spelling ≡ base = omega (arith, none) in
+    part_left text splices at base (token k) n below is ∙ ap (λ b. text_left (lined splices (at + n) b (drop (at + n) text))) same
 
 -- nothing stands behind a comment that never ends
 open_front : (xs : List ℕ) (n : ℕ) → Front false xs (open_comment, n) → n ≡ length xs

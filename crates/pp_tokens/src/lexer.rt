@@ -33,7 +33,7 @@ use crate::part::{What, next_part};
 use crate::place::Place;
 use crate::quoted::word_at;
 use crate::source::{SourceText, read_source};
-use crate::text_line::{begins_line, begins_text, idle_name, is_cut, is_lone_hash, line_end};
+use crate::text_line::{begins_line, begins_text, idle_from, is_cut, is_lone_hash, line_end};
 use crate::token::{Kind, TokenRef};
 use crate::unpaired::Unpaired;
 use std::alloc::{AllocError, Global};
@@ -483,19 +483,17 @@ fn gather_directives(
         } else {
             passed = splices_passed(splices, passed, at);
             if begins_line(gathering.before) {
-                if is_lone_hash(text, at) {
-                    if let Some(name) = idle_name(text, at + 1, whole) {
-                        let idle = line_end(text, splices, name, base, passed, &mut unpaired);
-                        gathering.end_text(idle.comment)?;
-                        base = idle.base;
-                        at = idle.at;
-                    } else {
-                        let line = (base + passed) as u32;
-                        let hash = (What::Token(Kind::Punct), 1);
-                        let (behind, next) = put_part(&mut gathering, text, at, base, line, hash)?;
-                        at = behind;
-                        base = next;
-                    }
+                if let Some(from) = idle_from(text, at, whole) {
+                    let idle = line_end(text, splices, from, base, passed, &mut unpaired);
+                    gathering.end_text(idle.comment)?;
+                    base = idle.base;
+                    at = idle.at;
+                } else if is_lone_hash(text, at) {
+                    let line = (base + passed) as u32;
+                    let hash = (What::Token(Kind::Punct), 1);
+                    let (behind, next) = put_part(&mut gathering, text, at, base, line, hash)?;
+                    at = behind;
+                    base = next;
                 } else {
                     let (what, size) = next_part(text, at, is_due(gathering.before), &mut unpaired);
                     let word = stretch(text, at, size);

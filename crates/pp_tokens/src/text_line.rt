@@ -1,18 +1,18 @@
 // Where a line ends of which no token more is kept: a line of text (ISO C 6.10 paragraph 2), or a directive that asks for no
 // file. So only what may end a line or hide a
 // newline is read as a part: literals and comments. All other bytes are stepped over one by one, wherever tokens begin.
-ghost use Rattle.std.specs.Prelude.{◌≡◌, ℕ, ◌+◌, ◌≤◌, ◌<◌, true, false, not, length, take, drop, get_or, take_while, IsTrue, IsFalse, IfSome};
+ghost use Rattle.std.specs.Prelude.{◌≡◌, ℕ, ◌+◌, ◌≤◌, ◌<◌, true, false, not, length, take, drop, get_or, take_while, IsTrue, IfSome};
 ghost use Rattle.base_types.specs.Limits.{body_limit};
 ghost use Rattle.pp_tokens.specs.DirectiveLines.{may_tell};
 ghost use Rattle.pp_tokens.specs.Grammar.{is_white};
 ghost use Rattle.pp_tokens.specs.Lined.{spliced_up_to, Rising};
 ghost use Rattle.pp_tokens.specs.Lines.{Part, token, first_part, spells_hash};
 ghost use Rattle.pp_tokens.specs.declared.token.Kind.TheVariants.{Punct};
-ghost use Rattle.pp_tokens.specs.parts.TextLines.{is_ordinary, is_token_part, begins_line, begins_name, asks_nothing, begins_text, is_cut, IsIdleName, EndsText};
+ghost use Rattle.pp_tokens.specs.parts.TextLines.{is_ordinary, is_token_part, begins_line, begins_name, asks_nothing, begins_text, is_cut, begins_idle, IsIdleName, IsIdleBehind, IsIdleFrom, EndsText};
 ghost use Rattle.pp_tokens.specs.parts.Text.{part_told};
 ghost use Rattle.pp_tokens.specs.parts.Unpaired.{KnowsUnpaired};
 
-use crate::class::{is_second, is_white};
+use crate::class::{is_identifier_start, is_second, is_white};
 use crate::due::{Before, spells, spells_hash};
 use crate::lexer::{newlines, splices_passed, stretch, white_end};
 use crate::marks::byte_at;
@@ -85,20 +85,55 @@ pub fn is_cut(whole: bool, before: Before, after: Before, word: &[u8]) -> bool
     !whole && begins_name(before) && asks_nothing(after) && is_idle(word)
 }
 
-/// Where the name of a directive ends of which nothing is kept, where it stands from a place on behind white space; None where another
-/// may stand there. `#`, white space and an identifier begin nearly all lines with directives.
+// Whether these two bytes tell of a name that begins with them that it is idle. They do of most: the others are `include`, `if`, `elif` and `line`.
 #[inline(always)]
-pub fn idle_name(text: &[u8], from: usize, whole: bool) -> Option<usize>
-    requires { from ≤ length text.now }
-    ensures { IfSome result (λ end. IsFalse whole × IsIdleName text.now from end) }
+fn begins_idle(first: u8, second: u8) -> bool
+    ensures { result ≡ begins_idle first second }
 {
-    if whole {
-        return None;
+    !(first == b'i' || (first == b'l' || (first == b'e' && second == b'l')))
+}
+
+// Whether such a name stands at a place. It isn't told where a quote behind one of those others may make it part of a literal.
+#[inline(always)]
+fn is_idle_name(text: &[u8], at: usize) -> bool
+    requires { at ≤ length text.now }
+    ensures { IsTrue result → IsIdleName text.now at }
+{
+    if at >= text.len() || !is_identifier_start(text[at]) {
+        return false;
     }
-    let start = white_space_end(text, from);
-    let size = plain_word(text, start);
-    if size > 0 && is_idle(stretch(text, start, size)) {
-        return Some(start + size);
+    if begins_idle(text[at], byte_at(text, at + 1)) {
+        return true;
+    }
+    let size = plain_word(text, at);
+    size > 0 && is_idle(stretch(text, at, size))
+}
+
+// Where such a name stands behind white space that may stand at a place; None where another may stand there.
+#[inline(always)]
+fn idle_name(text: &[u8], from: usize) -> Option<usize>
+    requires { from ≤ length text.now }
+    ensures { IfSome result (λ name. IsIdleBehind text.now from name) }
+{
+    let name = white_space_end(text, from);
+    if is_idle_name(text, name) {
+        return Some(name);
+    }
+    None
+}
+
+/// From where on nothing is kept of a line, where a look at its first token tells that: at an identifier text begins, and behind a lone
+/// `#` may be an idle name. So nearly all lines begin.
+#[inline(always)]
+pub fn idle_from(text: &[u8], at: usize, whole: bool) -> Option<usize>
+    requires { at < length text.now }
+    ensures { IfSome result (λ from. IsIdleFrom whole text.now at from) }
+{
+    if is_identifier_start(text[at]) {
+        return Some(at);
+    }
+    if !whole && is_lone_hash(text, at) {
+        return idle_name(text, at + 1);
     }
     None
 }
@@ -136,9 +171,40 @@ fn ordinary_at(text: &[u8], at: usize) -> usize
 }
 
 /// The end of a line, from a place on where no header name is due on it, with the physical line of that place and the splices
-/// that are known to stand before it.
-#[inline(never)]
+/// that are known to stand before it. Most lines end where they have no ordinary byte more.
+#[inline(always)]
 pub fn line_end(
+    text: &[u8],
+    splices: &[u32],
+    from: usize,
+    line: usize,
+    passed: usize,
+    unpaired: &mut Unpaired,
+) -> LineEnd
+    requires small { length text.now + length splices.now ≤ body_limit + 1 }
+    requires rising { Rising 0 splices.now }
+    requires within { from ≤ length text.now }
+    requires counted { line ≤ from + 1 }
+    requires passed { passed ≤ spliced_up_to splices.now from }
+    requires known { KnowsUnpaired unpaired.old text.now from }
+    ensures end { EndsText text.now splices.now from line result }
+    ensures known { KnowsUnpaired unpaired.new text.now result.at }
+{
+    let run = ordinary_at(text, from);
+    let at = from + run;
+    if at < text.len() && text[at] == b'\n' {
+        return LineEnd {
+            at: at + 1,
+            base: line + 1,
+            comment: None,
+        };
+    }
+    far_end(text, splices, at, line, passed, unpaired)
+}
+
+// The same where other parts may stand before it.
+#[inline(never)]
+fn far_end(
     text: &[u8],
     splices: &[u32],
     from: usize,

@@ -1,4 +1,4 @@
-use Rattle.std.proofs.Common.{◌≡◌, ◌≤◌, ◌<◌, ◌+◌, ◌-◌, ℕ, Bool, true, false, ◌&&◌, not, length, take, drop, ap, ◌∙◌, sym, arith, length-drop, subst, ◌==◌}
+use Rattle.std.proofs.Common.{◌≡◌, ◌≤◌, ◌<◌, ◌+◌, ◌-◌, ℕ, true, false, ◌&&◌, not, length, take, drop, ap, ◌∙◌, sym, arith, length-drop, subst, ◌==◌}
 use Rattle.std.proofs.lemmas.List.Sums.{count_by-le-length}
 use Rattle.std.proofs.lemmas.List.{length-take-le}
 use Rattle.pp_tokens.specs.Lined.{spliced_up_to}
@@ -13,9 +13,9 @@ use Rattle.pp_tokens.proofs.FirstPut.{PutOn, first_put, known_behind}
 use Rattle.pp_tokens.proofs.LaterPlaces.{known_later}
 use Rattle.pp_tokens.proofs.Splices.{up_to_all, up_to_later}
 use Rattle.pp_tokens.proofs.ShortParts.{short_stretch}
-use Rattle.pp_tokens.proofs.LexSteps.{LexState, first_within, first_is_part, nothing_gathered, lex_start, lex_step, lex_end, white_up_to, newline_at}
-use Rattle.pp_tokens.proofs.DirectiveSteps.{Outlined, nothing_outlined, gap_outlined, part_outlined, text_outlined, text_step, end_outlined, dropped_so, dropped_few, cut_named, cut_step, uncut_asking, uncut_start, starts_undue, hash_no_text, is_a_token, newline_no_text}
-use Rattle.pp_tokens.proofs.IdleLines.{idle_step}
+use Rattle.pp_tokens.proofs.LexSteps.{first_within, first_is_part, nothing_gathered, lex_start, lex_step, lex_end, white_up_to, newline_at}
+use Rattle.pp_tokens.proofs.DirectiveSteps.{nothing_outlined, gap_outlined, part_outlined, text_outlined, text_step, end_outlined, dropped_so, dropped_few, cut_named, cut_step, uncut_asking, uncut_start, starts_undue, hash_no_text, is_a_token, newline_no_text}
+use Rattle.pp_tokens.proofs.IdleLines.{from_later, idle_moves, idle_line}
 use Rattle.pp_tokens.proofs.lexer.gather_directives.Goals as goal
 use Rattle.pp_tokens.proofs.lexer.gather_directives.Goals.{After-next_part-what, In_ok-end}
 
@@ -102,7 +102,7 @@ loop-at-preserved-then-begins_text c =
       state = text_step c.args.whole text splices old new at c.loop-at.base n kind.0 end c.loop-at.invariant.state c.loop-at.invariant.gathered c.loop-at.invariant.outlined c.loop-at-test.true
           (subst (λ p. ◌≡◌ {A = Part × ℕ} (p, n) (first_part (is_due old.before) (drop at text))) kind.1 (first s))
           (subst (λ p. begins_text old.before p word ≡ true) kind.1 begins)
-          c.line_end-end.ensures.end c.in_ok-end_text-2.ensures;
+          c.line_end-end.ensures.end.file c.in_ok-end_text-2.ensures;
     }
 
 pub overflow_add-base-else-begins_text : goal.overflow_add-base-else-begins_text
@@ -310,8 +310,8 @@ pub overflow_cast-line : goal.overflow_cast-line
 overflow_cast-line c =
     omega (arith, c.loop-at.invariant.counted, c.loop-at-test.true, c.splices_passed-passed.ensures, up_to_all c.args.splices.now c.loop-at.at, c.requires.small)
 
-pub loop-at-preserved-in_default : goal.loop-at-preserved-in_default
-loop-at-preserved-in_default c =
+pub loop-at-preserved-then-is_lone_hash : goal.loop-at-preserved-then-is_lone_hash
+loop-at-preserved-then-is_lone_hash c =
     let text = c.args.text.now in
     let at = c.loop-at.at in
     let old = c.loop-at.gathering in
@@ -343,10 +343,10 @@ pub line_end-idle-requires-clause-passed : goal.line_end-idle-requires-clause-pa
 line_end-idle-requires-clause-passed c =
     let splices = c.args.splices.now in
     let at = c.loop-at.at in
-    let name = c.in-Some.name in
-    let idle = c.in-Some.ensures.1 in
-    let same : at + (name - at) ≡ name = omega (arith, idle.later, idle.begins) in
-    omega (arith, c.splices_passed-passed.ensures, up_to_later splices at (name - at), ap (spliced_up_to splices) same)
+    let from = c.in-Some.from in
+    let later = from_later c.args.whole c.args.text.now at from c.loop-at-test.true c.in-Some.ensures in
+    let same : at + (from - at) ≡ from = omega (arith, later.0) in
+    omega (arith, c.splices_passed-passed.ensures, up_to_later splices at (from - at), ap (spliced_up_to splices) same)
 
 pub loop-at-preserved-in-Some : goal.loop-at-preserved-in-Some
 loop-at-preserved-in-Some c =
@@ -354,30 +354,25 @@ loop-at-preserved-in-Some c =
     let splices = c.args.splices.now in
     let at = c.loop-at.at in
     let base = c.loop-at.base in
+    let from = c.in-Some.from in
     let old = c.loop-at.gathering in
     let new = c.end_text.new.self in
     let end = c.line_end-idle.result in
-    let part = c.in-Some.ensures.0 in
-    let idle = c.in-Some.ensures.1 in
+    let idle = c.in-Some.ensures in
+    let ends = c.line_end-idle.ensures.end in
     let ended = text_outlined c.args.whole text old new end.comment c.loop-at.invariant.gathered c.loop-at.invariant.outlined c.in_ok-end_text.ensures in
-    let later : at < end.at = omega (arith, idle.later, idle.begins, c.line_end-idle.ensures.end.later) in
+    let later = idle_moves c.args.whole text splices at from base end c.loop-at-test.true idle ends in
     let same : at + (end.at - at) ≡ end.at = omega (arith, later) in
     record {
-      within = c.line_end-idle.ensures.end.within;
-      counted = c.line_end-idle.ensures.end.counted;
+      within = ends.within;
+      counted = ends.counted;
       passes = omega (arith, c.splices_passed-passed.ensures, up_to_later splices at (end.at - at), ap (spliced_up_to splices) same);
       known = c.line_end-idle.ensures.known;
       few = omega (arith, ap length c.in_ok-end_text.ensures.places, c.loop-at.invariant.few, later);
       gathered = ended.0;
       outlined = ended.1;
-      state = subst (λ (whole : Bool). LexState (kept_alone whole) text splices new end.at end.base) (sym part)
-          (idle_step text splices old new at base c.in-Some.name end
-          (subst (λ (whole : Bool). LexState (kept_alone whole) text splices old at base) part c.loop-at.invariant.state)
-          c.loop-at.invariant.gathered
-          (subst (λ (whole : Bool). Outlined whole text old) part c.loop-at.invariant.outlined)
-          c.loop-at-test.true (sym c.begins_line.ensures ∙ c.if-begins_line.true)
-          (c.is_lone_hash.ensures.part c.if-is_lone_hash.true) (c.is_lone_hash.ensures.hash c.if-is_lone_hash.true)
-          idle c.line_end-idle.ensures.end c.in_ok-end_text.ensures);
+      state = idle_line c.args.whole text splices old new at base from end c.loop-at.invariant.state c.loop-at.invariant.gathered c.loop-at.invariant.outlined c.loop-at-test.true
+          (sym c.begins_line.ensures ∙ c.if-begins_line.true) idle ends c.in_ok-end_text.ensures;
     }
 
 pub returns-clause-file : goal.returns-clause-file

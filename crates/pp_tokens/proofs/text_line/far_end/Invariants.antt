@@ -2,7 +2,7 @@ use Rattle.std.proofs.Common.{◌≡◌, ◌≤◌, ◌-◌, ◌+◌, length, dr
 use Rattle.pp_tokens.specs.Lined.{lined}
 use Rattle.pp_tokens.specs.parts.TextLines.{text_left}
 use Rattle.pp_tokens.specs.parts.Unpaired.{KnowsUnpaired}
-use Rattle.pp_tokens.proofs.text_line.line_end.Given as goal
+use Rattle.pp_tokens.proofs.text_line.far_end.Given as goal
 
 abbrev pub invariant-loop-at : goal.invariant-loop-at
 invariant-loop-at l = record {
